@@ -50,9 +50,9 @@ impl<M: EvictionManager, K> Model for Cache<M, K> {
 
     ghost coded = { parts_code };
 
-    ghost view = { λ c. record { store = c.store; tracked = M.tracked c.manager; limits = M.limits c.manager; evicted = M.evicted c.manager; locks = c.lock.table } };
+    ghost view = { λ c. record { store = c.store.state; tracked = M.tracked c.manager; limits = M.limits c.manager; evicted = M.evicted c.manager; locks = c.lock.table } };
 
-    ghost invariant = { λ c. IsKept (M.limits c.manager) (M.tracked c.manager) c.store };
+    ghost invariant = { λ c. IsKept (M.limits c.manager) (M.tracked c.manager) c.store.state };
 }
 
 impl<M: EvictionManager, K> Cache<M, K> {

@@ -137,11 +137,11 @@ fn store_in<C: CachePut>(
     requires at { IsReadAt put.old.stage read }
     ensures step { (d : Done)
         × StoresPiece (C.says put.old.policy) put.old put.new read d
-        × (store.new ≡ store_put put.old d result store.old) }
+        × (store.new.state ≡ store_put put.old d result store.old.state) }
     ensures stands { IsStageAfter result put.new.stage }
     ensures again { RepeatsResult put.old.stage result }
-    ensures kind { IfErr result (MayFailOnceRead put.old.stage store.old read) }
-    ensures own { MayEndPut store.old put.old → MayEndPut store.new put.new }
+    ensures kind { IfErr result (MayFailOnceRead put.old.stage store.old.state read) }
+    ensures own { MayEndPut store.old.state put.old → MayEndPut store.new.state put.new }
 {
     let PieceReport {
         began: _,
@@ -160,7 +160,7 @@ fn store_in<C: CachePut>(
 
 // Drops a write, if there is one.
 fn drop_writer(store: &mut MemCache, writer: Option<MemMissHandler>)
-    ensures { store.new ≡ dropped_by (option_map (λ w. w.number) writer) store.old }
+    ensures { store.new.state ≡ dropped_by (option_map (λ w. w.number) writer) store.old.state }
 {
     if let Some(writer) = writer {
         writer.drop_write(store);

@@ -117,7 +117,7 @@ impl<M: EvictionManager, K> Cache<M, K> {
 
 // Whether a request's write, if it has one, is a write of the store and of the request's key.
 pub(crate) fn is_own_write(store: &MemCache, request: &HttpCache<MemCache>) -> bool
-    ensures { result ≡ is_own_write store.now request.now.key request.now.write }
+    ensures { result ≡ is_own_write store.now.state request.now.key request.now.write }
 {
     let Some(writer) = request.writer() else {
         return true;
@@ -130,7 +130,7 @@ pub(crate) fn is_own_write(store: &MemCache, request: &HttpCache<MemCache>) -> b
 
 // The number of the body that the end of a request's write replaces.
 fn replaced_by(store: &MemCache, request: &HttpCache<MemCache>) -> Option<CacheEntryId>
-    ensures { result ≡ replaced_in store.now request.now.key }
+    ensures { result ≡ replaced_in store.now.state request.now.key }
 {
     match request.key() {
         Some(key) => store.body_number(key),

@@ -1,11 +1,14 @@
 pub mod Drafts
 pub mod Finishes
+pub mod Noted
+pub mod Notes
+pub mod NotesCode
 pub mod Past
 pub mod PastLaws
 pub mod PastSays
 pub mod Purge
-pub mod Reading
 pub mod Readers
+pub mod Reading
 pub mod Refusals
 pub mod Shards
 pub mod Store

@@ -1,17 +1,19 @@
-//! A store in memory.
-ghost use Rattle.std.specs.Prelude.{◌≡◌, ◌<◌, ◌^◌, ℕ, Option, Some, None, IsOk, IsSome, IfOk, IfErr, OnOk, OnErr, option_map, option_copied, is_some, false, true};
+//! A store in memory, which knows its own past.
+ghost use Rattle.std.specs.Prelude.{◌≡◌, ◌<◌, ℕ, [], IfErr, IfOk, IsOk, IsSome, None, OnErr, OnOk, Option, Some, option_copied, option_map, true};
 ghost use Rattle.std.specs.FinMap as map;
-ghost use Rattle.pcache_base.specs.declared.error.ErrorType.TheVariants.{OutOfMemory, WriteRemoved};
+ghost use Rattle.pcache_base.specs.declared.error.ErrorType.TheVariants.{OutOfMemory};
 ghost use Rattle.pcache_base.specs.Key.{slot};
 ghost use Rattle.pcache_table.specs.Sharding.{part_of};
 ghost use Rattle.pcache_store.specs.Finishes.{body_number, created};
+ghost use Rattle.pcache_store.specs.Notes.{added, leave_noted, look_noted, target_id};
+ghost use Rattle.pcache_store.specs.Past.{Dropped, Finished, Joined, Wrote};
+ghost use Rattle.pcache_store.specs.Readers.{in_memory, reader_of};
 ghost use Rattle.pcache_store.specs.Refusals.{MayFailFinish};
-ghost use Rattle.pcache_store.specs.Readers.{in_memory};
 ghost use Rattle.pcache_store.specs.Shards.{of_shard};
-ghost use Rattle.pcache_store.specs.Store.{find, joined, left, wrote, dropped, finished, is_untouched, is_write_under, left_on, found_part};
-ghost use Rattle.pcache_store.specs.Tag.{named_by};
+ghost use Rattle.pcache_store.specs.Store.{Part, dropped, find, finished, is_untouched, is_write_under, left, wrote};
 ghost use Rattle.pcache_store.specs.Totals.{stored_bytes, slots};
 
+mod bare;
 mod body;
 mod draft;
 mod draft_table;
@@ -19,88 +21,128 @@ mod draft_text;
 mod drafts;
 mod hit;
 mod miss;
+pub mod past;
 mod slot_table;
 mod slots;
 mod untouched;
 
-use crate::storage::streaming_write::U64WriteId;
 use crate::storage::{MissFinishType, PurgeOutcome, PurgeTarget, PurgeType, Storage, StoreMeaning};
+use bare::BareStore;
 use bytes::Bytes;
 use draft::Draft;
-use drafts::Drafts;
 pub use hit::{CompleteHit, MemHitHandler, PartialHit};
 pub use miss::MemMissHandler;
-use pcache_base::error::{Error, ErrorType, Result};
+use past::{Given, Past, Step};
+use pcache_base::error::Result;
 use pcache_base::key::{CacheHashKey, CacheKey};
 use pcache_base::moment::Moment;
 use pcache_base::seed::Seed;
-use pcache_evict::eviction::{CacheEntryId, CacheEntryKey};
+use pcache_evict::eviction::CacheEntryId;
 use pcache_meta::meta::CacheMeta;
 use pcache_meta::meta::spelled::SpelledMeta;
-use slots::Slots;
 use std::alloc::Global;
 use std::marker::Model;
 
-/// A store that keeps bodies and writes in memory.
+/// A store that keeps bodies and writes in memory, and knows its own past: a contract sees it as the
+/// record `Known` of its slots and writes, by key and by number, and of all that was done to it. The
+/// past stands in proofs alone, and takes no memory.
 ///
-/// A contract sees the slot of each key, and each write that a handler or a reader names. Look-ups,
-/// writes and removals take a constant number of look-ups in hash tables, whatever the number of keys
-/// and writes, and time logarithmic in the number of writes in flight for the key alone. A complete
-/// body is shared by all its readers. Metas are kept as the bytes that spell them, and read back at
-/// look-ups.
+/// That the store is what its past made of an empty one is the type's invariant, so the
+/// [`laws`](crate::laws) of such stores hold of each store at all times ([`MemCache::headline`]).
+///
+/// Look-ups, writes and removals take a constant number of look-ups in hash tables, whatever the number
+/// of keys and writes, and time logarithmic in the number of writes in flight for the key alone. A
+/// complete body is shared by all its readers. Metas are kept as the bytes that spell them, and read
+/// back at look-ups.
 #[derive(Drop)]
 pub struct MemCache {
-    alloc: Global,
-    slots: Slots,
-    drafts: Drafts,
+    bare: BareStore,
+    past: Past,
 }
 
 impl Model for MemCache {
-    ghost use Rattle.pcache_store.specs.Store.{Store};
-    ghost use Rattle.pcache_store.specs.StoreCode.{store_code};
+    ghost use Rattle.pcache_store.specs.Notes.{Known};
+    ghost use Rattle.pcache_store.specs.NotesCode.{known_code};
+    ghost use Rattle.pcache_store.specs.Past.{IsWhatPastSays};
 
-    ghost Value = { Store };
+    ghost Value = { Known };
 
-    ghost coded = { store_code };
+    ghost coded = { known_code };
 
-    ghost view = { λ a. record { slots = a.slots; writes = a.drafts.writes; next = a.drafts.next } };
+    ghost view = { λ a. record { state = a.bare; past = a.past.notes } };
+
+    ghost invariant = { λ a. IsWhatPastSays a.bare a.past.notes };
 }
 
 impl MemCache {
+    ghost use Rattle.pcache_store.specs.PastLaws.{BodiesAreLast, BodiesGrow, Finds, Finishes, FoundIsOfItsWrite, NothingIsLost, PurgedIsGone, ReadsInOrder};
+
     /// An empty store. Its tables hash under the seed, on which no result depends.
     pub fn new(alloc: Global, seed: Seed) -> MemCache
-        ensures { result ≡ record { slots = map.empty; writes = map.empty; next = 0 } }
+        ensures state { result.state
+            ≡ record { slots = map.empty; writes = map.empty; next = 0 } }
+        ensures past { result.past ≡ [] }
     {
         MemCache {
-            alloc,
-            slots: Slots::new(alloc, seed),
-            drafts: Drafts::new(alloc, seed),
+            bare: BareStore::new(alloc, seed),
+            past: Past::new(),
         }
     }
 
     /// An empty store whose next write has this number, so that the last numbers can be tried.
     pub fn starting_at(alloc: Global, seed: Seed, next: u64) -> MemCache
-        ensures { result ≡ record { slots = map.empty; writes = map.empty; next = next } }
+        ensures state { result.state
+            ≡ record { slots = map.empty; writes = map.empty; next = next } }
+        ensures past { result.past ≡ [] }
     {
         MemCache {
-            alloc,
-            slots: Slots::new(alloc, seed),
-            drafts: Drafts::starting_at(alloc, seed, next),
+            bare: BareStore::starting_at(alloc, seed, next),
+            past: Past::new(),
         }
+    }
+
+    /// What holds of each store at all times, by its past alone. A removal is a purge of the key, or one
+    /// of the write's entry:
+    ///
+    /// - `finds`: a look-up finds a key exactly when a write of it, in flight or the one that was
+    ///   finished last, met no removal since it began.
+    /// - `finishes`: the finish of a write in flight succeeds exactly when the write met no removal
+    ///   since it began.
+    /// - `purged`: after a purge of a key nothing whose write began before it is found under that key,
+    ///   and no such write can be finished.
+    /// - `kept`: a body that was finished is there, and its key is found, until its key is purged, its
+    ///   entry is removed, or a later write of the key is finished.
+    /// - `bodies`: a complete body is that of the write of its key that was finished last, with its meta
+    ///   and each change of it since.
+    /// - `found`: what is found has the meta and the number of its write.
+    /// - `reads`: a reader of a write is given all bytes of that write and of no other, in order and each
+    ///   once, and the end only when it was given all and no more can come.
+    /// - `grows`: what was written of a write stays as it is, and more bytes come after it.
+    pub fn headline(&self)
+        ensures finds { Finds self.now.state self.now.past }
+        ensures finishes { Finishes self.now.state self.now.past }
+        ensures purged { PurgedIsGone self.now.state self.now.past }
+        ensures kept { NothingIsLost self.now.state self.now.past }
+        ensures bodies { BodiesAreLast self.now.state self.now.past }
+        ensures found { FoundIsOfItsWrite self.now.state self.now.past }
+        ensures reads { ReadsInOrder self.now.state self.now.past }
+        ensures grows { BodiesGrow self.now.state self.now.past }
+    {
+        let _ = &self.past;
     }
 
     /// The sum of the lengths of the complete bodies, in bytes.
     pub fn stored_bytes(&self) -> u128
-        ensures { result ≡ stored_bytes self.now }
+        ensures { result ≡ stored_bytes self.now.state }
     {
-        self.slots.stored_bytes()
+        self.bare.stored_bytes()
     }
 
     /// The number of complete bodies.
     pub fn slots(&self) -> usize
-        ensures { result ≡ slots self.now }
+        ensures { result ≡ slots self.now.state }
     {
-        self.slots.bodies()
+        self.bare.slots()
     }
 
     /// The number of keys of a shard that have a complete body, or a write in flight that met no
@@ -108,226 +150,126 @@ impl MemCache {
     /// byte first), modulo 16.
     pub fn shard_slots(&self, shard: usize) -> usize
         requires { shard < 16 }
-        ensures { result ≡ map.len (part_of 16 shard self.now.slots) }
+        ensures { result ≡ map.len (part_of 16 shard self.now.state.slots) }
     {
-        self.slots.shard_len(shard)
+        self.bare.shard_slots(shard)
     }
 
     /// The number of records of writes: those that a handler or a reader names.
     pub fn write_records(&self) -> usize
-        ensures { result ≡ map.len self.now.writes }
+        ensures { result ≡ map.len self.now.state.writes }
     {
-        self.drafts.len()
+        self.bare.write_records()
     }
 
     /// The number of records of the writes of a shard's keys. A record is kept in the shard of its
     /// key.
     pub fn shard_write_records(&self, shard: usize) -> usize
         requires { shard < 16 }
-        ensures { result ≡ map.len (of_shard shard self.now.writes) }
+        ensures { result ≡ map.len (of_shard shard self.now.state.writes) }
     {
-        self.drafts.shard_len(shard)
+        self.bare.shard_write_records(shard)
     }
 
     /// Whether the write with this number has a record, is of this key, and has a meta that names
     /// it.
     pub fn has_write(&self, key: &CacheKey, number: u64) -> bool
-        ensures { result ≡ is_write_under (slot key.now) number (map.get self.now.writes number) }
+        ensures { result
+            ≡ is_write_under (slot key.now) number (map.get self.now.state.writes number) }
     {
-        let slot = key.slot();
-        match self.drafts.get(slot, number) {
-            Some(draft) => {
-                draft.slot() == slot && draft.entry_id() == Some(CacheEntryId::new(number))
-            }
-            None => false,
-        }
+        self.bare.has_write(key, number)
     }
 
     /// The number of the write that stored the key's complete body, if there is one: the number of the body's entry.
     pub fn body_number(&self, key: &CacheKey) -> Option<CacheEntryId>
-        ensures { result ≡ body_number self.now (slot key.now) }
+        ensures { result ≡ body_number self.now.state (slot key.now) }
     {
-        self.slots.get(key.slot())?.entry_id()
+        self.bare.body_number(key)
     }
 
     /// The meta of what a look-up of the key finds, as it is kept: a copy of its bytes, which are not read. Fails only when
     /// memory runs out, and then something is there.
     pub fn spelled_meta(&self, alloc: Global, key: &CacheKey) -> Result<Option<SpelledMeta>>
         ensures found { IfOk result (λ m.
-            m ≡ option_map (λ p. p.0) (find self.now (slot key.now))) }
-        ensures something { OnErr result (IsSome (find self.now (slot key.now))) }
+            m ≡ option_map (λ p. p.0) (find self.now.state (slot key.now))) }
+        ensures something { OnErr result (IsSome (find self.now.state (slot key.now))) }
         ensures kind { IfErr result (λ e. e ≡ OutOfMemory) }
     {
-        let slot = key.slot();
-        let Some(there) = self.slots.get(slot) else {
-            return Ok(None);
-        };
-        if let Some(number) = there.least() {
-            return self.spelled_of(alloc, slot, number);
-        }
-        let Some(body) = there.body() else {
-            return Ok(None);
-        };
-        Ok(Some(body.spelled(alloc)?))
-    }
-
-    // The meta of a write, as it is kept.
-    fn spelled_of(&self, alloc: Global, slot: u128, number: u64) -> Result<Option<SpelledMeta>>
-        ensures found { IfOk result (λ m.
-            m ≡ option_map (λ p. p.0) (found_part number (map.get self.now.writes number))) }
-        ensures something { OnErr result (IsSome (map.get self.now.writes number)) }
-        ensures kind { IfErr result (λ e. e ≡ OutOfMemory) }
-    {
-        let Some(draft) = self.drafts.get(slot, number) else {
-            return Ok(None);
-        };
-        Ok(Some(draft.spelled(alloc)?))
+        self.bare.spelled_meta(alloc, key)
     }
 
     // The record of a write, which is in the shard of its key's slot.
     pub(crate) fn draft(&self, slot: u128, number: u64) -> Option<&Draft>
-        ensures { option_copied result ≡ map.get self.now.writes number }
+        ensures { option_copied result ≡ map.get self.now.state.writes number }
     {
-        self.drafts.get(slot, number)
-    }
-
-    ghost use Rattle.pcache_store.specs.Readers.{reader_of, slot_named};
-
-    // Gives one more reader of a write, from its beginning, with its meta. It names the slot of the write's record.
-    fn follow(
-        &mut self,
-        alloc: Global,
-        slot: u128,
-        number: u64,
-    ) -> Result<Option<(CacheMeta, MemHitHandler)>>
-        ensures found { IfOk result (λ r. option_map (λ p. (p.0, reader_of p.1)) r
-            ≡ found_part number (map.get self.old.writes number)) }
-        ensures slot { IfOk result (λ r. option_map (λ p. slot_named p.1) r
-            ≡ option_map (λ w. Some w.slot) (map.get self.old.writes number)) }
-        ensures ok { OnOk result (self.new ≡ joined self.old number) }
-        ensures something { OnErr result (IsSome (map.get self.old.writes number)) }
-        ensures kind { IfErr result (λ e. e ≡ OutOfMemory) }
-        ensures err { OnErr result (self.new ≡ self.old) }
-    {
-        match self.drafts.follow(alloc, slot, number) {
-            Ok(Some((meta, slot))) => {
-                let part = PartialHit::new(slot, number);
-                Ok(Some((meta, MemHitHandler::Partial(part))))
-            }
-            Ok(None) => Ok(None),
-            Err(refused) => Err(refused),
-        }
+        self.bare.draft(slot, number)
     }
 
     pub(crate) fn leave(&mut self, slot: u128, number: u64)
-        ensures { self.new
-            ≡ record self.old {
-              writes = left_on self.old.writes number
-                  (map.get self.old.writes number);
-            } }
+        ensures state { self.new.state ≡ left self.old.state (Part number 0) }
+        ensures past { self.new.past ≡ added (leave_noted (Part number 0)) self.old.past }
     {
-        self.drafts.leave(slot, number);
+        self.bare.leave(slot, number);
+        self.past = self.past.then(&Step::Left(number));
     }
 
     pub(crate) fn write(&mut self, slot: u128, number: u64, bytes: Bytes, eof: bool) -> Result<()>
-        ensures ok { OnOk result (self.new ≡ wrote self.old number bytes eof) }
+        ensures ok { OnOk result (self.new.state ≡ wrote self.old.state number bytes eof) }
+        ensures past { OnOk result (self.new.past
+            ≡ added (Some (Wrote number bytes eof)) self.old.past) }
         ensures kind { IfErr result (λ e. e ≡ OutOfMemory) }
         ensures err { OnErr result (self.new ≡ self.old) }
     {
-        let alloc = self.alloc;
-        self.drafts.write(alloc, slot, number, bytes, eof)
+        let past = self.past.then(&Step::Wrote {
+            number,
+            bytes: bytes.as_slice(),
+            eof,
+        });
+        self.bare.write(slot, number, bytes, eof)?;
+        self.past = past;
+        Ok(())
     }
 
     pub(crate) fn drop_write(&mut self, slot: u128, number: u64)
-        ensures { self.new ≡ dropped self.old number }
+        ensures state { self.new.state ≡ dropped self.old.state number }
+        ensures past { self.new.past ≡ added (Some (Dropped number)) self.old.past }
     {
-        let Some(draft) = self.drafts.get(slot, number) else {
-            return;
-        };
-        let slot = draft.slot();
-        self.slots.shut(slot, number);
-        self.drafts.land(slot, number);
+        self.bare.drop_write(slot, number);
+        self.past = self.past.then(&Step::Dropped(number));
     }
 
     pub(crate) fn finish(&mut self, slot: u128, number: u64) -> Result<MissFinishType>
-        ensures answer { IfOk result (λ f. f ≡ created self.old number) }
-        ensures ok { OnOk result (self.new ≡ finished self.old number) }
-        ensures untouched { OnOk result (is_untouched self.old number ≡ true) }
-        ensures kind { IfErr result (λ e. MayFailFinish self.old number e) }
-        ensures err { OnErr result (self.new ≡ dropped self.old number) }
+        ensures answer { IfOk result (λ f. f ≡ created self.old.state number) }
+        ensures ok { OnOk result (self.new.state ≡ finished self.old.state number) }
+        ensures past { OnOk result (self.new.past
+            ≡ added (Some (Finished number)) self.old.past) }
+        ensures untouched { OnOk result (is_untouched self.old.state number ≡ true) }
+        ensures kind { IfErr result (λ e. MayFailFinish self.old.state number e) }
+        ensures err { OnErr result (self.new.state ≡ dropped self.old.state number) }
+        ensures drop_past { OnErr result (self.new.past
+            ≡ added (Some (Dropped number)) self.old.past) }
     {
-        let Some(draft) = self.drafts.get(slot, number) else {
-            return Err(Error::new(ErrorType::WriteRemoved));
-        };
-        let slot = draft.slot();
-        if !self.slots.is_untouched(slot, number) {
-            self.drop_write(slot, number);
-            return Err(Error::new(ErrorType::WriteRemoved));
-        }
-        let alloc = self.alloc;
-        match self.drafts.end(alloc, slot, number) {
-            Ok(body) => {
-                let size = body.len();
-                self.slots.store(slot, number, body);
-                Ok(MissFinishType::Created(size))
+        match self.bare.finish(slot, number) {
+            Ok(stored) => {
+                self.past = self.past.then(&Step::Finished(number));
+                Ok(stored)
             }
             Err(refused) => {
-                self.slots.shut(slot, number);
+                self.past = self.past.then(&Step::Dropped(number));
                 Err(refused)
             }
         }
     }
 }
 
-impl MemCache {
-    ghost use Rattle.pcache_store.specs.Purge.{entry_outcome, entry_purged, slot_expired};
-
-    // Removes what an entry names: everything of its key, or the write with its number.
-    fn purge_entry(&mut self, entry: &CacheEntryKey) -> PurgeOutcome
-        ensures answer { result ≡ entry_outcome true self.old entry.now }
-        ensures purged { self.new ≡ entry_purged true self.old entry.now }
-    {
-        let slot = entry.key().slot();
-        let Some(id) = entry.entry_id() else {
-            return match self.slots.remove(slot) {
-                Some(_) => PurgeOutcome::Purged(None),
-                None => PurgeOutcome::NotFound,
-            };
-        };
-        if self.slots.remove_write(slot, id) {
-            PurgeOutcome::Purged(Some(id))
-        } else {
-            PurgeOutcome::NotFound
-        }
-    }
-
-    // The slot whose complete body an expiry is for, if the target names that body.
-    fn slot_to_expire(&self, target: PurgeTarget<'_>) -> Option<u128>
-        ensures { result ≡ slot_expired true self.now target.entry }
-    {
-        let entry = match target {
-            PurgeTarget::Active(key) => return Some(key.slot()),
-            PurgeTarget::Exact(entry) => entry,
-        };
-        let slot = entry.key().slot();
-        let Some(id) = entry.entry_id() else {
-            return Some(slot);
-        };
-        // A body that another write stored stays fresh.
-        if self.slots.has_body_of(slot, id) {
-            Some(slot)
-        } else {
-            None
-        }
-    }
-}
-
 impl StoreMeaning for MemCache {
-    ghost state = { λ s. s };
+    ghost state = { λ s. s.state };
+
+    ghost past = { λ s. Some s.past };
 
     ghost streams = { λ _. true };
 
-    ghost finishes = { created };
+    ghost finishes = { λ s. created s.state };
 
     ghost guarantees = { in_memory };
 
@@ -335,16 +277,24 @@ impl StoreMeaning for MemCache {
     ghost ends_hit = { λ _ reader result. IsOk result };
 }
 
-// The number of the write that a tag names: its eight bytes, the high byte first. A tag of another length names no write.
-fn number_named_by(tag: Option<&[u8]>) -> Option<u64>
-    ensures { result ≡ named_by (option_copied tag.entry) }
+// The number of the write that a look-up gave a reader of, if it gave one.
+fn joined(found: &Option<(CacheMeta, MemHitHandler)>) -> Option<u64>
+    ensures { option_map Joined result
+        ≡ look_noted (option_map (λ p. (p.0, reader_of p.1)) found.now) }
 {
-    let Some(tag) = tag else {
+    let Some((_meta, hit)) = found else {
         return None;
     };
-    match U64WriteId::try_from(tag) {
-        Ok(id) => Some(u64::from(id)),
-        Err(_) => None,
+    hit.write_followed()
+}
+
+// The number of the entry that a target names, if it names one.
+fn id_named(target: PurgeTarget<'_>) -> Option<CacheEntryId>
+    ensures { result ≡ target_id target.entry }
+{
+    match target {
+        PurgeTarget::Active(_key) => None,
+        PurgeTarget::Exact(entry) => entry.entry_id(),
     }
 }
 
@@ -358,19 +308,9 @@ impl Storage for MemCache {
         alloc: Global,
         key: &CacheKey,
     ) -> Result<Option<(CacheMeta, MemHitHandler)>> {
-        let slot = key.slot();
-        let Some(held) = self.slots.get(slot) else {
-            return Ok(None);
-        };
-        if let Some(number) = held.least() {
-            return self.follow(alloc, slot, number);
-        }
-        let Some(body) = held.body() else {
-            return Ok(None);
-        };
-        let (meta, bytes) = body.shared(alloc)?;
-        let hit = CompleteHit::new(meta.entry_id(), bytes);
-        Ok(Some((meta, MemHitHandler::Complete(hit))))
+        let found = self.bare.lookup(alloc, key)?;
+        self.past = self.past.then(&Step::Joined(joined(&found)));
+        Ok(found)
     }
 
     fn lookup_streaming_write(
@@ -379,18 +319,11 @@ impl Storage for MemCache {
         key: &CacheKey,
         streaming_write_tag: Option<&[u8]>,
     ) -> Result<Option<(CacheMeta, MemHitHandler)>> {
-        let Some(number) = number_named_by(streaming_write_tag) else {
-            return Ok(None);
-        };
-        let slot = key.slot();
-        let Some(draft) = self.drafts.get(slot, number) else {
-            return Ok(None);
-        };
-        // A write whose key was removed is joined too: the tag names this write, and not what the key has.
-        if !draft.is_flying() || draft.slot() != slot {
-            return Ok(None);
-        }
-        self.follow(alloc, slot, number)
+        let found = self
+            .bare
+            .lookup_streaming_write(alloc, key, streaming_write_tag)?;
+        self.past = self.past.then(&Step::Joined(joined(&found)));
+        Ok(found)
     }
 
     fn get_miss_handler(
@@ -399,29 +332,22 @@ impl Storage for MemCache {
         key: &CacheKey,
         meta: &CacheMeta,
     ) -> Result<MemMissHandler> {
-        let Some(number) = self.drafts.next() else {
-            return Err(Error::new(ErrorType::NumbersExhausted));
-        };
-        let slot = key.slot();
-        let meta = SpelledMeta::with_entry_id(alloc, meta, Some(CacheEntryId::new(number)))?;
-        let draft = Draft::new(alloc, slot, meta);
-        self.drafts.begin(draft)?;
-        if let Err(refused) = self.slots.open(alloc, slot, number) {
-            self.drafts.take_back(slot, number);
-            return Err(refused);
-        }
-        Ok(MemMissHandler::new(slot, number))
+        let handler = self.bare.get_miss_handler(alloc, key, meta)?;
+        self.past = self.past.then_given(&Given::Began {
+            slot: key.slot(),
+            number: handler.number(),
+            meta,
+        });
+        Ok(handler)
     }
 
     /// Takes no memory, so it never fails.
     fn purge(&mut self, target: PurgeTarget<'_>, _purge_type: PurgeType) -> Result<PurgeOutcome> {
-        let outcome = match target {
-            PurgeTarget::Active(key) => match self.slots.remove(key.slot()) {
-                Some(id) => PurgeOutcome::Purged(id),
-                None => PurgeOutcome::NotFound,
-            },
-            PurgeTarget::Exact(entry) => self.purge_entry(entry),
-        };
+        let outcome = self.bare.purge(target);
+        self.past = self.past.then(&Step::Removed {
+            slot: target.key().slot(),
+            id: id_named(target),
+        });
         Ok(outcome)
     }
 
@@ -431,23 +357,19 @@ impl Storage for MemCache {
         target: PurgeTarget<'_>,
         now: Moment,
     ) -> Result<PurgeOutcome> {
-        let Some(slot) = self.slot_to_expire(target) else {
-            return Ok(PurgeOutcome::NotFound);
-        };
-        if self.slots.expire(alloc, slot, now)? {
-            Ok(PurgeOutcome::Expired)
-        } else {
-            Ok(PurgeOutcome::NotFound)
-        }
+        let slot = self.bare.slot_to_expire(target);
+        let outcome = self.bare.expire(alloc, slot, now)?;
+        self.past = self.past.then(&Step::Expired { slot, now });
+        Ok(outcome)
     }
 
     fn update_meta(&mut self, alloc: Global, key: &CacheKey, meta: &CacheMeta) -> Result<bool> {
-        let slot = key.slot();
-        let Some(body) = self.slots.body(slot) else {
-            return Ok(false);
-        };
-        let meta = SpelledMeta::with_entry_id(alloc, meta, body.entry_id())?;
-        Ok(self.slots.set_meta(slot, meta))
+        let there = self.bare.update_meta(alloc, key, meta)?;
+        self.past = self.past.then_given(&Given::Set {
+            slot: key.slot(),
+            meta,
+        });
+        Ok(there)
     }
 
     fn support_streaming_partial_write(&self) -> bool {

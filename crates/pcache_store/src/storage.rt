@@ -1,14 +1,17 @@
 //! The traits of a store of bodies, and the types of its calls.
 //!
 //! Each call of a handler borrows the store. The effect of a call is stated over the meaning of the
-//! store (`Store`: its slots by key and its writes by number), whatever its representation.
-ghost use Rattle.std.specs.Prelude.{◌≡◌, ◌<◌, ◌^◌, ℕ, Bool, false, true, Option, Some, None, Result, IfOk, OnOk, OnErr, IfErr, IsOk, IsTrue, IsSome, ◌↔◌, option_map, is_some, option_copied};
+//! store (`Store`: its slots by key and its writes by number), whatever its representation; and, of
+//! a store that keeps one, over the list of all that was done to it (`past`).
+ghost use Rattle.std.specs.Prelude.{◌≡◌, ◌<◌, ◌^◌, ℕ, Bool, false, true, Option, Some, None, List, Result, IfOk, OnOk, OnErr, IfErr, IsOk, IsTrue, IsSome, ◌↔◌, option_map, is_some, option_copied};
 ghost use Rattle.std.specs.FinMap as map;
 ghost use Rattle.pcache_base.specs.Key.{slot};
 ghost use Rattle.pcache_meta.specs.Meta.{Meta};
 ghost use Rattle.pcache_base.specs.declared.error.ErrorType.{ErrorType};
 ghost use Rattle.pcache_base.specs.declared.error.ErrorType.TheVariants.{OutOfMemory, InternalError};
 ghost use Rattle.pcache_evict.specs.EntryRef.{referred};
+ghost use Rattle.pcache_store.specs.Notes.{expiry_noted, leave_noted, look_noted, noted, purge_noted};
+ghost use Rattle.pcache_store.specs.Past.{Began, Dropped, Finished, MetaSet, Note, Wrote};
 ghost use Rattle.pcache_store.specs.declared.storage.MissFinishType.{MissFinishType};
 ghost use Rattle.pcache_store.specs.declared.storage.PurgeOutcome.TheVariants.{Expired};
 ghost use Rattle.pcache_store.specs.Purge.{target_key, removed_entry, IsNumberOf, entry_given, entry_read, target_purged, target_outcome, slot_expired, expired_at, expire_outcome};
@@ -113,6 +116,9 @@ pub trait StoreMeaning {
     /// Its slots and writes.
     ghost state: { Self → Store };
 
+    /// What was done to it, the newest first; of a storage that keeps no past always `None`.
+    ghost past: { Self → Option (List Note) };
+
     /// Whether a write can be read while it is made.
     ghost streams: { Self → Bool };
 
@@ -128,7 +134,8 @@ pub trait StoreMeaning {
 
 /// A store of complete bodies, and of writes that fill it.
 ///
-/// A failed call changes nothing.
+/// A failed call changes nothing. Each call that succeeds adds what it did to the past, of a storage
+/// that keeps one: at most one note, and none if it only looked.
 pub trait Storage: StoreMeaning + Sized {
     /// The reader of a body or of a write.
     type Hit: HandleHit<Self>;
@@ -144,9 +151,13 @@ pub trait Storage: StoreMeaning + Sized {
             ≡ find (Self.state self.old) (slot key.now)) }
         ensures ok { OnOk result (Self.state self.new
             ≡ followed (Self.state self.old) (find (Self.state self.old) (slot key.now))) }
+        ensures past { OnOk result (Self.past self.new
+            ≡ noted (look_noted (find (Self.state self.old) (slot key.now)))
+            (Self.past self.old)) }
         ensures something { OnErr result (IsSome (find (Self.state self.old) (slot key.now))) }
         ensures kind { IfErr result (λ e. e ≡ OutOfMemory) }
-        ensures err { OnErr result (Self.state self.new ≡ Self.state self.old) };
+        ensures err { OnErr result (Self.state self.new ≡ Self.state self.old) }
+        ensures same_past { OnErr result (Self.past self.new ≡ Self.past self.old) };
 
     /// A reader of the write that a tag names, if it is in flight and of the key, and its meta.
     /// Fails only when memory runs out, and only if there is such a write.
@@ -162,10 +173,14 @@ pub trait Storage: StoreMeaning + Sized {
         ensures ok { OnOk result (Self.state self.new
             ≡ followed (Self.state self.old) (find_write (Self.state self.old) (slot key.now)
             (named_by (option_copied streaming_write_tag.entry)))) }
+        ensures past { OnOk result (Self.past self.new
+            ≡ noted (look_noted (find_write (Self.state self.old) (slot key.now)
+            (named_by (option_copied streaming_write_tag.entry)))) (Self.past self.old)) }
         ensures something { OnErr result (IsSome (find_write (Self.state self.old) (slot key.now)
             (named_by (option_copied streaming_write_tag.entry)))) }
         ensures kind { IfErr result (λ e. e ≡ OutOfMemory) }
-        ensures err { OnErr result (Self.state self.new ≡ Self.state self.old) };
+        ensures err { OnErr result (Self.state self.new ≡ Self.state self.old) }
+        ensures same_past { OnErr result (Self.past self.new ≡ Self.past self.old) };
 
     /// Begins a write of a key. The meta is kept with the write's number, whatever number it had. Fails when
     /// memory runs out, and exactly if all 64-bit numbers of writes are used.
@@ -180,9 +195,13 @@ pub trait Storage: StoreMeaning + Sized {
             ≡ entry_given Self.guarantees.numbers (Self.state self.old).next) }
         ensures ok { OnOk result (Self.state self.new
             ≡ begun (Self.state self.old) (slot key.now) meta.now) }
+        ensures past { OnOk result (Self.past self.new
+            ≡ noted (Some (Began (slot key.now) (Self.state self.old).next meta.now))
+            (Self.past self.old)) }
         ensures numbers { OnOk result ((Self.state self.old).next < 2 ^ 64) }
         ensures kind { IfErr result (λ e. MayFailWrite (Self.state self.old) e) }
-        ensures err { OnErr result (Self.state self.new ≡ Self.state self.old) };
+        ensures err { OnErr result (Self.state self.new ≡ Self.state self.old) }
+        ensures same_past { OnErr result (Self.past self.new ≡ Self.past self.old) };
 
     /// Removes what a target names: the complete body and every write in flight of its key; for an entry with a number
     /// only the write with this number, in flight or complete, whatever the user tag of the entry's key. Returns the
@@ -193,9 +212,12 @@ pub trait Storage: StoreMeaning + Sized {
             o ≡ target_outcome Self.guarantees.numbers (Self.state self.old) target.entry) }
         ensures ok { OnOk result (Self.state self.new
             ≡ target_purged Self.guarantees.numbers (Self.state self.old) target.entry) }
+        ensures past { OnOk result (Self.past self.new
+            ≡ noted (purge_noted Self.guarantees.numbers target.entry) (Self.past self.old)) }
         ensures sure { IsTrue Self.guarantees.purges → IsOk result }
         ensures kind { IfErr result (λ e. e ≡ OutOfMemory) }
-        ensures err { OnErr result (Self.state self.new ≡ Self.state self.old) };
+        ensures err { OnErr result (Self.state self.new ≡ Self.state self.old) }
+        ensures same_past { OnErr result (Self.past self.new ≡ Self.past self.old) };
 
     /// Ends the freshness of the complete body that a target names, if it ends later than now. An entry with a number
     /// names the body of the write with this number. Fails only when memory runs out, and only if there is one.
@@ -211,11 +233,16 @@ pub trait Storage: StoreMeaning + Sized {
         ensures ok { OnOk result (Self.state self.new
             ≡ expired_at now (Self.state self.old)
             (slot_expired Self.guarantees.numbers (Self.state self.old) target.entry)) }
+        ensures past { OnOk result (Self.past self.new
+            ≡ noted (expiry_noted now
+            (slot_expired Self.guarantees.numbers (Self.state self.old) target.entry))
+            (Self.past self.old)) }
         ensures something { OnErr result (expire_outcome (Self.state self.old)
             (slot_expired Self.guarantees.numbers (Self.state self.old) target.entry)
             ≡ Expired) }
         ensures kind { IfErr result (λ e. e ≡ OutOfMemory) }
-        ensures err { OnErr result (Self.state self.new ≡ Self.state self.old) };
+        ensures err { OnErr result (Self.state self.new ≡ Self.state self.old) }
+        ensures same_past { OnErr result (Self.past self.new ≡ Self.past self.old) };
 
     /// Sets the meta of a key's complete body, and returns whether there is one. The body keeps the number of the write that
     /// stored it, whatever number the new meta has. Fails only when memory runs out, and only if there is one.
@@ -224,11 +251,14 @@ pub trait Storage: StoreMeaning + Sized {
             b ≡ is_some (complete_body (map.get (Self.state self.old).slots (slot key.now)))) }
         ensures ok { OnOk result (Self.state self.new
             ≡ meta_set meta.now (Self.state self.old) (slot key.now)) }
+        ensures past { OnOk result (Self.past self.new
+            ≡ noted (Some (MetaSet (slot key.now) meta.now)) (Self.past self.old)) }
         ensures something { OnErr result (is_some
             (complete_body (map.get (Self.state self.old).slots (slot key.now)))
             ≡ true) }
         ensures kind { IfErr result (λ e. e ≡ OutOfMemory) }
-        ensures err { OnErr result (Self.state self.new ≡ Self.state self.old) };
+        ensures err { OnErr result (Self.state self.new ≡ Self.state self.old) }
+        ensures same_past { OnErr result (Self.past self.new ≡ Self.past self.old) };
 
     /// Whether a write can be read while it is made.
     fn support_streaming_partial_write(&self) -> bool
@@ -251,7 +281,8 @@ pub trait HandleHit<S: StoreMeaning> {
             ≡ true) }
         ensures kind { IfErr result (λ e. e ≡ OutOfMemory) }
         ensures err { OnErr result (reader self.new ≡ reader self.old) }
-        ensures same { S.state store.new ≡ S.state store.old };
+        ensures same { S.state store.new ≡ S.state store.old }
+        ensures same_past { S.past store.new ≡ S.past store.old };
 
     /// Whether it has given all that it was to give: of a complete body its range; of a write each byte, and the write's end
     /// was announced, or it was finished. After the end that `read_body` gives, `false` says that the body was cut off.
@@ -266,12 +297,14 @@ pub trait HandleHit<S: StoreMeaning> {
     /// Ends the reader, even if this fails, which it does only when memory runs out.
     fn finish(self, store: &mut S) -> Result<()>
         ensures gone { S.state store.new ≡ left (S.state store.old) (reader self) }
+        ensures past { S.past store.new ≡ noted (leave_noted (reader self)) (S.past store.old) }
         ensures kind { IfErr result (λ e. e ≡ OutOfMemory) }
         ensures answer { S.ends_hit store.old (reader self) result };
 
     /// Lets the reader go.
     fn let_go(self, store: &mut S)
-        ensures { S.state store.new ≡ left (S.state store.old) (reader self) };
+        ensures gone { S.state store.new ≡ left (S.state store.old) (reader self) }
+        ensures past { S.past store.new ≡ noted (leave_noted (reader self)) (S.past store.old) };
 
     /// Whether the reader can be moved to another range of the body.
     fn can_seek(&self) -> bool
@@ -330,8 +363,11 @@ pub trait HandleMiss<S: StoreMeaning> {
         requires { is_told (map.get (S.state store.old).writes (write self.old)) ≡ false }
         ensures ok { OnOk result (S.state store.new
             ≡ wrote (S.state store.old) (write self.old) bytes eof) }
+        ensures past { OnOk result (S.past store.new
+            ≡ noted (Some (Wrote (write self.old) bytes eof)) (S.past store.old)) }
         ensures kind { IfErr result (λ e. e ≡ OutOfMemory) }
         ensures err { OnErr result (S.state store.new ≡ S.state store.old) }
+        ensures same_past { OnErr result (S.past store.new ≡ S.past store.old) }
         ensures same { write self.new ≡ write self.old }
         ensures entry { entry_number self.new ≡ entry_number self.old };
 
@@ -346,11 +382,17 @@ pub trait HandleMiss<S: StoreMeaning> {
         ensures ok { OnOk result (S.state store.new ≡ finished (S.state store.old) (write self)) }
         ensures untouched { OnOk result (is_untouched (S.state store.old) (write self) ≡ true) }
         ensures kind { IfErr result (λ e. MayFailFinish (S.state store.old) (write self) e) }
-        ensures err { OnErr result (S.state store.new ≡ dropped (S.state store.old) (write self)) };
+        ensures err { OnErr result (S.state store.new ≡ dropped (S.state store.old) (write self)) }
+        ensures past { OnOk result (S.past store.new
+            ≡ noted (Some (Finished (write self))) (S.past store.old)) }
+        ensures drop_past { OnErr result (S.past store.new
+            ≡ noted (Some (Dropped (write self))) (S.past store.old)) };
 
     /// Ends the write, and stores nothing.
     fn drop_write(self, store: &mut S)
-        ensures { S.state store.new ≡ dropped (S.state store.old) (write self) };
+        ensures gone { S.state store.new ≡ dropped (S.state store.old) (write self) }
+        ensures past { S.past store.new
+            ≡ noted (Some (Dropped (write self))) (S.past store.old) };
 
     /// The tag that names the write, for readers of a write in flight.
     fn streaming_write_tag(&self) -> Option<&[u8]>

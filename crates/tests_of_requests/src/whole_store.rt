@@ -64,11 +64,14 @@ impl WholeStore {
 }
 
 impl StoreMeaning for WholeStore {
-    ghost state = { λ s. s.bodies };
+    ghost state = { λ s. s.bodies.state };
+
+    // It promises no past.
+    ghost past = { λ _. None };
 
     ghost streams = { λ _. false };
 
-    ghost finishes = { λ s write. created s.bodies write };
+    ghost finishes = { λ s write. created s.bodies.state write };
 
     ghost guarantees = { record { purges = true; numbers = false } };
 

@@ -302,6 +302,9 @@ impl PlainStore {
 impl StoreMeaning for PlainStore {
     ghost state = { λ s. s };
 
+    // It keeps no past.
+    ghost past = { λ _. None };
+
     ghost streams = { λ _. false };
 
     ghost finishes = { created };

@@ -148,11 +148,25 @@ pub enum MemHitHandler {
 }
 
 impl MemHitHandler {
+    ghost use Rattle.std.specs.Prelude.{option_map};
+    ghost use Rattle.pcache_store.specs.Notes.{added, joined_by, leave_noted};
+    ghost use Rattle.pcache_store.specs.Past.{Joined};
     ghost use Rattle.pcache_store.specs.Readers.{reader_of};
     ghost use Rattle.pcache_store.specs.Store.{left};
 
+    // The number of the write that it reads, if it reads one.
+    pub(crate) fn write_followed(&self) -> Option<u64>
+        ensures { option_map Joined result ≡ joined_by (reader_of self.now) }
+    {
+        match self {
+            MemHitHandler::Complete(_hit) => None,
+            MemHitHandler::Partial(part) => Some(part.write),
+        }
+    }
+
     fn leave(self, store: &mut MemCache)
-        ensures { store.new ≡ left store.old (reader_of self) }
+        ensures state { store.new.state ≡ left store.old.state (reader_of self) }
+        ensures past { store.new.past ≡ added (leave_noted (reader_of self)) store.old.past }
     {
         match self {
             MemHitHandler::Complete(hit) => hit.end(),
@@ -234,6 +248,7 @@ impl MemHitHandler {
 }
 
 impl HandleHit<MemCache> for MemHitHandler {
+    ghost use Rattle.pcache_store.specs.Notes.{added, leave_noted};
     ghost use Rattle.pcache_store.specs.Readers.{reader_of};
     ghost use Rattle.pcache_store.specs.Store.{left};
 
@@ -285,7 +300,8 @@ impl HandleHit<MemCache> for MemHitHandler {
 
     /// Never fails.
     fn finish(self, store: &mut MemCache) -> Result<()>
-        ensures gone { store.new ≡ left store.old (reader_of self) }
+        ensures gone { store.new.state ≡ left store.old.state (reader_of self) }
+        ensures past { store.new.past ≡ added (leave_noted (reader_of self)) store.old.past }
         ensures ok { IsOk result }
     {
         self.leave(store);

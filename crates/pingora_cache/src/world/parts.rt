@@ -19,5 +19,5 @@ impl<M: EvictionManager> Model for Parts<M> {
 
     ghost coded = { state_code };
 
-    ghost view = { λ p. record { store = p.store; tracked = M.tracked p.manager; limits = M.limits p.manager; evicted = M.evicted p.manager; locks = p.lock.table } };
+    ghost view = { λ p. record { store = p.store.state; tracked = M.tracked p.manager; limits = M.limits p.manager; evicted = M.evicted p.manager; locks = p.lock.table } };
 }

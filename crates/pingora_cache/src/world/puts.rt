@@ -72,7 +72,7 @@ impl<P: PutPolicy> OpenPut<P> {
 
     /// Drops the write, if one is in flight.
     pub(crate) fn end(self, store: &mut MemCache)
-        ensures { store.new ≡ dropped_by self.request.write store.old }
+        ensures { store.new.state ≡ dropped_by self.request.write store.old.state }
     {
         let OpenPut { ctx } = self;
         ctx.end(store);
@@ -110,9 +110,10 @@ pub(crate) fn feed<P: PutPolicy>(
 ) -> Reply
     requires none { events.old.items ≡ [] }
     requires room { 3 ≤ vec_capacity events.old }
-    ensures answers { FeedsSome P.says store.old put.old result events.new.items }
+    ensures answers { FeedsSome P.says store.old.state put.old result events.new.items }
     ensures other { IsOther result }
-    ensures moves { MovesStore (Some put.old) store.old events.new.items (Some put.new) store.new }
+    ensures moves { MovesStore (Some put.old) store.old.state events.new.items (Some put.new)
+        store.new.state }
     ensures keeps { KeepsKey (Some put.old) (Some put.new) }
     ensures row { IsRow (acts.Feed bytes.now now) result events.new.items (Some put.old)
         (Some put.new) }
@@ -134,10 +135,10 @@ fn feed_in<P: PutPolicy>(
 ) -> Reply
     requires none { events.old.items ≡ [] }
     requires room { 3 ≤ vec_capacity events.old }
-    ensures answers { FeedsSome P.says store.old (put_of ctx.old) result events.new.items }
+    ensures answers { FeedsSome P.says store.old.state (put_of ctx.old) result events.new.items }
     ensures other { IsOther result }
-    ensures moves { MovesStore (Some (put_of ctx.old)) store.old events.new.items
-        (Some (put_of ctx.new)) store.new }
+    ensures moves { MovesStore (Some (put_of ctx.old)) store.old.state events.new.items
+        (Some (put_of ctx.new)) store.new.state }
     ensures keeps { KeepsKey (Some (put_of ctx.old)) (Some (put_of ctx.new)) }
     ensures row { IsRow (acts.Feed bytes.now now) result events.new.items (Some (put_of ctx.old))
         (Some (put_of ctx.new)) }
@@ -190,7 +191,8 @@ fn drop_write(writer: Option<MemMissHandler>, store: &mut MemCache, events: &mut
     requires { vec_len events.old + 1 ≤ vec_capacity events.old }
     ensures events { events.new.items
         ≡ events.old.items ++ drop_of (option_map (λ w. w.number) writer) }
-    ensures store { store.new ≡ dropped_by (option_map (λ w. w.number) writer) store.old }
+    ensures store { store.new.state
+        ≡ dropped_by (option_map (λ w. w.number) writer) store.old.state }
 {
     if let Some(writer) = writer {
         let write = writer.number();
@@ -204,7 +206,7 @@ pub(crate) fn drop_put<P: PutPolicy>(put: OpenPut<P>, store: &mut MemCache, even
     requires none { events.old.items ≡ [] }
     requires room { 3 ≤ vec_capacity events.old }
     ensures events { events.new.items ≡ drop_of put.request.write }
-    ensures moves { MovesStore (Some put) store.old events.new.items None store.new }
+    ensures moves { MovesStore (Some put) store.old.state events.new.items None store.new.state }
 {
     let OpenPut { ctx } = put;
     let write = write_of(&ctx);
@@ -246,10 +248,10 @@ fn close_in<M: EvictionManager, P: PutPolicy>(
 ) -> Reply
     requires none { events.old.items ≡ [] }
     requires room { 3 ≤ vec_capacity events.old }
-    ensures answers { ClosesSome P.says store.old (put_of ctx) result events.new.items }
+    ensures answers { ClosesSome P.says store.old.state (put_of ctx) result events.new.items }
     ensures other { IsOther result }
-    ensures moves { MovesClosed P.says (M.limits manager.old) (put_of ctx) store.old
-        (M.tracked manager.old) events.new.items store.new (M.tracked manager.new) }
+    ensures moves { MovesClosed P.says (M.limits manager.old) (put_of ctx) store.old.state
+        (M.tracked manager.old) events.new.items store.new.state (M.tracked manager.new) }
     ensures closes { TellsClosed P.says (Some (put_of ctx)) result }
     ensures quiet { AreOfNoLock events.new.items }
     ensures limits { M.limits manager.new ≡ M.limits manager.old }

@@ -32,14 +32,14 @@ pub(crate) fn read(
 ) -> Reply
     requires none { events.old.items ≡ [] }
     requires room { 3 ≤ vec_capacity events.old }
-    ensures answers { Answers store.old (no_locks 0) (acts.Request asks.Read) request.old result
-        events.new.items }
-    ensures moves { MovesStore (Some request.old) store.old events.new.items (Some request.new)
-        store.new }
+    ensures answers { Answers store.old.state (no_locks 0) (acts.Request asks.Read) request.old
+        result events.new.items }
+    ensures moves { MovesStore (Some request.old) store.old.state events.new.items
+        (Some request.new) store.new.state }
     ensures keeps { KeepsKey (Some request.old) (Some request.new) }
     ensures row { request.new ≡ on_request (has_read events.new.items) request.old }
     ensures held { request.new.request.held ≡ request.old.request.held }
-    ensures same { store.new ≡ store.old }
+    ensures same { store.new.state ≡ store.old.state }
     ensures quiet { AreOfNoLock events.new.items }
 {
     if !request.cache.has_body_reader() {
@@ -104,7 +104,8 @@ fn seek_in(cache: &mut HttpCache<MemCache>, start: usize, end: Option<usize>) ->
 /// Ends the reader, even if that fails.
 pub(crate) fn done(request: &mut OpenRequest, store: &mut MemCache) -> Reply
     ensures answers { FollowsRule no_facts (acts.Request asks.Done) (Some request.old) result [] }
-    ensures moves { MovesStore (Some request.old) store.old [] (Some request.new) store.new }
+    ensures moves { MovesStore (Some request.old) store.old.state [] (Some request.new)
+        store.new.state }
     ensures keeps { KeepsKey (Some request.old) (Some request.new) }
     ensures row { Some request.new ≡ row (acts.Request asks.Done) result [] (Some request.old) }
     ensures held { request.new.request.held ≡ request.old.request.held }

@@ -84,7 +84,7 @@ impl OpenRequest {
     /// Gives back all that is held, and returns the number of a permit that is let go.
     pub(crate) fn end(self, store: &mut MemCache, lock: &mut CacheLock) -> Option<u64>
         ensures let_go { result ≡ permit_of self.request.held }
-        ensures store { store.new ≡ store_ended self store.old }
+        ensures store { store.new.state ≡ store_ended self store.old.state }
         ensures table { lock.new.table ≡ let_go_by self.request.held lock.old.table }
     {
         let OpenRequest {
@@ -124,8 +124,8 @@ pub(crate) fn write_number(cache: &HttpCache<MemCache>) -> Option<u64>
 /// Replaces the held pair, perhaps by none. The old one is let go.
 pub(crate) fn hold(place: &mut Option<Pair>, pair: Option<Pair>, store: &mut MemCache)
     ensures place { place.new ≡ pair }
-    ensures store { store.new
-        ≡ left_by (pair_reader (option_map (λ p. (p.0, reader_of p.1)) place.old)) store.old }
+    ensures store { store.new.state
+        ≡ left_by (pair_reader (option_map (λ p. (p.0, reader_of p.1)) place.old)) store.old.state }
 {
     if let Some((_meta, hit)) = std::mem::replace(place, pair) {
         hit.let_go(store);

@@ -51,8 +51,8 @@ pub(crate) fn disable(
     requires room { 3 ≤ vec_capacity events.old }
     ensures answers { FollowsRule no_facts (acts.Request (asks.Disable reason)) (Some request.old)
         result events.new.items }
-    ensures moves { MovesStore (Some request.old) store.old events.new.items (Some request.new)
-        store.new }
+    ensures moves { MovesStore (Some request.old) store.old.state events.new.items
+        (Some request.new) store.new.state }
     ensures keeps { KeepsKey (Some request.old) (Some request.new) }
     ensures row { Some request.new
         ≡ row (acts.Request (asks.Disable reason)) result events.new.items (Some request.old) }

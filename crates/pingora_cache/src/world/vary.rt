@@ -110,10 +110,10 @@ pub(crate) fn revalidate(
     requires spare { spare.old ≡ Some (meta.now, meta.now) }
     requires none { events.old.items ≡ [] }
     requires room { 3 ≤ vec_capacity events.old }
-    ensures answers { Answers store.old lock.old.table (acts.Request (asks.Revalidate meta.now))
-        request.old result events.new.items }
-    ensures moves { MovesStore (Some request.old) store.old events.new.items (Some request.new)
-        store.new }
+    ensures answers { Answers store.old.state lock.old.table
+        (acts.Request (asks.Revalidate meta.now)) request.old result events.new.items }
+    ensures moves { MovesStore (Some request.old) store.old.state events.new.items
+        (Some request.new) store.new.state }
     ensures keeps { KeepsKey (Some request.old) (Some request.new) }
     ensures row { Some request.new
         ≡ row (acts.Request (asks.Revalidate meta.now)) result events.new.items (Some request.old) }
@@ -142,11 +142,12 @@ fn renew(
     requires same { noted ≡ meta }
     requires none { events.old.items ≡ [] }
     requires room { 3 ≤ vec_capacity events.old }
-    ensures answers { Renews (facts_in store.old lock.old.table cache.old) meta cache.old result
-        events.new.items }
+    ensures answers { Renews (facts_in store.old.state lock.old.table cache.old) meta cache.old
+        result events.new.items }
     ensures other { IsOther result }
     ensures request { cache.new ≡ renewed meta cache.old }
-    ensures moves { MovesStoreBeside cache.old store.old events.new.items cache.new store.new }
+    ensures moves { MovesStoreBeside cache.old store.old.state events.new.items cache.new
+        store.new.state }
     ensures locks { MovesLocksBy 0 Done events.new.items cache.old lock.old.table cache.new
         lock.new.table }
 {

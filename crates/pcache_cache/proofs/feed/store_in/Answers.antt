@@ -29,19 +29,19 @@ returns-in-GoesOn-clause-own g c own =
     let e = c.store_piece-end.ensures in
     let r = c.store_piece-end.result in
     let put = c.store_piece-end.new.self in
-    subst (λ k. is_own_write c.store_piece-end.new.storage (Some k) (write_in put.stage) ≡ true) (sym e.key)
-    (own_goes_on c.args.store.now c.store_piece-end.new.storage c.args.put.now.key c.args.put.now.stage put.stage r.began r.wrote (rw c.in-GoesOn.is at e.ends) e.store own)
+    subst (λ k. is_own_write c.store_piece-end.new.storage.state (Some k) (write_in put.stage) ≡ true) (sym e.key)
+    (own_goes_on c.args.store.now.state c.store_piece-end.new.storage.state c.args.put.now.key c.args.put.now.stage put.stage r.began r.wrote (rw c.in-GoesOn.is at e.ends) e.store own)
 
 pub returns-in-NotCached-clause-own : goal.returns-in-NotCached-clause-own
 returns-in-NotCached-clause-own g c own =
     let e = c.store_piece-end.ensures in
     let put = c.store_piece-end.new.self in
     let ends = rw c.in-NotCached.is at e.ends in
-    own_nothing c.store_piece-end.new.storage put.key put.stage _ ends.0 refl
+    own_nothing c.store_piece-end.new.storage.state put.key put.stage _ ends.0 refl
 
 pub returns-in-Refused-clause-own : goal.returns-in-Refused-clause-own
 returns-in-Refused-clause-own g c own =
     let e = c.store_piece-end.ensures in
     let put = c.store_piece-end.new.self in
     let ends = rw c.in-Refused.is at e.ends in
-    own_nothing c.drop_writer.new.store put.key put.stage _ ends.0 refl
+    own_nothing c.drop_writer.new.store.state put.key put.stage _ ends.0 refl

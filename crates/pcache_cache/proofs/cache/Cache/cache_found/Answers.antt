@@ -9,5 +9,5 @@ pub invariant_of-self : goal.invariant_of-self
 invariant_of-self g c =
     let limits = g.M.EvictionManager.limits c.self.inside.manager in
     let tracked = g.M.EvictionManager.tracked c.self.inside.manager in
-    subst (λ l. IsKept l (g.M.EvictionManager.tracked c.cache_found.new.eviction) c.cache_found.new.storage) (sym c.cache_found.ensures.limits)
-    (kept_found limits tracked (g.M.EvictionManager.tracked c.cache_found.new.eviction) c.self.inside.store c.cache_found.new.storage c.args.status (reader_of c.args.hit) (write_read (reader_of c.args.hit)) c.args.request.now.cache c.cache_found.result c.cache_found.ensures.store c.cache_found.ensures.tracked c.cache_found.ensures.left_store c.cache_found.ensures.noted c.self.invariant)
+    subst (λ l. IsKept l (g.M.EvictionManager.tracked c.cache_found.new.eviction) c.cache_found.new.storage.state) (sym c.cache_found.ensures.limits)
+    (kept_found limits tracked (g.M.EvictionManager.tracked c.cache_found.new.eviction) c.self.inside.store.state c.cache_found.new.storage.state c.args.status (reader_of c.args.hit) (write_read (reader_of c.args.hit)) c.args.request.now.cache c.cache_found.result c.cache_found.ensures.store c.cache_found.ensures.tracked c.cache_found.ensures.left_store c.cache_found.ensures.noted c.self.invariant)

@@ -5,4 +5,4 @@ pub invariant_of-self : goal.invariant_of-self
 invariant_of-self g c =
     let limits = g.M.EvictionManager.limits c.self.inside.manager in
     let tracked = g.M.EvictionManager.tracked c.self.inside.manager in
-    kept_ended limits tracked c.self.inside.store c.end.new.storage c.into_cache.result.reader c.into_cache.result.write c.end.ensures.store c.self.invariant
+    kept_ended limits tracked c.self.inside.store.state c.end.new.storage.state c.into_cache.result.reader c.into_cache.result.write c.end.ensures.store c.self.invariant

@@ -2,4 +2,4 @@ use Rattle.pcache_cache.proofs.Kept.{kept_none}
 use Rattle.pcache_cache.proofs.cache.Cache.new.Goals as goal
 
 pub invariant_of-result : goal.invariant_of-result
-invariant_of-result g c = kept_none (g.M.EvictionManager.limits c.args.manager) (g.M.EvictionManager.tracked c.args.manager) c.new.result c.new.ensures
+invariant_of-result g c = kept_none (g.M.EvictionManager.limits c.args.manager) (g.M.EvictionManager.tracked c.args.manager) c.new.result.state c.new.ensures.state

@@ -6,4 +6,4 @@ pub invariant_of-self : goal.invariant_of-self
 invariant_of-self g c =
     let limits = g.M.EvictionManager.limits c.self.inside.manager in
     let tracked = g.M.EvictionManager.tracked c.self.inside.manager in
-    kept_renewed limits tracked c.self.inside.store c.revalidate_cache_meta.new.storage (renewed_by c.args.meta c.args.request.now.cache.meta) c.args.request.now.cache.key c.revalidate_cache_meta.result c.revalidate_cache_meta.ensures.store c.revalidate_cache_meta.ensures.same_store c.self.invariant
+    kept_renewed limits tracked c.self.inside.store.state c.revalidate_cache_meta.new.storage.state (renewed_by c.args.meta c.args.request.now.cache.meta) c.args.request.now.cache.key c.revalidate_cache_meta.result c.revalidate_cache_meta.ensures.store c.revalidate_cache_meta.ensures.same_store c.self.invariant

@@ -1,7 +1,11 @@
-use Rattle.pcache_store.proofs.Writes.{taken_back}
+use Rattle.std.proofs.Common.{Some}
+use Rattle.pcache_base.specs.Key.{slot}
+use Rattle.pcache_store.specs.Past.{Began}
+use Rattle.pcache_store.proofs.Past.{grows}
 use Rattle.pcache_store.proofs.memory.MemCacheStorage.get_miss_handler.Goals as goal
 
-pub returns-in-Err-clause-err : goal.returns-in-Err-clause-err
-returns-in-Err-clause-err c =
-    let back = taken_back c.self.inside.drafts c.new-draft.result c.begin.new.self c.take_back.new.self c.in_ok-begin.ensures.unused c.in_ok-begin.ensures.ok c.take_back.ensures in
-    rw (back, c.in-Err.ensures.err) c.self.view_is
+pub invariant_of-self-2 : goal.invariant_of-self-2
+invariant_of-self-2 c =
+    rw (c.then_given-self-inside.ensures, c.slot.ensures, c.number.ensures)
+    (grows c.self.inside.bare c.get_miss_handler.new.self c.self.inside.past.notes (Some (Began (slot c.args.key.now) c.in_ok-handler.handler.number c.args.meta.now)) c.self.invariant
+    (c.in_ok-handler.ensures.write, c.in_ok-handler.ensures.ok))

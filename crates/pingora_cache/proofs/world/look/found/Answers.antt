@@ -24,7 +24,7 @@ returns-clause-answers g c =
     let is = ap (λ o. held_with c.request.inside.carried (option_map (λ p. (p.0, reader_of p.1)) o) c.request.inside.cache) (sym had) ∙ c.request.view_is in
     let may : MayLookUp c.request.inside.cache.phase = search rules in
     subst (λ (p : State). AnswersOf p (C.Request (Q.Found c.args.status c.args.now)) c.args.request.now c.take-2.result c.take-2.new.events.items) c.parts.view_is
-    (inl (subst (λ (x : Ongoing). (MayLookUp x.request.phase × IsSome x.pair) × IsOther c.take-2.result × Takes (facts_in c.parts.inside.store c.parts.inside.lock.table x.request) c.args.status x.request x.pair c.take-2.result c.take-2.new.events.items) is
+    (inl (subst (λ (x : Ongoing). (MayLookUp x.request.phase × IsSome x.pair) × IsOther c.take-2.result × Takes (facts_in c.parts.inside.store.state c.parts.inside.lock.table x.request) c.args.status x.request x.pair c.take-2.result c.take-2.new.events.items) is
     ((may, refl), c.take-2.ensures.other, c.take-2.ensures.answers)))
 
 pub returns-clause-moves : goal.returns-clause-moves
@@ -35,10 +35,10 @@ returns-clause-moves g c =
     let is = ap (λ o. held_with d (option_map (λ p. (p.0, reader_of p.1)) o) c.request.inside.cache) (sym had) ∙ c.request.view_is in
     let tracked = g.M.EvictionManager.tracked in
     let limits = g.M.EvictionManager.limits c.parts.inside.manager in
-    let s = c.parts.inside.store in
+    let s = c.parts.inside.store.state in
     let m = tracked c.parts.inside.manager in
     let events = c.take-2.new.events.items in
-    let u = c.take-2.new.store in
+    let u = c.take-2.new.store.state in
     let n = tracked c.take-2.new.manager in
     moves-over _ (open_with d (option_map (λ p. (p.0, reader_of p.1)) c.take.new.self) c.take-2.new.cache) _ c.parts.view_is
     (subst (λ (x : Ongoing). Moves limits (Some x) s m events (open_with d (option_map (λ p. (p.0, reader_of p.1)) c.take.new.self) c.take-2.new.cache) u n) is

@@ -13,8 +13,8 @@ use Rattle.pingora_cache.proofs.world.look.look.Goals as goal
 pub returns-clause-answers : goal.returns-clause-answers
 returns-clause-answers c =
     let may : MayLookUp c.args.request.now.request.phase = search rules in
-    let looks = subst (λ (z : Ongoing). Looks (facts_in c.args.store.now c.args.lock.now.table z.request) z c.look_up.result c.look_up.new.events.items) c.carry.ensures c.look_up.ensures.answers in
-    inl (may, c.look_up.ensures.other, looks-by _ (facts_in c.args.store.now c.args.lock.now.table c.args.request.now.request) (carrying c.args.decision c.args.request.now) c.look_up.result c.look_up.new.events.items refl refl looks)
+    let looks = subst (λ (z : Ongoing). Looks (facts_in c.args.store.now.state c.args.lock.now.table z.request) z c.look_up.result c.look_up.new.events.items) c.carry.ensures c.look_up.ensures.answers in
+    inl (may, c.look_up.ensures.other, looks-by _ (facts_in c.args.store.now.state c.args.lock.now.table c.args.request.now.request) (carrying c.args.decision c.args.request.now) c.look_up.result c.look_up.new.events.items refl refl looks)
 
 pub returns-clause-keeps : goal.returns-clause-keeps
 returns-clause-keeps c w =
@@ -22,7 +22,7 @@ returns-clause-keeps c w =
     h (record { eviction = w.eviction; fills = w.fills })
 
 pub returns-clause-moves : goal.returns-clause-moves
-returns-clause-moves c = carried-moves c.args.decision c.args.request.now c.carry.new.request (Some c.look_up.new.request) c.args.store.now c.look_up.new.store c.look_up.new.events.items c.carry.ensures c.look_up.ensures.moves
+returns-clause-moves c = carried-moves c.args.decision c.args.request.now c.carry.new.request (Some c.look_up.new.request) c.args.store.now.state c.look_up.new.store.state c.look_up.new.events.items c.carry.ensures c.look_up.ensures.moves
 
 pub returns-clause-locks : goal.returns-clause-locks
 returns-clause-locks c n = subst (λ (z : Ongoing). MovesLocks n (deeds_by n c.args.now TransientError c.look_up.new.events.items) z.request.held c.args.lock.now.table c.look_up.new.request.request.held c.look_up.new.lock.table) c.carry.ensures (c.look_up.ensures.locks n)

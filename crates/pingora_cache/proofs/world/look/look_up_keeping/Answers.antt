@@ -31,8 +31,8 @@ returns-in-Err-clause-moves c =
     let pair : Option (Meta × Reader) = option_map (λ p. (p.0, reader_of p.1)) c.request.inside.pair in
     let x : Ongoing = held_with c.request.inside.carried pair r in
     let y : Ongoing = held_with c.request.inside.carried pair c.look_up.new.self in
-    subst (λ (z : Ongoing). MovesStore (Some z) c.args.store.now c.args.events.now.items (Some y) c.look_up.new.storage) c.request.view_is
-    (refused-moves c.args.store.now c.look_up.new.storage x y c.in-Some.key.now c.in-Err.refused OutOfMemory c.args.events.now.items (sym c.in-Some.ensures.value) c.requires.none (ap (held_with c.request.inside.carried pair) c.in-Err.ensures.same_request) c.in-Err.ensures.refused)
+    subst (λ (z : Ongoing). MovesStore (Some z) c.args.store.now.state c.args.events.now.items (Some y) c.look_up.new.storage.state) c.request.view_is
+    (refused-moves c.args.store.now.state c.look_up.new.storage.state x y c.in-Some.key.now c.in-Err.refused OutOfMemory c.args.events.now.items (sym c.in-Some.ensures.value) c.requires.none (ap (held_with c.request.inside.carried pair) c.in-Err.ensures.same_request) c.in-Err.ensures.refused)
 
 pub returns-in-Err-clause-locks : goal.returns-in-Err-clause-locks
 returns-in-Err-clause-locks c n =
@@ -44,7 +44,7 @@ returns-in-Err-clause-locks c n =
 
 pub returns-clause-answers : goal.returns-clause-answers
 returns-clause-answers c =
-    let s = c.args.store.now in
+    let s = c.args.store.now.state in
     let t = c.args.lock.now.table in
     let r : Request = c.request.inside.cache in
     let y : Request = c.look_up.new.self in
@@ -64,7 +64,7 @@ returns-clause-answers c =
 
 pub returns-clause-moves : goal.returns-clause-moves
 returns-clause-moves c =
-    let s = c.args.store.now in
+    let s = c.args.store.now.state in
     let t = c.args.lock.now.table in
     let r : Request = c.request.inside.cache in
     let y : Request = c.look_up.new.self in
@@ -79,12 +79,12 @@ returns-clause-moves c =
     let h = heard (found_for s r.key) n m c.in-Ok.ensures.heard refl kept in
     let own = taken-decision s x y m.answer c.policy_of-policy.result c.look_up.new.policy h.2 c.policy_of-policy.ensures c.in-Ok.ensures.decides in
     let all = c.note_look.ensures.events ∙ (λ i. noted_look ((h.0 ∙ c.slot-slot.ensures) i) m.answer ((h.1 ∙ c.write_number.ensures.write) i) l) in
-    subst (λ (z : Ongoing). MovesStore (Some z) s c.note_look.new.events.items (Some c.note_look.new.request) c.note_look.new.store) c.request.view_is
-    (look-moves s t x k m.answer (decision_taken s r y) named h.2 own l y c.note_look.new.request c.look_up.new.storage c.note_look.new.store c.note_look.new.events.items c.in-Ok.ensures.found c.in-Ok.ensures.told c.in-Ok.ensures.request c.in-Ok.ensures.unlocked_request c.in-Ok.ensures.store c.note_look.ensures.store c.note_look.ensures.request all)
+    subst (λ (z : Ongoing). MovesStore (Some z) s c.note_look.new.events.items (Some c.note_look.new.request) c.note_look.new.store.state) c.request.view_is
+    (look-moves s t x k m.answer (decision_taken s r y) named h.2 own l y c.note_look.new.request c.look_up.new.storage.state c.note_look.new.store.state c.note_look.new.events.items c.in-Ok.ensures.found c.in-Ok.ensures.told c.in-Ok.ensures.request c.in-Ok.ensures.unlocked_request c.in-Ok.ensures.store c.note_look.ensures.store c.note_look.ensures.request all)
 
 pub returns-clause-keeps : goal.returns-clause-keeps
 returns-clause-keeps c =
-    let s = c.args.store.now in
+    let s = c.args.store.now.state in
     let t = c.args.lock.now.table in
     let r : Request = c.request.inside.cache in
     let y : Request = c.look_up.new.self in
@@ -103,7 +103,7 @@ returns-clause-keeps c =
 
 pub returns-clause-row : goal.returns-clause-row
 returns-clause-row c =
-    let s = c.args.store.now in
+    let s = c.args.store.now.state in
     let t = c.args.lock.now.table in
     let r : Request = c.request.inside.cache in
     let y : Request = c.look_up.new.self in
@@ -123,7 +123,7 @@ returns-clause-row c =
 
 pub returns-clause-locks : goal.returns-clause-locks
 returns-clause-locks c q =
-    let s = c.args.store.now in
+    let s = c.args.store.now.state in
     let t = c.args.lock.now.table in
     let r : Request = c.request.inside.cache in
     let y : Request = c.look_up.new.self in

@@ -21,8 +21,8 @@ pub returns-clause-moves : goal.returns-clause-moves
 returns-clause-moves g c =
     let tracked = g.M.EvictionManager.tracked in
     let limits = g.M.EvictionManager.limits c.parts.inside.manager in
-    let s = c.parts.inside.store in
-    let u = c.expire.new.storage in
+    let s = c.parts.inside.store.state in
+    let u = c.expire.new.storage.state in
     let m = tracked c.parts.inside.manager in
     let n = tracked c.expire.new.eviction in
     let r : Request = c.request.inside.cache in

@@ -30,8 +30,8 @@ returns-clause-moves c =
     let r : Request = c.request.inside.cache in
     let new : Request = c.disable-released.new.self in
     let events = c.note_shut.new.events.items in
-    subst (λ (x : Ongoing). MovesStore (Some x) c.args.store.now events (Some (held_with None now new)) c.disable-released.new.storage) c.request.view_is
-    (switches-off (held_with c.request.inside.carried pair r) (held_with None now new) c.args.store.now c.disable-released.new.storage c.write_number-dropped.result c.permit_in.result c.args.events.now.items events
+    subst (λ (x : Ongoing). MovesStore (Some x) c.args.store.now.state events (Some (held_with None now new)) c.disable-released.new.storage.state) c.request.view_is
+    (switches-off (held_with c.request.inside.carried pair r) (held_with None now new) c.args.store.now.state c.disable-released.new.storage.state c.write_number-dropped.result c.permit_in.result c.args.events.now.items events
     c.write_number-dropped.ensures.write c.requires.none c.note_shut.ensures (ap (option_map (λ p. (p.0, reader_of p.1))) c.hold.ensures.place)
     c.disable-released.ensures.held.1 c.disable-released.ensures.held.2 (c.disable-released.ensures.store ∙ ap (λ s. left_by r.reader (dropped_by r.write s)) c.hold.ensures.store))
 

@@ -9,4 +9,4 @@ use Rattle.pingora_cache.proofs.world.turn.drop_put.Goals as goal
 pub returns-clause-moves : goal.returns-clause-moves
 returns-clause-moves g c =
     let is : lookup (is_at (nat_cmp c.args.number)) c.args.requests.now.entries ≡ Some c.in-Some.put = search rules in
-    subst (λ (q : Option Ongoing). MovesStore q c.args.store.now c.drop_put.new.events.items None c.drop_put.new.store) (sym is) c.drop_put.ensures.moves
+    subst (λ (q : Option Ongoing). MovesStore q c.args.store.now.state c.drop_put.new.events.items None c.drop_put.new.store.state) (sym is) c.drop_put.ensures.moves

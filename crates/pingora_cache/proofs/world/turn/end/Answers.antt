@@ -13,7 +13,7 @@ use Rattle.pingora_cache.proofs.world.turn.end.Goals as goal
 pub returns-clause-moves : goal.returns-clause-moves
 returns-clause-moves g c =
     let is : lookup (is_at (nat_cmp c.args.number)) c.args.requests.now.entries ≡ Some c.in-Some.request = search rules in
-    subst (λ (q : Option Ongoing). MovesStore q c.args.store.now c.close.new.events.items None c.close.new.store) (sym is) c.close.ensures.moves
+    subst (λ (q : Option Ongoing). MovesStore q c.args.store.now.state c.close.new.events.items None c.close.new.store.state) (sym is) c.close.ensures.moves
 
 pub returns-clause-locks : goal.returns-clause-locks
 returns-clause-locks g c n =

@@ -27,4 +27,4 @@ pub returns-in-Put-clause-turn : goal.returns-in-Put-clause-turn
 returns-in-Put-clause-turn g c world some =
     let had = subst (λ (p : State). HasSome g.P.PutPolicy.says p.store (open_at c.args.number c.args.requests.now.entries)) (sym c.parts.view_is) some in
     turn-over c.parts.view_is (fed-turn _ _ _ c.args.bytes.now c.args.now _ _ c.in-Put.put c.feed-reply.new.put _ _ _ _ c.feed-reply.result c.feed-reply.new.events.items had (search rules) (search rules) c.is_held.ensures.held c.is_held-in-Put.ensures.held
-    (λ s. feeds-answered (facts_in c.parts.inside.store c.parts.inside.lock.table c.in-Put.put.request) c.args.bytes.now c.args.now c.in-Put.put c.feed-reply.result c.feed-reply.new.events.items c.is_held.ensures.some c.feed-reply.ensures.other (c.feed-reply.ensures.answers c.parts.inside.lock.table s)) c.feed-reply.ensures.moves c.feed-reply.ensures.keeps c.feed-reply.ensures.row c.feed-reply.ensures.quiet)
+    (λ s. feeds-answered (facts_in c.parts.inside.store.state c.parts.inside.lock.table c.in-Put.put.request) c.args.bytes.now c.args.now c.in-Put.put c.feed-reply.result c.feed-reply.new.events.items c.is_held.ensures.some c.feed-reply.ensures.other (c.feed-reply.ensures.answers c.parts.inside.lock.table s)) c.feed-reply.ensures.moves c.feed-reply.ensures.keeps c.feed-reply.ensures.row c.feed-reply.ensures.quiet)

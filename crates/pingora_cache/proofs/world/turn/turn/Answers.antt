@@ -27,7 +27,7 @@ pub returns-in-Look-clause-answers : goal.returns-in-Look-clause-answers
 returns-in-Look-clause-answers g c = answers-over c.args.request.now c.look.result c.look.new.events.items c.in-Look.is c.parts-in-Look.view_is c.look.ensures.answers
 
 pub returns-in-Miss-clause-moves : goal.returns-in-Miss-clause-moves
-returns-in-Miss-clause-moves g c world = moves-over _ (Some c.miss.new.request) _ c.parts-in-Miss.view_is (moves_quietly _ _ (Some c.miss.new.request) _ c.miss.new.store _ _ c.requires.none c.miss.ensures.moves)
+returns-in-Miss-clause-moves g c world = moves-over _ (Some c.miss.new.request) _ c.parts-in-Miss.view_is (moves_quietly _ _ (Some c.miss.new.request) _ c.miss.new.store.state _ _ c.requires.none c.miss.ensures.moves)
 
 pub returns-in-Begin-clause-moves : goal.returns-in-Begin-clause-moves
 returns-in-Begin-clause-moves g c world = moves-over _ (Some c.begin.new.request) _ c.parts-in-Begin.view_is (c.begin.ensures.moves _ _)
@@ -51,7 +51,7 @@ pub returns-in-Read-clause-answers : goal.returns-in-Read-clause-answers
 returns-in-Read-clause-answers g c = answers-over c.args.request.now c.read.result c.read.new.events.items c.in-Read.is c.parts-in-Read.view_is c.read.ensures.answers
 
 pub returns-in-Done-clause-moves : goal.returns-in-Done-clause-moves
-returns-in-Done-clause-moves g c world = moves-over _ (Some c.done.new.request) _ c.parts-in-Done.view_is (moves_quietly _ _ (Some c.done.new.request) _ c.done.new.store _ _ c.requires.none c.done.ensures.moves)
+returns-in-Done-clause-moves g c world = moves-over _ (Some c.done.new.request) _ c.parts-in-Done.view_is (moves_quietly _ _ (Some c.done.new.request) _ c.done.new.store.state _ _ c.requires.none c.done.ensures.moves)
 
 pub returns-in-Publish-clause-moves : goal.returns-in-Publish-clause-moves
 returns-in-Publish-clause-moves g c world = moves-over _ (Some c.args.request.now) _ c.parts-in-Publish.view_is (moves_quietly _ _ (Some c.args.request.now) _ c.parts-in-Publish.inside.store _ _ c.requires.none (c.publish.ensures.moves _))

@@ -14,7 +14,7 @@ returns-in_default-clause-puts g c = puts-wrong _ (Wait c.args.now) _ _ _ _ (ref
 
 pub returns-in-Request-clause-turn : goal.returns-in-Request-clause-turn
 returns-in-Request-clause-turn g c world some =
-    turn-over c.parts.view_is (turn-of _ _ (Wait c.args.now) _ _ c.in-Request.request c.wait-reply.new.request _ _ _ _ _ _ c.wait-reply.result c.wait-reply.new.events.items (search rules) (search rules) (inl (c.is_plain.ensures, c.wait-reply.ensures.answers c.parts.inside.store))
+    turn-over c.parts.view_is (turn-of _ _ (Wait c.args.now) _ _ c.in-Request.request c.wait-reply.new.request _ _ _ _ _ _ c.wait-reply.result c.wait-reply.new.events.items (search rules) (search rules) (inl (c.is_plain.ensures, c.wait-reply.ensures.answers c.parts.inside.store.state))
     (λ world. c.wait-reply.ensures.moves _ _ _) c.wait-reply.ensures.keeps c.wait-reply.ensures.row (c.wait-reply.ensures.locks _) world)
 
 pub returns-in-Request-clause-puts : goal.returns-in-Request-clause-puts

@@ -3,7 +3,7 @@ use Rattle.std.specs.Int.{w64, from_be_bytes}
 use Rattle.std.specs.Option.{option_copied}
 use Rattle.pcache_store.specs.Tag.{named_by}
 use Rattle.pcache_store.proofs.Tags.{eight_name, other_names}
-use Rattle.pcache_store.proofs.memory.number_named_by.Goals as goal
+use Rattle.pcache_store.proofs.memory.bare.number_named_by.Goals as goal
 
 pub returns-in-Ok : goal.returns-in-Ok
 returns-in-Ok c =

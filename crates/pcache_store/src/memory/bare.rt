@@ -1,0 +1,460 @@
+//! The data of a store in memory, and its calls; it keeps no past.
+ghost use Rattle.std.specs.Prelude.{◌≡◌, ◌<◌, ◌^◌, ℕ, Option, Some, None, IsOk, IsSome, IfOk, IfErr, OnOk, OnErr, option_map, option_copied, is_some, false, true};
+ghost use Rattle.std.specs.FinMap as map;
+ghost use Rattle.pcache_base.specs.declared.error.ErrorType.TheVariants.{OutOfMemory, WriteRemoved};
+ghost use Rattle.pcache_base.specs.Key.{slot};
+ghost use Rattle.pcache_table.specs.Sharding.{part_of};
+ghost use Rattle.pcache_store.specs.declared.storage.PurgeOutcome.TheVariants.{Expired};
+ghost use Rattle.pcache_store.specs.Finishes.{body_number, created};
+ghost use Rattle.pcache_store.specs.Purge.{expire_outcome, expired_at, slot_expired, target_outcome, target_purged};
+ghost use Rattle.pcache_store.specs.Refusals.{MayFailFinish, MayFailWrite};
+ghost use Rattle.pcache_store.specs.Readers.{reader_of, slot_named};
+ghost use Rattle.pcache_store.specs.Shards.{of_shard};
+ghost use Rattle.pcache_store.specs.Store.{begun, complete_body, dropped, find, find_write, finished, followed, found_part, is_untouched, is_write_under, joined, left_on, meta_set, wrote};
+ghost use Rattle.pcache_store.specs.Tag.{named_by};
+ghost use Rattle.pcache_store.specs.Totals.{stored_bytes, slots};
+
+use crate::memory::draft::Draft;
+use crate::memory::drafts::Drafts;
+use crate::memory::hit::{CompleteHit, MemHitHandler, PartialHit};
+use crate::memory::miss::MemMissHandler;
+use crate::memory::slots::Slots;
+use crate::storage::streaming_write::U64WriteId;
+use crate::storage::{MissFinishType, PurgeOutcome, PurgeTarget};
+use bytes::Bytes;
+use pcache_base::error::{Error, ErrorType, Result};
+use pcache_base::key::{CacheHashKey, CacheKey};
+use pcache_base::moment::Moment;
+use pcache_base::seed::Seed;
+use pcache_evict::eviction::{CacheEntryId, CacheEntryKey};
+use pcache_meta::meta::CacheMeta;
+use pcache_meta::meta::spelled::SpelledMeta;
+use std::alloc::Global;
+use std::marker::Model;
+
+/// The data of a store in memory: the slots by key, and the records of writes. A contract sees them as
+/// the record `Store`.
+#[derive(Drop)]
+pub(super) struct BareStore {
+    alloc: Global,
+    slots: Slots,
+    drafts: Drafts,
+}
+
+impl Model for BareStore {
+    ghost use Rattle.pcache_store.specs.Store.{Store};
+    ghost use Rattle.pcache_store.specs.StoreCode.{store_code};
+
+    ghost Value = { Store };
+
+    ghost coded = { store_code };
+
+    ghost view = { λ a. record { slots = a.slots; writes = a.drafts.writes; next = a.drafts.next } };
+}
+
+impl BareStore {
+    /// An empty store. Its tables hash under the seed, on which no result depends.
+    pub fn new(alloc: Global, seed: Seed) -> BareStore
+        ensures { result ≡ record { slots = map.empty; writes = map.empty; next = 0 } }
+    {
+        BareStore {
+            alloc,
+            slots: Slots::new(alloc, seed),
+            drafts: Drafts::new(alloc, seed),
+        }
+    }
+
+    /// An empty store whose next write has this number, so that the last numbers can be tried.
+    pub fn starting_at(alloc: Global, seed: Seed, next: u64) -> BareStore
+        ensures { result ≡ record { slots = map.empty; writes = map.empty; next = next } }
+    {
+        BareStore {
+            alloc,
+            slots: Slots::new(alloc, seed),
+            drafts: Drafts::starting_at(alloc, seed, next),
+        }
+    }
+
+    /// The sum of the lengths of the complete bodies, in bytes.
+    pub fn stored_bytes(&self) -> u128
+        ensures { result ≡ stored_bytes self.now }
+    {
+        self.slots.stored_bytes()
+    }
+
+    /// The number of complete bodies.
+    pub fn slots(&self) -> usize
+        ensures { result ≡ slots self.now }
+    {
+        self.slots.bodies()
+    }
+
+    /// The number of keys of a shard that have a complete body, or a write in flight that met no
+    /// removal. There are 16 shards, and the shard of a key is its combined hash as a number (high
+    /// byte first), modulo 16.
+    pub fn shard_slots(&self, shard: usize) -> usize
+        requires { shard < 16 }
+        ensures { result ≡ map.len (part_of 16 shard self.now.slots) }
+    {
+        self.slots.shard_len(shard)
+    }
+
+    /// The number of records of writes: those that a handler or a reader names.
+    pub fn write_records(&self) -> usize
+        ensures { result ≡ map.len self.now.writes }
+    {
+        self.drafts.len()
+    }
+
+    /// The number of records of the writes of a shard's keys. A record is kept in the shard of its
+    /// key.
+    pub fn shard_write_records(&self, shard: usize) -> usize
+        requires { shard < 16 }
+        ensures { result ≡ map.len (of_shard shard self.now.writes) }
+    {
+        self.drafts.shard_len(shard)
+    }
+
+    /// Whether the write with this number has a record, is of this key, and has a meta that names
+    /// it.
+    pub fn has_write(&self, key: &CacheKey, number: u64) -> bool
+        ensures { result ≡ is_write_under (slot key.now) number (map.get self.now.writes number) }
+    {
+        let slot = key.slot();
+        match self.drafts.get(slot, number) {
+            Some(draft) => {
+                draft.slot() == slot && draft.entry_id() == Some(CacheEntryId::new(number))
+            }
+            None => false,
+        }
+    }
+
+    /// The number of the write that stored the key's complete body, if there is one: the number of the body's entry.
+    pub fn body_number(&self, key: &CacheKey) -> Option<CacheEntryId>
+        ensures { result ≡ body_number self.now (slot key.now) }
+    {
+        self.slots.get(key.slot())?.entry_id()
+    }
+
+    /// The meta of what a look-up of the key finds, as it is kept: a copy of its bytes, which are not read. Fails only when
+    /// memory runs out, and then something is there.
+    pub fn spelled_meta(&self, alloc: Global, key: &CacheKey) -> Result<Option<SpelledMeta>>
+        ensures found { IfOk result (λ m.
+            m ≡ option_map (λ p. p.0) (find self.now (slot key.now))) }
+        ensures something { OnErr result (IsSome (find self.now (slot key.now))) }
+        ensures kind { IfErr result (λ e. e ≡ OutOfMemory) }
+    {
+        let slot = key.slot();
+        let Some(there) = self.slots.get(slot) else {
+            return Ok(None);
+        };
+        if let Some(number) = there.least() {
+            return self.spelled_of(alloc, slot, number);
+        }
+        let Some(body) = there.body() else {
+            return Ok(None);
+        };
+        Ok(Some(body.spelled(alloc)?))
+    }
+
+    // The meta of a write, as it is kept.
+    fn spelled_of(&self, alloc: Global, slot: u128, number: u64) -> Result<Option<SpelledMeta>>
+        ensures found { IfOk result (λ m.
+            m ≡ option_map (λ p. p.0) (found_part number (map.get self.now.writes number))) }
+        ensures something { OnErr result (IsSome (map.get self.now.writes number)) }
+        ensures kind { IfErr result (λ e. e ≡ OutOfMemory) }
+    {
+        let Some(draft) = self.drafts.get(slot, number) else {
+            return Ok(None);
+        };
+        Ok(Some(draft.spelled(alloc)?))
+    }
+
+    // The record of a write, which is in the shard of its key's slot.
+    pub(super) fn draft(&self, slot: u128, number: u64) -> Option<&Draft>
+        ensures { option_copied result ≡ map.get self.now.writes number }
+    {
+        self.drafts.get(slot, number)
+    }
+
+    // Gives one more reader of a write, from its beginning, with its meta. It names the slot of the write's record.
+    fn follow(
+        &mut self,
+        alloc: Global,
+        slot: u128,
+        number: u64,
+    ) -> Result<Option<(CacheMeta, MemHitHandler)>>
+        ensures found { IfOk result (λ r. option_map (λ p. (p.0, reader_of p.1)) r
+            ≡ found_part number (map.get self.old.writes number)) }
+        ensures slot { IfOk result (λ r. option_map (λ p. slot_named p.1) r
+            ≡ option_map (λ w. Some w.slot) (map.get self.old.writes number)) }
+        ensures ok { OnOk result (self.new ≡ joined self.old number) }
+        ensures something { OnErr result (IsSome (map.get self.old.writes number)) }
+        ensures kind { IfErr result (λ e. e ≡ OutOfMemory) }
+        ensures err { OnErr result (self.new ≡ self.old) }
+    {
+        match self.drafts.follow(alloc, slot, number) {
+            Ok(Some((meta, slot))) => {
+                let part = PartialHit::new(slot, number);
+                Ok(Some((meta, MemHitHandler::Partial(part))))
+            }
+            Ok(None) => Ok(None),
+            Err(refused) => Err(refused),
+        }
+    }
+
+    pub(super) fn leave(&mut self, slot: u128, number: u64)
+        ensures { self.new
+            ≡ record self.old {
+              writes = left_on self.old.writes number
+                  (map.get self.old.writes number);
+            } }
+    {
+        self.drafts.leave(slot, number);
+    }
+
+    pub(super) fn write(&mut self, slot: u128, number: u64, bytes: Bytes, eof: bool) -> Result<()>
+        ensures ok { OnOk result (self.new ≡ wrote self.old number bytes eof) }
+        ensures kind { IfErr result (λ e. e ≡ OutOfMemory) }
+        ensures err { OnErr result (self.new ≡ self.old) }
+    {
+        let alloc = self.alloc;
+        self.drafts.write(alloc, slot, number, bytes, eof)
+    }
+
+    pub(super) fn drop_write(&mut self, slot: u128, number: u64)
+        ensures { self.new ≡ dropped self.old number }
+    {
+        let Some(draft) = self.drafts.get(slot, number) else {
+            return;
+        };
+        let slot = draft.slot();
+        self.slots.shut(slot, number);
+        self.drafts.land(slot, number);
+    }
+
+    pub(super) fn finish(&mut self, slot: u128, number: u64) -> Result<MissFinishType>
+        ensures answer { IfOk result (λ f. f ≡ created self.old number) }
+        ensures ok { OnOk result (self.new ≡ finished self.old number) }
+        ensures untouched { OnOk result (is_untouched self.old number ≡ true) }
+        ensures kind { IfErr result (λ e. MayFailFinish self.old number e) }
+        ensures err { OnErr result (self.new ≡ dropped self.old number) }
+    {
+        let Some(draft) = self.drafts.get(slot, number) else {
+            return Err(Error::new(ErrorType::WriteRemoved));
+        };
+        let slot = draft.slot();
+        if !self.slots.is_untouched(slot, number) {
+            self.drop_write(slot, number);
+            return Err(Error::new(ErrorType::WriteRemoved));
+        }
+        let alloc = self.alloc;
+        match self.drafts.end(alloc, slot, number) {
+            Ok(body) => {
+                let size = body.len();
+                self.slots.store(slot, number, body);
+                Ok(MissFinishType::Created(size))
+            }
+            Err(refused) => {
+                self.slots.shut(slot, number);
+                Err(refused)
+            }
+        }
+    }
+}
+
+impl BareStore {
+    ghost use Rattle.pcache_store.specs.Purge.{entry_outcome, entry_purged};
+
+    // Removes what an entry names: everything of its key, or the write with its number.
+    fn purge_entry(&mut self, entry: &CacheEntryKey) -> PurgeOutcome
+        ensures answer { result ≡ entry_outcome true self.old entry.now }
+        ensures purged { self.new ≡ entry_purged true self.old entry.now }
+    {
+        let slot = entry.key().slot();
+        let Some(id) = entry.entry_id() else {
+            return match self.slots.remove(slot) {
+                Some(_) => PurgeOutcome::Purged(None),
+                None => PurgeOutcome::NotFound,
+            };
+        };
+        if self.slots.remove_write(slot, id) {
+            PurgeOutcome::Purged(Some(id))
+        } else {
+            PurgeOutcome::NotFound
+        }
+    }
+
+    /// The slot whose complete body an expiry is for, if the target names that body.
+    pub fn slot_to_expire(&self, target: PurgeTarget<'_>) -> Option<u128>
+        ensures { result ≡ slot_expired true self.now target.entry }
+    {
+        let entry = match target {
+            PurgeTarget::Active(key) => return Some(key.slot()),
+            PurgeTarget::Exact(entry) => entry,
+        };
+        let slot = entry.key().slot();
+        let Some(id) = entry.entry_id() else {
+            return Some(slot);
+        };
+        // A body that another write stored stays fresh.
+        if self.slots.has_body_of(slot, id) {
+            Some(slot)
+        } else {
+            None
+        }
+    }
+}
+
+// The number of the write that a tag names: its eight bytes, the high byte first. A tag of another length names no write.
+fn number_named_by(tag: Option<&[u8]>) -> Option<u64>
+    ensures { result ≡ named_by (option_copied tag.entry) }
+{
+    let Some(tag) = tag else {
+        return None;
+    };
+    match U64WriteId::try_from(tag) {
+        Ok(id) => Some(u64::from(id)),
+        Err(_) => None,
+    }
+}
+
+impl BareStore {
+    /// A reader of what is stored for a key, and its meta.
+    pub fn lookup(
+        &mut self,
+        alloc: Global,
+        key: &CacheKey,
+    ) -> Result<Option<(CacheMeta, MemHitHandler)>>
+        ensures found { IfOk result (λ r. option_map (λ p. (p.0, reader_of p.1)) r
+            ≡ find self.old (slot key.now)) }
+        ensures ok { OnOk result (self.new ≡ followed self.old (find self.old (slot key.now))) }
+        ensures something { OnErr result (IsSome (find self.old (slot key.now))) }
+        ensures kind { IfErr result (λ e. e ≡ OutOfMemory) }
+        ensures err { OnErr result (self.new ≡ self.old) }
+    {
+        let slot = key.slot();
+        let Some(held) = self.slots.get(slot) else {
+            return Ok(None);
+        };
+        if let Some(number) = held.least() {
+            return self.follow(alloc, slot, number);
+        }
+        let Some(body) = held.body() else {
+            return Ok(None);
+        };
+        let (meta, bytes) = body.shared(alloc)?;
+        let hit = CompleteHit::new(meta.entry_id(), bytes);
+        Ok(Some((meta, MemHitHandler::Complete(hit))))
+    }
+
+    /// A reader of the write that a tag names, if it is in flight and of the key, and its meta.
+    pub fn lookup_streaming_write(
+        &mut self,
+        alloc: Global,
+        key: &CacheKey,
+        streaming_write_tag: Option<&[u8]>,
+    ) -> Result<Option<(CacheMeta, MemHitHandler)>>
+        ensures found { IfOk result (λ r. option_map (λ p. (p.0, reader_of p.1)) r
+            ≡ find_write self.old (slot key.now)
+            (named_by (option_copied streaming_write_tag.entry))) }
+        ensures ok { OnOk result (self.new
+            ≡ followed self.old (find_write self.old (slot key.now)
+            (named_by (option_copied streaming_write_tag.entry)))) }
+        ensures something { OnErr result (IsSome (find_write self.old (slot key.now)
+            (named_by (option_copied streaming_write_tag.entry)))) }
+        ensures kind { IfErr result (λ e. e ≡ OutOfMemory) }
+        ensures err { OnErr result (self.new ≡ self.old) }
+    {
+        let Some(number) = number_named_by(streaming_write_tag) else {
+            return Ok(None);
+        };
+        let slot = key.slot();
+        let Some(draft) = self.drafts.get(slot, number) else {
+            return Ok(None);
+        };
+        // A write whose key was removed is joined too: the tag names this write, and not what the key has.
+        if !draft.is_flying() || draft.slot() != slot {
+            return Ok(None);
+        }
+        self.follow(alloc, slot, number)
+    }
+
+    /// Begins a write of a key.
+    pub fn get_miss_handler(
+        &mut self,
+        alloc: Global,
+        key: &CacheKey,
+        meta: &CacheMeta,
+    ) -> Result<MemMissHandler>
+        ensures write { IfOk result (λ m. m.number ≡ self.old.next) }
+        ensures ok { OnOk result (self.new ≡ begun self.old (slot key.now) meta.now) }
+        ensures numbers { OnOk result (self.old.next < 2 ^ 64) }
+        ensures kind { IfErr result (λ e. MayFailWrite self.old e) }
+        ensures err { OnErr result (self.new ≡ self.old) }
+    {
+        let Some(number) = self.drafts.next() else {
+            return Err(Error::new(ErrorType::NumbersExhausted));
+        };
+        let slot = key.slot();
+        let meta = SpelledMeta::with_entry_id(alloc, meta, Some(CacheEntryId::new(number)))?;
+        let draft = Draft::new(alloc, slot, meta);
+        self.drafts.begin(draft)?;
+        if let Err(refused) = self.slots.open(alloc, slot, number) {
+            self.drafts.take_back(slot, number);
+            return Err(refused);
+        }
+        Ok(MemMissHandler::new(slot, number))
+    }
+
+    /// Removes what a target names. Takes no memory.
+    pub fn purge(&mut self, target: PurgeTarget<'_>) -> PurgeOutcome
+        ensures answer { result ≡ target_outcome true self.old target.entry }
+        ensures purged { self.new ≡ target_purged true self.old target.entry }
+    {
+        match target {
+            PurgeTarget::Active(key) => match self.slots.remove(key.slot()) {
+                Some(id) => PurgeOutcome::Purged(id),
+                None => PurgeOutcome::NotFound,
+            },
+            PurgeTarget::Exact(entry) => self.purge_entry(entry),
+        }
+    }
+
+    /// Ends the freshness of a slot's complete body, and does nothing for no slot.
+    pub fn expire(&mut self, alloc: Global, slot: Option<u128>, now: Moment) -> Result<PurgeOutcome>
+        ensures answer { IfOk result (λ o. o ≡ expire_outcome self.old slot) }
+        ensures ok { OnOk result (self.new ≡ expired_at now self.old slot) }
+        ensures something { OnErr result (expire_outcome self.old slot ≡ Expired) }
+        ensures kind { IfErr result (λ e. e ≡ OutOfMemory) }
+        ensures err { OnErr result (self.new ≡ self.old) }
+    {
+        let Some(slot) = slot else {
+            return Ok(PurgeOutcome::NotFound);
+        };
+        if self.slots.expire(alloc, slot, now)? {
+            Ok(PurgeOutcome::Expired)
+        } else {
+            Ok(PurgeOutcome::NotFound)
+        }
+    }
+
+    /// Sets the meta of a key's complete body, and returns whether there is one.
+    pub fn update_meta(&mut self, alloc: Global, key: &CacheKey, meta: &CacheMeta) -> Result<bool>
+        ensures there { IfOk result (λ b.
+            b ≡ is_some (complete_body (map.get self.old.slots (slot key.now)))) }
+        ensures ok { OnOk result (self.new ≡ meta_set meta.now self.old (slot key.now)) }
+        ensures something { OnErr result (is_some
+            (complete_body (map.get self.old.slots (slot key.now)))
+            ≡ true) }
+        ensures kind { IfErr result (λ e. e ≡ OutOfMemory) }
+        ensures err { OnErr result (self.new ≡ self.old) }
+    {
+        let slot = key.slot();
+        let Some(body) = self.slots.body(slot) else {
+            return Ok(false);
+        };
+        let meta = SpelledMeta::with_entry_id(alloc, meta, body.entry_id())?;
+        Ok(self.slots.set_meta(slot, meta))
+    }
+}
