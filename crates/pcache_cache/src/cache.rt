@@ -43,6 +43,7 @@ pub struct Cache<M: EvictionManager, K> {
 }
 
 impl<M: EvictionManager, K> Model for Cache<M, K> {
+    ghost use Rattle.pcache_lock.specs.PastLaws.{UnlocksNone};
     ghost use Rattle.pcache_cache.specs.Parts.{Parts, IsKept};
     ghost use Rattle.pcache_cache.specs.PartsCode.{parts_code};
 
@@ -52,7 +53,7 @@ impl<M: EvictionManager, K> Model for Cache<M, K> {
 
     ghost view = { λ c. record { store = c.store.state; past = c.store.past; tracked = M.tracked c.manager; limits = M.limits c.manager; evicted = M.evicted c.manager; locks = c.lock.table; deeds = c.lock.past } };
 
-    ghost invariant = { λ c. IsKept (M.limits c.manager) (M.tracked c.manager) c.store.state };
+    ghost invariant = { λ c. IsKept (M.limits c.manager) (M.tracked c.manager) c.store.state × UnlocksNone c.lock.past };
 }
 
 impl<M: EvictionManager, K> Cache<M, K> {

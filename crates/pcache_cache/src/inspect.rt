@@ -4,7 +4,7 @@ use pcache_evict::eviction::EvictionManager;
 
 impl<M: EvictionManager, K> Cache<M, K> {
     ghost use Rattle.std.specs.Prelude.{◌≡◌};
-    ghost use Rattle.pcache_lock.specs.PastLaws.{AtMostOneWaits, GivesByPast, OneFetchAtATime, UnlocksNone};
+    ghost use Rattle.pcache_lock.specs.PastLaws.{AtMostOneWaits, GivesByPast, OneFetchAtATime};
     ghost use Rattle.pcache_store.specs.PastLaws.{BodiesAreLast, BodiesGrow, Finds, Finishes, FoundIsOfItsWrite, NothingIsLost, PurgedIsGone, ReadsInOrder};
     ghost use Rattle.pcache_cache.specs.Parts.{IsBounded, IsKept, TracksExactly};
 
@@ -29,8 +29,8 @@ impl<M: EvictionManager, K> Cache<M, K> {
     /// - `bounded`: the lengths of the complete bodies sum to at most the manager's limit, and their number is at most its
     ///   watermark.
     /// - `one`: at most one permit of a key waits: it was given, and not yet released, let go or found too old.
-    /// - `gives`: a request for a key's lock gets the permit exactly when none waits for that key. This is said of a cache in whose
-    ///   past no permit was unlocked while it was held, which no call of a cache does.
+    /// - `gives`: a request for a key's lock gets the permit exactly when none waits for that key, and else a read lock on the one
+    ///   that does.
     /// - `fetches`: one fetch at a time. Of two permits that were given for one key the first ended before the second was given.
     ///
     /// The call does nothing.
@@ -46,7 +46,7 @@ impl<M: EvictionManager, K> Cache<M, K> {
         ensures tracked { TracksExactly self.now.store self.now.tracked }
         ensures bounded { IsBounded self.now.limits self.now.store }
         ensures one { AtMostOneWaits self.now.deeds }
-        ensures gives { UnlocksNone self.now.deeds → GivesByPast self.now.locks self.now.deeds }
+        ensures gives { GivesByPast self.now.locks self.now.deeds }
         ensures fetches { OneFetchAtATime self.now.deeds }
     {
         self.store.headline();
