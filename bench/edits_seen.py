@@ -47,6 +47,7 @@ import time
 
 sys.path.insert(0, os.path.dirname(os.path.realpath(__file__)))
 import definitions_of  # noqa: E402
+import prove  # noqa: E402
 
 TOP = os.path.dirname(os.path.dirname(os.path.realpath(__file__)))
 
@@ -146,29 +147,12 @@ def link(old, new):
         shutil.copy2(old, new)
 
 
-def lines_below(crate):
-    """The lines of crates.txt for a crate and for the crates of this repository that it uses, directly or not, by crate."""
-    lines = {}
-    with open(f"{TOP}/crates.txt", encoding="utf-8") as it:
-        for line in it:
-            head = line.split("#")[0].partition(":")[0].split()
-            if head:
-                lines[head[0]] = line
-    found, left = {}, [crate]
-    while left:
-        name = left.pop()
-        if name in lines and name not in found:
-            found[name] = lines[name]
-            left += lines[name].partition(":")[2].split()
-    return found
-
-
 @contextlib.contextmanager
 def copy_of(crate):
     """A folder with the crate and those below it, with what was built of them: the crate's own folder there."""
     with tempfile.TemporaryDirectory(prefix="edits-seen-") as room:
         shutil.copy(f"{TOP}/HANDLES", room)
-        lines = lines_below(crate)
+        lines = prove.rows_below(crate)
         with open(f"{room}/crates.txt", "w", encoding="utf-8") as it:
             it.writelines(lines.values())
         for name in lines.keys() - {crate}:
@@ -302,6 +286,26 @@ def of_functions(crate, lines):
     return said
 
 
+def paths_meant(paths, place):
+    """Those of these paths by which the prover calls the function at a place. A method whose type stands in a module beside its own
+    is found by its type, with its trait, and its name alone."""
+    module, owner, name, trait = place
+    if name is None:
+        return []
+    exact = [it for it in paths if is_named(it, module, owner, name)]
+    return exact or [it for it in paths if owner and is_method(it, owner + trait, name)]
+
+
+def is_method(path, owner, name):
+    """Whether a path is that of a method of a type with this name, or of a closure inside it, in whatever module."""
+    parts = path.split("::")
+    closure = parts.index("fn") if "fn" in parts else len(parts)
+    for at in range(len(parts) - 1):
+        if parts[at : at + 2] == [owner, name]:
+            return at + 2 == len(parts) or at > closure
+    return False
+
+
 def is_named(path, module, owner, name):
     """Whether what the prover calls this path is the function: module::Type::name, with the trait's name after the type's where
     it stands in a trait's impl, or a closure inside it, module::fn::Type::name::... A method may stand in a module below that
@@ -328,10 +332,9 @@ def is_named_in(parts, ours, owner, name):
 def outcome(said, turned):
     """What was said of the functions that an edit turned: 'by itself', 'only below', 'proved', or None if there is no such function."""
     best = None
-    for module, owner, name, _ in turned:
-        for path, words in said.items():
-            if name is None or not is_named(path, module, owner, name):
-                continue
+    for place in turned:
+        for path in paths_meant(said, place):
+            words = said[path]
             if words.startswith(("no proof: it calls", "not proved; it calls")):
                 best = best or "only below"
             elif words.startswith("proved"):
@@ -421,13 +424,13 @@ def path_of(module, owner, name, trait):
 
 def paths_named(crate, place, folder):
     """The paths of the functions that the prover may mean by a function's name alone: it lists them if there are several."""
-    module, owner, name, _ = place
+    name = place[2]
     lines = said_by(["rt", "check", "--jobs", "1", "--only", name], folder)
     several = [it for it in lines if f"several functions are named `{name}`" in it]
     if not several:
         return [name]
     found = re.findall(rf"`{crate}::([^`]+)`", several[0])
-    return [it for it in found if is_named(it, module, owner, name)]
+    return paths_meant(found, place)
 
 
 def outcome_alone(crate, edit, seconds):
