@@ -9,7 +9,8 @@
   bench/edits_seen.py --named MINUTES [--lanes N] [NAME..]       those of bench/mistakes.txt, side by side, in so many minutes
 
 The gate tries the one file in must-fail/, and sees only that the edited crate as a whole is refused. This reads the files in
-wrong-bodies/ too, checks the edited text once for each file, in a copy, and looks for the function that each edit turns:
+wrong-bodies/ too, tries as many edits at once as turn functions of their own, in a copy, and looks for the function that each
+turns:
 
   by itself    a goal of this very function fails
   by callers   the function is still proved, but something that uses it is not, with this edit alone
@@ -66,20 +67,65 @@ class Edit:
             elif line.startswith("new:"):
                 self.pairs.append((path, old, line[len("new:") :].removeprefix(" ")))
 
-    def apply(self, folder):
-        """Changes the files below the folder, and answers the functions that it turns, as (module, type, function, trait)."""
+    def turn(self, folder, texts):
+        """Changes the texts of the files below the folder, of which some may be changed already, and answers the functions that it
+        turns, as (module, type, function, trait)."""
         turned = []
         for path, old, new in self.pairs:
-            with open(f"{folder}/{path}", encoding="utf-8") as it:
-                text = it.read()
+            if path not in texts:
+                with open(f"{folder}/{path}", encoding="utf-8") as it:
+                    texts[path] = it.read()
+            text = texts[path]
             if text.count(old) != 1:
                 raise SystemExit(f"{self.name}: the old text stands {text.count(old)} times in {path}: {old}")
             at = text.index(old)
-            text = text.replace(old, new)
+            texts[path] = text.replace(old, new)
+            turned.append(function_at(path, texts[path], at, at + len(new)))
+        return turned
+
+    def apply(self, folder):
+        """Changes the files below the folder, and answers the functions that it turns."""
+        texts = {}
+        turned = self.turn(folder, texts)
+        for path, text in texts.items():
             with open(f"{folder}/{path}", "w", encoding="utf-8") as it:
                 it.write(text)
-            turned.append(function_at(path, text, at, at + len(new)))
         return turned
+
+
+class Round:
+    """Edits of a crate that are checked together: each applies to what those before it made, and each turns functions of its own."""
+
+    def __init__(self, crate):
+        self.folder, self.texts, self.turned, self.edits = f"{TOP}/crates/{crate}", {}, set(), []
+
+    def takes(self, file, edit):
+        """Takes an edit in, if it fits."""
+        texts = dict(self.texts)
+        try:
+            turned = set(edit.turn(self.folder, texts))
+        except SystemExit:
+            return False
+        # one outside a function may change what any other shows
+        is_outside = any(it[2] is None for it in turned | self.turned)
+        if self.edits and (is_outside or turned & self.turned):
+            return False
+        self.texts, self.turned = texts, self.turned | turned
+        self.edits.append((file, edit))
+        return True
+
+
+def rounds_of(crate):
+    """The edits of a crate, with their files, in as few rounds as they fit into."""
+    found = []
+    for file in files_of(crate):
+        for edit in edits_in(f"{TOP}/crates/{crate}/{file}"):
+            if any(it.takes(file, edit) for it in found):
+                continue
+            found.append(Round(crate))
+            if not found[-1].takes(file, edit):
+                edit.turn(f"{TOP}/crates/{crate}", {})  # says why it does not apply
+    return [it.edits for it in found]
 
 
 def function_around(text, start, end):
@@ -576,12 +622,10 @@ def stamp_libraries():
 def main(names, keeps):
     bad = 0
     for crate in names:
-        files = files_of(crate)
         count, refused = 0, []
-        for file in files:
-            edits = edits_in(f"{TOP}/crates/{crate}/{file}")
-            _, said, turned = checked(crate, edits)
-            for edit, places in zip(edits, turned):
+        for tried in rounds_of(crate):
+            _, said, turned = checked(crate, [edit for _, edit in tried])
+            for (file, edit), places in zip(tried, turned):
                 seen = outcome(said, places)
                 if seen != "by itself":
                     seen = alone(crate, edit)
@@ -592,7 +636,7 @@ def main(names, keeps):
                     print(f"{crate}/{file}: {edit.name}: {seen}", flush=True)
             if keeps:
                 keep_verdicts(refused)
-        print(f"{crate}: {len(refused)} of {count} wrong bodies refused by themselves, {len(files)} file(s)", flush=True)
+        print(f"{crate}: {len(refused)} of {count} wrong bodies refused by themselves, {len(files_of(crate))} file(s)", flush=True)
         bad += count - len(refused)
     return 1 if bad else 0
 
