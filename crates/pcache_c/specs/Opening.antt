@@ -18,10 +18,12 @@ use Rattle.pcache_c.specs.declared.served.Served.{Served}
 abbrev pub new_cache : Listed → ℕ → Parts
 new_cache m age = record {
   store = record { slots = empty; writes = empty; next = 0 };
+  past = [];
   tracked = map_of m.entries;
   limits = m.limits;
   evicted = m.evicted;
   locks = no_locks age;
+  deeds = [];
 }
 
 -- a request of a key before its look-up

@@ -55,13 +55,13 @@ KeepsFound o p = (p.found ≡ o.found) × (p.piece ≡ o.piece) × (p.next_byte 
 
 -- of the cache, all but its store and its locks, or one of these, is as it was
 abbrev pub KeepsManager : Parts → Parts → Type 0
-KeepsManager c d = d ≡ record c { store = d.store; locks = d.locks }
+KeepsManager c d = d ≡ record c { store = d.store; past = d.past; locks = d.locks; deeds = d.deeds }
 
 abbrev pub KeepsButStore : Parts → Parts → Type 0
-KeepsButStore c d = d ≡ record c { store = d.store }
+KeepsButStore c d = d ≡ record c { store = d.store; past = d.past }
 
 abbrev pub KeepsButLocks : Parts → Parts → Type 0
-KeepsButLocks c d = d ≡ record c { locks = d.locks }
+KeepsButLocks c d = d ≡ record c { locks = d.locks; deeds = d.deeds }
 
 -- the pair that a look-up found
 abbrev pub pair_found : Open → Option (Meta × Reader)
@@ -129,7 +129,8 @@ Takes status now c d o p code = Outcome (MayLookUp o.request.cache.phase) (OnPai
 -- what a look-up found is let go
 
 pub record LetsGo (h : Reader) (c d : Parts) (o p : Open) : Type 0 where
-  pub parts : d ≡ record c { store = left c.store h }
+  pub store : d.store ≡ left c.store h
+  pub parts : KeepsButStore c d
   pub request : p ≡ record o { found = None }
 
 abbrev pub Passes : Parts → Parts → Open → Open → ℕ → Type 0

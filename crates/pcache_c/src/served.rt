@@ -3,7 +3,7 @@ ghost use Rattle.std.specs.Prelude.{◌≡◌, ℕ, None, option_map};
 ghost use Rattle.std.specs.Duration.{as_nanos};
 ghost use Rattle.pcache_store.specs.Readers.{reader_of};
 ghost use Rattle.pcache_c.specs.Opening.{EndsNumber, EndsRequest, IsNew, OpensRequest, new_cache};
-ghost use Rattle.pcache_c.specs.Requests.{left_found};
+ghost use Rattle.pcache_c.specs.Requests.{KeepsButStore, left_found};
 ghost use Rattle.pcache_c.specs.Seats.{request_at};
 
 use crate::codes::{BAD_HANDLE, NO_MEMORY, OK};
@@ -53,11 +53,9 @@ impl Open {
 
 /// Lets go what a look-up found.
 pub(crate) fn let_go(cache: &mut ListCache, found: Option<(CacheMeta, MemHitHandler)>)
-    ensures { cache.new
-        ≡ record cache.old {
-          store = left_found (option_map (λ q. (q.0, reader_of q.1)) found)
-              cache.old.store;
-        } }
+    ensures store { cache.new.store
+        ≡ left_found (option_map (λ q. (q.0, reader_of q.1)) found) cache.old.store }
+    ensures rest { KeepsButStore cache.old cache.new }
 {
     if let Some((_meta, hit)) = found {
         cache.let_go(hit);

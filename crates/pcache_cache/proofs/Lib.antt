@@ -4,3 +4,4 @@ pub mod Kept
 pub mod Ended
 pub mod Own
 pub mod Fed
+pub mod Unlocking

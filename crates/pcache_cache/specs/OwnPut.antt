@@ -5,6 +5,8 @@ use Rattle.pcache_base.specs.declared.reason.NoCacheReason.{NoCacheReason}
 use Rattle.pcache_cache.specs.Parts.{Parts, is_own_write}
 use Rattle.pcache_base.specs.Key.{slot}
 use Rattle.pcache_evict.specs.Tracked.{Evicted, Tracked}
+use Rattle.pcache_request.specs.StorePasts.{Past}
+use Rattle.pcache_put_ctx.specs.Pasts.{past_after, past_left}
 use Rattle.pcache_put_ctx.specs.State.{Put, write_in}
 use Rattle.pcache_put_ctx.specs.Steps.{Done, EndsPut, evicted_ended, stage_begun, store_after, store_left, tracked_before_put}
 use Rattle.pcache_put_ctx.specs.declared.report.PutEnd.{PutEnd}
@@ -20,6 +22,10 @@ MayEndPut s p = is_own_write s (Some p.key) (write_in p.stage) ≡ true
 -- failed
 abbrev pub store_put : {C : Type 0} → Put C → Done → Result (Option NoCacheReason) ErrorType → Store → Store
 store_put p d answered s = store_left answered (stage_begun p.stage d.began s.next (Some s.next)) (store_after p.key p.stage d.began d.wrote (Some s.next) s)
+
+-- what that adds to the store's past
+abbrev pub put_past : {C : Type 0} → Put C → Done → Result (Option NoCacheReason) ErrorType → Store → Past → Past
+put_past p d answered s past = past_left answered (stage_begun p.stage d.began s.next (Some s.next)) (past_after p.key p.stage d.began d.wrote (Some s.next) s past)
 
 -- what is tracked when a put that ended so has its entry admitted: if its body was stored, without the entry of the body that it
 -- replaced

@@ -5,22 +5,34 @@ use Rattle.pcache_base.specs.Key.{Key, slot}
 use Rattle.pcache_evict.specs.Entry.{id_of}
 use Rattle.pcache_evict.specs.Tracked.{Tracked, Limits, Evicted}
 use Rattle.pcache_evict.specs.declared.eviction.entry_key.CacheEntryKey.{CacheEntryKey}
+use Rattle.pcache_lock.specs.Deeds.{Deed}
 use Rattle.pcache_lock.specs.Locks.{Locks}
 use Rattle.pcache_request.specs.Finishing.{entry_slot}
 use Rattle.pcache_request.specs.Replacing.{tracked_before_end}
 use Rattle.pcache_request.specs.Requests.{Request}
+use Rattle.pcache_request.specs.StorePasts.{Past}
 use Rattle.pcache_request.specs.declared.cache.finish.WriteEnd.{WriteEnd}
 use Rattle.pcache_store.specs.Finishes.{body_number}
+use Rattle.pcache_store.specs.Past.{Note, Wrote}
+use Rattle.pcache_store.specs.Notes.{noted}
 use Rattle.pcache_store.specs.Store.{Store, Stored, complete_body, is_told, is_write_under, wrote}
 use Rattle.pcache_store.specs.Totals.{stored_bytes, slots}
 
 pub record Parts : Type 0 where
   pub store : Store
+  -- what was done to the store, the newest first
+  pub past : List Note
   -- what the manager tracks, its limits, and the totals of what it evicted
   pub tracked : Tracked
   pub limits : Limits
   pub evicted : Evicted
   pub locks : Locks
+  -- what was done to the lock table, the newest first
+  pub deeds : List Deed
+
+-- a call adds this to a past
+abbrev pub Adds : {A : Type 0} → (Option (List A) → Option (List A)) → List A → List A → Type 0
+Adds noted old new = Some new ≡ noted (Some old)
 
 -- each key with a complete body has an entry of its own, with the number of the write that stored the body, tracked with
 -- exactly the body's length
@@ -58,6 +70,11 @@ takes_bytes s (Some w) = not (is_told (get s.writes w))
 abbrev pub written_by : Option ℕ → List ℕ → Bool → Store → Store
 written_by None bytes eof s = s
 written_by (Some w) bytes eof s = cond (is_told (get s.writes w)) s (wrote s w bytes eof)
+
+-- what that adds to the store's past
+abbrev pub written_past : Store → Option ℕ → List ℕ → Bool → Past → Past
+written_past s None bytes eof p = p
+written_past s (Some w) bytes eof p = cond (is_told (get s.writes w)) p (noted (Some (Wrote w bytes eof)) p)
 
 -- the number of the body that the end of a write of this key replaces, if one is complete
 abbrev pub replaced_in : Store → Option Key → Option ℕ

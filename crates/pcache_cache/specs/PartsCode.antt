@@ -4,16 +4,16 @@ use Rattle.std.specs.Coded.{Coded, code_by, coded×, coded_ℕ, coded_option}
 use Rattle.std.specs.FinMap.{code}
 use Rattle.pcache_evict.specs.Tracked.{Tracked}
 use Rattle.pcache_evict.specs.contracts.eviction.entry_key.CacheEntryKey as key_row
-use Rattle.pcache_lock.specs.Locks.{Locks}
-use Rattle.pcache_lock.specs.LocksCode.{locks_code}
-use Rattle.pcache_store.specs.Store.{Store}
-use Rattle.pcache_store.specs.StoreCode.{store_code}
+use Rattle.pcache_lock.specs.Past.{Known as KnownLocks}
+use Rattle.pcache_lock.specs.PastCode.{known_code as known_locks}
+use Rattle.pcache_store.specs.Notes.{Known as KnownStore}
+use Rattle.pcache_store.specs.NotesCode.{known_code as known_store}
 use Rattle.pcache_cache.specs.Parts.{Parts}
 
 abbrev pub parts_code : Coded Parts
 parts_code =
-    code_by (Store × (Tracked × ((ℕ × Option ℕ) × ((ℕ × ℕ) × Locks))))
-    (coded× store_code (coded× (code key_row.the_row.coded coded_ℕ) (coded× (coded× coded_ℕ (coded_option coded_ℕ)) (coded× (coded× coded_ℕ coded_ℕ) locks_code))))
-    (λ p. (p.store, (p.tracked, ((p.limits.weight, p.limits.watermark), ((p.evicted.weight, p.evicted.count), p.locks)))))
-    (λ q. record { store = q.0; tracked = q.1.0; limits = record { weight = q.1.1.0.0; watermark = q.1.1.0.1 }; evicted = record { weight = q.1.1.1.0.0; count = q.1.1.1.0.1 }; locks = q.1.1.1.1 })
+    code_by (KnownStore × (Tracked × ((ℕ × Option ℕ) × ((ℕ × ℕ) × KnownLocks))))
+    (coded× known_store (coded× (code key_row.the_row.coded coded_ℕ) (coded× (coded× coded_ℕ (coded_option coded_ℕ)) (coded× (coded× coded_ℕ coded_ℕ) known_locks))))
+    (λ p. (record { state = p.store; past = p.past }, (p.tracked, ((p.limits.weight, p.limits.watermark), ((p.evicted.weight, p.evicted.count), record { table = p.locks; past = p.deeds })))))
+    (λ q. record { store = q.0.state; past = q.0.past; tracked = q.1.0; limits = record { weight = q.1.1.0.0; watermark = q.1.1.0.1 }; evicted = record { weight = q.1.1.1.0.0; count = q.1.1.1.0.1 }; locks = q.1.1.1.1.table; deeds = q.1.1.1.1.past })
     (λ _. refl)

@@ -43,6 +43,7 @@ pub struct Cache<M: EvictionManager, K> {
 }
 
 impl<M: EvictionManager, K> Model for Cache<M, K> {
+    ghost use Rattle.pcache_lock.specs.PastLaws.{UnlocksNone};
     ghost use Rattle.pcache_cache.specs.Parts.{Parts, IsKept};
     ghost use Rattle.pcache_cache.specs.PartsCode.{parts_code};
 
@@ -50,13 +51,13 @@ impl<M: EvictionManager, K> Model for Cache<M, K> {
 
     ghost coded = { parts_code };
 
-    ghost view = { λ c. record { store = c.store.state; tracked = M.tracked c.manager; limits = M.limits c.manager; evicted = M.evicted c.manager; locks = c.lock.table } };
+    ghost view = { λ c. record { store = c.store.state; past = c.store.past; tracked = M.tracked c.manager; limits = M.limits c.manager; evicted = M.evicted c.manager; locks = c.lock.table; deeds = c.lock.past } };
 
-    ghost invariant = { λ c. IsKept (M.limits c.manager) (M.tracked c.manager) c.store.state };
+    ghost invariant = { λ c. IsKept (M.limits c.manager) (M.tracked c.manager) c.store.state × UnlocksNone c.lock.past };
 }
 
 impl<M: EvictionManager, K> Cache<M, K> {
-    ghost use Rattle.std.specs.Prelude.{◌≡◌, ◌≤◌, ◌-◌, ◌^◌, ◌↔◌, IfSome, IsTrue, min};
+    ghost use Rattle.std.specs.Prelude.{[], ◌≡◌, ◌≤◌, ◌-◌, ◌^◌, ◌↔◌, IfSome, IsTrue, min};
     ghost use Rattle.std.specs.Duration.{as_nanos};
     ghost use Rattle.pcache_evict.specs.Tracked.{weight};
     ghost use Rattle.pcache_lock.specs.Locks.{no_locks};
@@ -69,10 +70,12 @@ impl<M: EvictionManager, K> Cache<M, K> {
         ensures { result
             ≡ record {
               store = record { slots = map.empty; writes = map.empty; next = 0 };
+              past = [];
               tracked = M.tracked manager;
               limits = M.limits manager;
               evicted = M.evicted manager;
               locks = no_locks (as_nanos age_timeout);
+              deeds = [];
             } }
     {
         Cache {

@@ -1,7 +1,9 @@
 //! Puts: their pieces and their end.
 ghost use Rattle.std.specs.Prelude.{◌≡◌, Some, IfErr, option_map};
 ghost use Rattle.pcache_request.specs.Requests.{dropped_by};
-ghost use Rattle.pcache_cache.specs.OwnPut.{MayEndPut, store_put};
+ghost use Rattle.pcache_request.specs.StorePasts.{dropped_past};
+ghost use Rattle.pcache_cache.specs.OwnPut.{MayEndPut, put_past, store_put};
+ghost use Rattle.pcache_cache.specs.Parts.{Adds};
 ghost use Rattle.pcache_put_ctx.specs.Readings.{IsReadAt, MayFailOnceRead, StoresPiece};
 ghost use Rattle.pcache_put_ctx.specs.Steps.{Done, RepeatsResult, IsStageAfter};
 
@@ -27,7 +29,11 @@ impl<M: EvictionManager, K> Cache<M, K> {
     ghost use Rattle.pcache_put_ctx.specs.Steps.{Done, EndsAs, MayFailPiece, RepeatsResult, IsStageAfter, TakesPiece, TellsResult, stage_ended};
     ghost use Rattle.pcache_request.specs.NoBody.{LeavesNone};
     ghost use Rattle.pcache_request.specs.Requests.{dropped_by};
-    ghost use Rattle.pcache_cache.specs.OwnPut.{EndsOwnPut, MayEndPut, evicted_put, store_put};
+    ghost use Rattle.pcache_request.specs.StorePasts.{dropped_past};
+    ghost use Rattle.pcache_put_ctx.specs.Pasts.{EndsPutPast};
+    ghost use Rattle.pcache_store.specs.Readers.{in_memory};
+    ghost use Rattle.pcache_cache.specs.OwnPut.{EndsOwnPut, MayEndPut, evicted_put, put_past, store_put};
+    ghost use Rattle.pcache_cache.specs.Parts.{Adds};
 
     /// Whether a put may end here: it has no write, or one of this cache and of its own key. This holds of each put whose pieces
     /// all came here.
@@ -52,13 +58,15 @@ impl<M: EvictionManager, K> Cache<M, K> {
         ensures step { (d : Done)
             × TakesPiece (C.says put.old.put.policy) put.old.put put.new.put
             (record { bytes = piece.now; now = now }) d
-            × (self.new.store ≡ store_put put.old.put d result self.old.store) }
+            × (self.new.store ≡ store_put put.old.put d result self.old.store)
+            × Adds (put_past put.old.put d result self.old.store) self.old.past self.new.past }
         ensures stands { IsStageAfter result put.new.put.stage }
         ensures again { RepeatsResult put.old.put.stage result }
         ensures kind { IfErr result (λ e.
             MayFailPiece put.old.put.stage self.old.store e ⊎ (put.old.put.parser ≡ HasFailed e)) }
         ensures own { MayEndPut self.old.store put.old.put → MayEndPut self.new.store put.new.put }
-        ensures rest { self.new ≡ record self.old { store = self.new.store } }
+        ensures rest { self.new
+            ≡ record self.old { store = self.new.store; past = self.new.past } }
     {
         let read = put.put.read_piece(piece, now);
         self.store_piece(put, read)
@@ -74,12 +82,14 @@ impl<M: EvictionManager, K> Cache<M, K> {
         requires at { IsReadAt put.old.put.stage read }
         ensures step { (d : Done)
             × StoresPiece (C.says put.old.put.policy) put.old.put put.new.put read d
-            × (self.new.store ≡ store_put put.old.put d result self.old.store) }
+            × (self.new.store ≡ store_put put.old.put d result self.old.store)
+            × Adds (put_past put.old.put d result self.old.store) self.old.past self.new.past }
         ensures stands { IsStageAfter result put.new.put.stage }
         ensures again { RepeatsResult put.old.put.stage result }
         ensures kind { IfErr result (MayFailOnceRead put.old.put.stage self.old.store read) }
         ensures own { MayEndPut self.old.store put.old.put → MayEndPut self.new.store put.new.put }
-        ensures rest { self.new ≡ record self.old { store = self.new.store } }
+        ensures rest { self.new
+            ≡ record self.old { store = self.new.store; past = self.new.past } }
     {
         store_in(&mut put.put, read, &mut self.store)
     }
@@ -91,6 +101,8 @@ impl<M: EvictionManager, K> Cache<M, K> {
     pub fn finish_put<C: CachePut>(&mut self, put: &mut PendingPut<C, K>) -> Result<PutOutcome>
         requires own { MayEndPut self.old.store put.old.put }
         ensures ends { EndsAs result (λ end. EndsOwnPut put.old.put end self.old self.new) }
+        ensures past { EndsAs result (λ end. EndsPutPast in_memory put.old.put.key put.old.put.stage
+            end (Some self.old.past) (Some self.new.past)) }
         ensures evicted { EndsAs result (λ end.
             self.new.evicted ≡ evicted_put put.old.put end self.old) }
         ensures stage { EndsAs result (λ end. put.new.put.stage ≡ stage_ended end) }
@@ -102,6 +114,7 @@ impl<M: EvictionManager, K> Cache<M, K> {
             (write_in put.old.put.stage) self.old.store self.new.store) }
         ensures limits { self.new.limits ≡ self.old.limits }
         ensures locks { self.new.locks ≡ self.old.locks }
+        ensures deeds { self.new.deeds ≡ self.old.deeds }
     {
         // For the prover: the contract of the call says that the entry of the write has the write's
         // number.
@@ -114,7 +127,9 @@ impl<M: EvictionManager, K> Cache<M, K> {
     /// Ends the put, and drops a write that is still in flight.
     pub fn end_put<C: CachePut>(&mut self, put: PendingPut<C, K>)
         ensures store { self.new.store ≡ dropped_by (write_in put.put.stage) self.old.store }
-        ensures rest { self.new ≡ record self.old { store = self.new.store } }
+        ensures past { Adds (dropped_past (write_in put.put.stage)) self.old.past self.new.past }
+        ensures rest { self.new
+            ≡ record self.old { store = self.new.store; past = self.new.past } }
     {
         self.drop_left(put.into_left());
     }
@@ -122,7 +137,9 @@ impl<M: EvictionManager, K> Cache<M, K> {
     /// Drops the write that an ended put left in flight, if there is one.
     pub fn drop_left(&mut self, left: LeftWrite<K>)
         ensures store { self.new.store ≡ dropped_by left self.old.store }
-        ensures rest { self.new ≡ record self.old { store = self.new.store } }
+        ensures past { Adds (dropped_past left) self.old.past self.new.past }
+        ensures rest { self.new
+            ≡ record self.old { store = self.new.store; past = self.new.past } }
     {
         drop_writer(&mut self.store, left.into_writer());
     }
@@ -137,7 +154,8 @@ fn store_in<C: CachePut>(
     requires at { IsReadAt put.old.stage read }
     ensures step { (d : Done)
         × StoresPiece (C.says put.old.policy) put.old put.new read d
-        × (store.new.state ≡ store_put put.old d result store.old.state) }
+        × (store.new.state ≡ store_put put.old d result store.old.state)
+        × Adds (put_past put.old d result store.old.state) store.old.past store.new.past }
     ensures stands { IsStageAfter result put.new.stage }
     ensures again { RepeatsResult put.old.stage result }
     ensures kind { IfErr result (MayFailOnceRead put.old.stage store.old.state read) }
@@ -160,7 +178,10 @@ fn store_in<C: CachePut>(
 
 // Drops a write, if there is one.
 fn drop_writer(store: &mut MemCache, writer: Option<MemMissHandler>)
-    ensures { store.new.state ≡ dropped_by (option_map (λ w. w.number) writer) store.old.state }
+    ensures store { store.new.state
+        ≡ dropped_by (option_map (λ w. w.number) writer) store.old.state }
+    ensures past { Adds (dropped_past (option_map (λ w. w.number) writer)) store.old.past
+        store.new.past }
 {
     if let Some(writer) = writer {
         writer.drop_write(store);

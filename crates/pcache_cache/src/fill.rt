@@ -12,18 +12,20 @@ use pcache_store::memory::MemCache;
 use pcache_store::storage::HandleMiss;
 
 impl<M: EvictionManager, K> Cache<M, K> {
-    ghost use Rattle.std.specs.Prelude.{◌≡◌, ◌⊎◌, true, IfOk, IfErr, IsSome, OnOk, OnErr};
+    ghost use Rattle.std.specs.Prelude.{◌≡◌, ◌⊎◌, true, IfOk, IfErr, IsSome, OnOk, OnErr, Some};
     ghost use Rattle.pcache_base.specs.declared.error.ErrorType.TheVariants.{OutOfMemory};
     ghost use Rattle.pcache_lock.specs.declared.lock.status.LockStatus.TheVariants.{Done};
     ghost use Rattle.pcache_request.specs.Finishing.{after_finish};
     ghost use Rattle.pcache_request.specs.NoBody.{LeavesNone};
     ghost use Rattle.pcache_request.specs.Phases.{IsFilling};
     ghost use Rattle.pcache_request.specs.Requests.{FailsToBegin, MayWrite, begin_followed, settled, store_begun, write_begun};
+    ghost use Rattle.pcache_request.specs.LockPasts.{end_deeds, settled_deeds};
+    ghost use Rattle.pcache_request.specs.StorePasts.{EndsRequestPast, begun_past, writing_past};
     ghost use Rattle.pcache_request.specs.WriteEnds.{Ends, EndsAs, evicted_after, finishes_of};
     ghost use Rattle.pcache_store.specs.Finishes.{created};
     ghost use Rattle.pcache_store.specs.Readers.{in_memory};
     ghost use Rattle.pcache_store.specs.Refusals.{MayFailWrite};
-    ghost use Rattle.pcache_cache.specs.Parts.{MayEnd, takes_bytes, tracked_at_end, written_by};
+    ghost use Rattle.pcache_cache.specs.Parts.{Adds, MayEnd, takes_bytes, tracked_at_end, written_by, written_past};
 
     /// `HttpCache::set_miss_handler`: begins the write. Requires a phase in which a write may be made, a meta, and no write; ask
     /// `may_write` of the request.
@@ -33,10 +35,18 @@ impl<M: EvictionManager, K> Cache<M, K> {
             ≡ write_begun true true self.old.store request.old.cache) }
         ensures store { OnOk result (self.new.store
             ≡ store_begun true self.old.store request.old.cache) }
+        ensures past { OnOk result (Adds (writing_past true self.old.store request.old.cache)
+            self.old.past self.new.past) }
         ensures table { OnOk result (self.new.locks
             ≡ settled Done request.old.cache.held self.old.locks) }
+        ensures deeds { OnOk result
+            (Adds (settled_deeds Done request.old.cache.held) self.old.deeds self.new.deeds) }
         ensures err { IfErr result (λ e. FailsToBegin true self.old.store self.old.locks
             request.old.cache e self.new.store self.new.locks request.new.cache) }
+        ensures left_past { OnErr result ((self.new.past ≡ self.old.past)
+            ⊎ Adds (begun_past self.old.store request.old.cache) self.old.past self.new.past) }
+        ensures left_deeds { OnErr result ((self.new.deeds ≡ self.old.deeds)
+            ⊎ Adds (settled_deeds Done request.old.cache.held) self.old.deeds self.new.deeds) }
         ensures kind { IfErr result (λ e. (e ≡ OutOfMemory) ⊎ MayFailWrite self.old.store e) }
         ensures something { OnErr result ((self.new.store ≡ self.old.store)
             ⊎ IsSome (begin_followed self.old.store request.old.cache)) }
@@ -44,7 +54,12 @@ impl<M: EvictionManager, K> Cache<M, K> {
         ensures own { request.old.cache.uses.eviction ≡ true
             → OnOk result (MayEnd self.new.store request.new.cache) }
         ensures rest { self.new
-            ≡ record self.old { store = self.new.store; locks = self.new.locks } }
+            ≡ record self.old {
+              store = self.new.store;
+              past = self.new.past;
+              locks = self.new.locks;
+              deeds = self.new.deeds;
+            } }
     {
         // For the prover: the contract of the call says that a request which fills has a key.
         let _key = request.cache.key();
@@ -68,10 +83,14 @@ impl<M: EvictionManager, K> Cache<M, K> {
             b ≡ takes_bytes self.old.store request.old.cache.write) }
         ensures store { OnOk result (self.new.store
             ≡ written_by request.old.cache.write bytes eof self.old.store) }
+        ensures past { OnOk result (Adds
+            (written_past self.old.store request.old.cache.write bytes eof) self.old.past
+            self.new.past) }
         ensures same { OnErr result (self.new ≡ self.old) }
         ensures own { MayEnd self.old.store request.old.cache
             → MayEnd self.new.store request.new.cache }
-        ensures rest { self.new ≡ record self.old { store = self.new.store } }
+        ensures rest { self.new
+            ≡ record self.old { store = self.new.store; past = self.new.past } }
         ensures kind { IfErr result (λ e. e ≡ OutOfMemory) }
     {
         let Some(writer) = request.cache.miss_handler() else {
@@ -99,6 +118,11 @@ impl<M: EvictionManager, K> Cache<M, K> {
             self.old.limits end self.old.store self.new.store
             (tracked_at_end self.old request.old.cache end) self.new.tracked self.old.locks
             self.new.locks) }
+        ensures past { EndsAs result (λ end. EndsRequestPast in_memory request.old.cache.key
+            request.old.cache.write end (Some self.old.past) (Some self.new.past)) }
+        ensures deeds { EndsAs result (λ end. Adds
+            (end_deeds request.old.cache.write request.old.cache.held end) self.old.deeds
+            self.new.deeds) }
         ensures evicted { EndsAs result (λ end. self.new.evicted
             ≡ evicted_after request.old.cache request.old.cache.key
             (finishes_of (created self.old.store) request.old.cache.write)

@@ -4,7 +4,54 @@ use pcache_evict::eviction::EvictionManager;
 
 impl<M: EvictionManager, K> Cache<M, K> {
     ghost use Rattle.std.specs.Prelude.{◌≡◌};
-    ghost use Rattle.pcache_cache.specs.Parts.{IsKept};
+    ghost use Rattle.pcache_lock.specs.PastLaws.{AtMostOneWaits, GivesByPast, OneFetchAtATime};
+    ghost use Rattle.pcache_store.specs.PastLaws.{BodiesAreLast, BodiesGrow, Finds, Finishes, FoundIsOfItsWrite, NothingIsLost, PurgedIsGone, ReadsInOrder};
+    ghost use Rattle.pcache_cache.specs.Parts.{IsBounded, IsKept, TracksExactly};
+
+    /// What holds of each cache at all times, whichever calls failed: of its store by the list of all that was done to the store
+    /// (`past`), and of its locks by the list of all that was done to those (`deeds`). The contract of each call says what it added
+    /// to either. A removal is a purge of the key, or the eviction of the write's entry.
+    ///
+    /// - `finds`: a look-up finds a key exactly when a write of it, in flight or the one that was finished last, met no removal since
+    ///   it began.
+    /// - `finishes`: the end of a write in flight can store its body exactly when the write met no removal since it began.
+    /// - `purged`: after a purge of a key nothing whose write began before it is found under that key, and no such write can be
+    ///   finished.
+    /// - `kept`: a body that was finished is there, and its key is found, until its key is purged, its entry is removed, or a later
+    ///   write of the key is finished.
+    /// - `bodies`: a complete body is that of the write of its key that was finished last, with its meta and each change of it
+    ///   since.
+    /// - `found`: what is found has the meta and the number of its write.
+    /// - `reads`: a reader of a write is given all bytes of that write and of no other, in order and each once, and the end only
+    ///   when it was given all and no more can come.
+    /// - `grows`: what was written of a write stays as it is, and more bytes come after it.
+    /// - `tracked`: each complete body has an entry of its own in the manager, with exactly its length.
+    /// - `bounded`: the lengths of the complete bodies sum to at most the manager's limit, and their number is at most its
+    ///   watermark.
+    /// - `one`: at most one permit of a key waits: it was given, and not yet released, let go or found too old.
+    /// - `gives`: a request for a key's lock gets the permit exactly when none waits for that key, and else a read lock on the one
+    ///   that does.
+    /// - `fetches`: one fetch at a time. Of two permits that were given for one key the first ended before the second was given.
+    ///
+    /// The call does nothing.
+    pub fn headline(&self)
+        ensures finds { Finds self.now.store self.now.past }
+        ensures finishes { Finishes self.now.store self.now.past }
+        ensures purged { PurgedIsGone self.now.store self.now.past }
+        ensures kept { NothingIsLost self.now.store self.now.past }
+        ensures bodies { BodiesAreLast self.now.store self.now.past }
+        ensures found { FoundIsOfItsWrite self.now.store self.now.past }
+        ensures reads { ReadsInOrder self.now.store self.now.past }
+        ensures grows { BodiesGrow self.now.store self.now.past }
+        ensures tracked { TracksExactly self.now.store self.now.tracked }
+        ensures bounded { IsBounded self.now.limits self.now.store }
+        ensures one { AtMostOneWaits self.now.deeds }
+        ensures gives { GivesByPast self.now.locks self.now.deeds }
+        ensures fetches { OneFetchAtATime self.now.deeds }
+    {
+        self.store.headline();
+        self.lock.headline();
+    }
 
     /// The eviction manager, for its getters and for saving it.
     pub fn manager(&self) -> &M

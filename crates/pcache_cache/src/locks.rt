@@ -20,6 +20,8 @@ impl<M: EvictionManager, K> Cache<M, K> {
     ghost use Rattle.pcache_request.specs.Releasing.{MayRelease, status_for};
     ghost use Rattle.pcache_request.specs.Reports.{name_of, released_as};
     ghost use Rattle.pcache_request.specs.Requests.{settled};
+    ghost use Rattle.pcache_request.specs.LockPasts.{handed_deeds, published_deeds, settled_deeds, waited_deeds};
+    ghost use Rattle.pcache_cache.specs.Parts.{Adds};
 
     /// `HttpCache::cache_lock_wait`: whether the wait for the lock is over, and how it ended. Requires a read lock.
     pub fn cache_lock_wait(
@@ -34,13 +36,18 @@ impl<M: EvictionManager, K> Cache<M, K> {
             ≡ waited self.old.locks now request.old.cache.held request.old.cache) }
         ensures table { OnOk result (self.new.locks
             ≡ table_waited self.old.locks now request.old.cache.held request.old.cache) }
+        ensures deeds { OnOk result (Adds
+            (waited_deeds self.old.locks now request.old.cache.held request.old.cache)
+            self.old.deeds self.new.deeds) }
         ensures same_request { OnErr result (request.new.cache ≡ request.old.cache) }
         ensures same_table { OnErr result (self.new.locks ≡ self.old.locks) }
+        ensures same_deeds { OnErr result (self.new.deeds ≡ self.old.deeds) }
         ensures kind { IfErr result (λ e. e ≡ OutOfMemory) }
         ensures later { IfSome (read_in request.old.cache.held) (λ rd.
             IsSome rd.watch → IsOk result) }
         ensures unnamed { unusable_in request.old.cache.key ≡ None → IsOk result }
-        ensures rest { self.new ≡ record self.old { locks = self.new.locks } }
+        ensures rest { self.new
+            ≡ record self.old { locks = self.new.locks; deeds = self.new.deeds } }
     {
         request.cache.cache_lock_wait(&mut self.lock, now)
     }
@@ -55,9 +62,13 @@ impl<M: EvictionManager, K> Cache<M, K> {
         ensures request { request.new.cache ≡ unheld request.old.cache }
         ensures table { self.new.locks
             ≡ settled (status_for (λ text. GiveUp) reason) request.old.cache.held self.old.locks }
+        ensures deeds { Adds
+            (settled_deeds (status_for (λ text. GiveUp) reason) request.old.cache.held) self.old.deeds
+            self.new.deeds }
         ensures released { result
             ≡ option_map (released_as (status_for (λ text. GiveUp) reason)) request.old.cache.held }
-        ensures rest { self.new ≡ record self.old { locks = self.new.locks } }
+        ensures rest { self.new
+            ≡ record self.old { locks = self.new.locks; deeds = self.new.deeds } }
     {
         request.cache.release_write_lock(&mut self.lock, reason)
     }
@@ -72,8 +83,10 @@ impl<M: EvictionManager, K> Cache<M, K> {
         requires { IsOn request.old.cache.phase }
         ensures request { request.new.cache ≡ handed permit request.old.cache }
         ensures table { self.new.locks ≡ table_handed permit request.old.cache self.old.locks }
+        ensures deeds { Adds (handed_deeds permit request.old.cache) self.old.deeds self.new.deeds }
         ensures let_go { result ≡ option_map name_of (gone_for permit request.old.cache) }
-        ensures rest { self.new ≡ record self.old { locks = self.new.locks } }
+        ensures rest { self.new
+            ≡ record self.old { locks = self.new.locks; deeds = self.new.deeds } }
     {
         request.cache.set_write_lock(&mut self.lock, permit)
     }
@@ -89,11 +102,15 @@ impl<M: EvictionManager, K> Cache<M, K> {
             p ≡ option_map (λ w. name_of (Write w)) (permit_in request.now.cache.held)) }
         ensures table { OnOk result (self.new.locks
             ≡ published_by tokens.now request.now.cache.held self.old.locks) }
+        ensures deeds { OnOk result (Adds (published_deeds tokens.now request.now.cache.held)
+            self.old.deeds self.new.deeds) }
         ensures same_table { OnErr result (self.new.locks ≡ self.old.locks) }
+        ensures same_deeds { OnErr result (self.new.deeds ≡ self.old.deeds) }
         ensures kind { IfErr result (λ e. e ≡ OutOfMemory) }
         ensures clears { tokens.now ≡ [] → IsOk result }
         ensures none { permit_in request.now.cache.held ≡ None → IsOk result }
-        ensures rest { self.new ≡ record self.old { locks = self.new.locks } }
+        ensures rest { self.new
+            ≡ record self.old { locks = self.new.locks; deeds = self.new.deeds } }
     {
         request
             .cache

@@ -25,7 +25,11 @@ impl<M: EvictionManager, K> Cache<M, K> {
     ghost use Rattle.pcache_request.specs.Reports.{name_of};
     ghost use Rattle.pcache_request.specs.Requests.{HoldsNothing, asks_for_hit, counts_found, dropped_by, found_for, found_row, left_by, length_by, let_go_by, settled, store_found, table_found, tracked_found, whole_by, without_reader};
     ghost use Rattle.pcache_request.specs.Variants.{asks_unseen, hides_for, looked_for, searched, seen_for, table_looked_for};
+    ghost use Rattle.pcache_request.specs.LockPasts.{found_deeds, let_go_deeds, looked_deeds, looked_with_deeds, settled_deeds};
+    ghost use Rattle.pcache_request.specs.StorePasts.{dropped_past, left_past, looked_past, searched_past, taken_past};
+    ghost use Rattle.pcache_store.specs.Notes.{leave_noted, noted};
     ghost use Rattle.pcache_store.specs.Readers.{reader_of};
+    ghost use Rattle.pcache_cache.specs.Parts.{Adds};
     ghost use Rattle.pcache_store.specs.Store.{gives_piece, left, read_of, reader_after, write_read};
 
     /// `HttpCache::cache_lookup_without_policy`: returns what the store has for the request's key, a meta and a reader, unless
@@ -43,14 +47,22 @@ impl<M: EvictionManager, K> Cache<M, K> {
         ensures request { OnOk result (request.new.cache
             ≡ looked_for self.old.store self.old.locks request.old.cache) }
         ensures store { OnOk result (self.new.store ≡ searched self.old.store request.old.cache) }
+        ensures past { OnOk result
+            (Adds (searched_past self.old.store request.old.cache) self.old.past self.new.past) }
         ensures table { OnOk result (self.new.locks
             ≡ table_looked_for self.old.store now request.old.cache self.old.locks) }
+        ensures deeds { OnOk result (Adds
+            (looked_deeds self.old.store now self.old.locks request.old.cache) self.old.deeds
+            self.new.deeds) }
         ensures same_request { OnErr result (request.new.cache ≡ request.old.cache) }
         ensures left_store { OnErr result ((self.new.store ≡ self.old.store)
             ⊎ (self.new.store ≡ searched self.old.store request.old.cache)) }
+        ensures left_past { OnErr result ((self.new.past ≡ self.old.past)
+            ⊎ Adds (searched_past self.old.store request.old.cache) self.old.past self.new.past) }
         ensures same_store { OnErr result (hides_for self.old.store request.old.cache ≡ false
             → self.new.store ≡ self.old.store) }
         ensures same_table { OnErr result (self.new.locks ≡ self.old.locks) }
+        ensures same_deeds { OnErr result (self.new.deeds ≡ self.old.deeds) }
         ensures kind { IfErr result (λ e. MayFailLock self.old.locks e) }
         ensures numbers { IfErr result (λ e.
             e ≡ NumbersExhausted → IsTrue (asks_unseen self.old.store request.old.cache)) }
@@ -59,7 +71,12 @@ impl<M: EvictionManager, K> Cache<M, K> {
         ensures phase { OnOk result (request.new.cache.phase ≡ request.old.cache.phase) }
         ensures uses { OnOk result (request.new.cache.uses ≡ request.old.cache.uses) }
         ensures rest { self.new
-            ≡ record self.old { store = self.new.store; locks = self.new.locks } }
+            ≡ record self.old {
+              store = self.new.store;
+              past = self.new.past;
+              locks = self.new.locks;
+              deeds = self.new.deeds;
+            } }
     {
         request
             .cache
@@ -89,24 +106,38 @@ impl<M: EvictionManager, K> Cache<M, K> {
         ensures store { OnOk result (self.new.store
             ≡ store_looked_with (decision_taken self.old.store request.old.cache request.new.cache)
             request.old.cache self.old.store) }
+        ensures past { OnOk result (Adds
+            (looked_past (decision_taken self.old.store request.old.cache request.new.cache)
+            self.old.store request.old.cache) self.old.past self.new.past) }
         ensures table { OnOk result (self.new.locks
             ≡ table_looked_with (decision_taken self.old.store request.old.cache request.new.cache)
             self.old.store now request.old.cache self.old.locks) }
+        ensures deeds { OnOk result (Adds
+            (looked_with_deeds (decision_taken self.old.store request.old.cache request.new.cache)
+            self.old.store now self.old.locks request.old.cache) self.old.deeds self.new.deeds) }
         ensures decided { OnErr result (request.new.cache
             ≡ with_decision (decision_taken self.old.store request.old.cache request.new.cache)
             request.old.cache) }
         ensures left_store { OnErr result ((self.new.store ≡ self.old.store)
             ⊎ (self.new.store ≡ searched self.old.store request.old.cache)) }
+        ensures left_past { OnErr result ((self.new.past ≡ self.old.past)
+            ⊎ Adds (searched_past self.old.store request.old.cache) self.old.past self.new.past) }
         ensures same_store { OnErr result (hides_for self.old.store request.old.cache ≡ false
             → self.new.store ≡ self.old.store) }
         ensures same_table { OnErr result (self.new.locks ≡ self.old.locks) }
+        ensures same_deeds { OnErr result (self.new.deeds ≡ self.old.deeds) }
         ensures kind { IfErr result (λ e. MayFailLock self.old.locks e) }
         ensures numbers { IfErr result (λ e.
             e ≡ NumbersExhausted → IsTrue (asks_unseen self.old.store request.old.cache)) }
         ensures something { OnErr result (IsSome (found_for self.old.store request.old.cache.key)
             ⊎ IsTrue request.old.cache.uses.lock) }
         ensures rest { self.new
-            ≡ record self.old { store = self.new.store; locks = self.new.locks } }
+            ≡ record self.old {
+              store = self.new.store;
+              past = self.new.past;
+              locks = self.new.locks;
+              deeds = self.new.deeds;
+            } }
     {
         request
             .cache
@@ -128,14 +159,22 @@ impl<M: EvictionManager, K> Cache<M, K> {
             ≡ found_row status meta (reader_of hit) self.old.locks request.old.cache) }
         ensures store { OnOk result (self.new.store
             ≡ store_found status (reader_of hit) request.old.cache self.old.store) }
+        ensures past { OnOk result (Adds (taken_past status (reader_of hit) request.old.cache)
+            self.old.past self.new.past) }
         ensures table { OnOk result (self.new.locks
             ≡ table_found status now request.old.cache self.old.locks) }
+        ensures deeds { OnOk result (Adds
+            (found_deeds status now self.old.locks request.old.cache) self.old.deeds
+            self.new.deeds) }
         ensures tracked { OnOk result (self.new.tracked
             ≡ tracked_found status (reader_of hit) (write_read (reader_of hit)) request.old.cache
             self.old.tracked) }
         ensures same_request { OnErr result (request.new.cache ≡ request.old.cache) }
         ensures left_store { OnErr result (self.new.store ≡ left self.old.store (reader_of hit)) }
+        ensures left_past { OnErr result (Adds (noted (leave_noted (reader_of hit))) self.old.past
+            self.new.past) }
         ensures same_table { OnErr result (self.new.locks ≡ self.old.locks) }
+        ensures same_deeds { OnErr result (self.new.deeds ≡ self.old.deeds) }
         ensures noted { OnErr result ((self.new.tracked ≡ self.old.tracked)
             ⊎ (self.new.tracked
             ≡ tracked_found status (reader_of hit) (write_read (reader_of hit))
@@ -166,7 +205,10 @@ impl<M: EvictionManager, K> Cache<M, K> {
 
     /// Lets go of the reader that a look-up returned.
     pub fn let_go(&mut self, hit: MemHitHandler)
-        ensures { self.new ≡ record self.old { store = left self.old.store (reader_of hit) } }
+        ensures store { self.new.store ≡ left self.old.store (reader_of hit) }
+        ensures past { Adds (noted (leave_noted (reader_of hit))) self.old.past self.new.past }
+        ensures rest { self.new
+            ≡ record self.old { store = self.new.store; past = self.new.past } }
     {
         hit.let_go(&mut self.store);
     }
@@ -213,8 +255,10 @@ impl<M: EvictionManager, K> Cache<M, K> {
         requires { MayFinishHit request.old.cache.phase }
         ensures request { request.new.cache ≡ without_reader request.old.cache }
         ensures store { self.new.store ≡ left_by request.old.cache.reader self.old.store }
+        ensures past { Adds (left_past request.old.cache.reader) self.old.past self.new.past }
         ensures answer { IsOk result }
-        ensures rest { self.new ≡ record self.old { store = self.new.store } }
+        ensures rest { self.new
+            ≡ record self.old { store = self.new.store; past = self.new.past } }
     {
         request.cache.finish_hit_handler(&mut self.store)
     }
@@ -233,11 +277,22 @@ impl<M: EvictionManager, K> Cache<M, K> {
         ensures held { HoldsNothing request.new.cache }
         ensures store { self.new.store
             ≡ left_by request.old.cache.reader (dropped_by request.old.cache.write self.old.store) }
+        ensures past { Adds
+            (λ p. left_past request.old.cache.reader (dropped_past request.old.cache.write p))
+            self.old.past self.new.past }
         ensures table { self.new.locks
             ≡ settled (status_for (λ text. GiveUp) reason) request.old.cache.held self.old.locks }
+        ensures deeds { Adds
+            (settled_deeds (status_for (λ text. GiveUp) reason) request.old.cache.held) self.old.deeds
+            self.new.deeds }
         ensures released { result ≡ option_map name_of request.old.cache.held }
         ensures rest { self.new
-            ≡ record self.old { store = self.new.store; locks = self.new.locks } }
+            ≡ record self.old {
+              store = self.new.store;
+              past = self.new.past;
+              locks = self.new.locks;
+              deeds = self.new.deeds;
+            } }
     {
         request
             .cache
@@ -249,9 +304,17 @@ impl<M: EvictionManager, K> Cache<M, K> {
         ensures let_go { result ≡ option_map name_of request.cache.held }
         ensures store { self.new.store
             ≡ left_by request.cache.reader (dropped_by request.cache.write self.old.store) }
+        ensures past { Adds (λ p. left_past request.cache.reader (dropped_past request.cache.write p))
+            self.old.past self.new.past }
         ensures table { self.new.locks ≡ let_go_by request.cache.held self.old.locks }
+        ensures deeds { Adds (let_go_deeds request.cache.held) self.old.deeds self.new.deeds }
         ensures rest { self.new
-            ≡ record self.old { store = self.new.store; locks = self.new.locks } }
+            ≡ record self.old {
+              store = self.new.store;
+              past = self.new.past;
+              locks = self.new.locks;
+              deeds = self.new.deeds;
+            } }
     {
         request.into_cache().end(&mut self.store, &mut self.lock)
     }

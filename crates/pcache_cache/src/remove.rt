@@ -11,6 +11,8 @@ impl<M: EvictionManager, K> Cache<M, K> {
     ghost use Rattle.pcache_base.specs.declared.error.ErrorType.TheVariants.{OutOfMemory};
     ghost use Rattle.pcache_request.specs.Phases.{MayPurge, MaySpawnPurge};
     ghost use Rattle.pcache_request.specs.Requests.{is_removed_by, tracked_gone_for};
+    ghost use Rattle.pcache_request.specs.StorePasts.{expired_past, purged_past};
+    ghost use Rattle.pcache_cache.specs.Parts.{Adds};
     ghost use Rattle.pcache_store.specs.Purge.{expire_outcome, expired_at, purge_outcome, purged_at};
 
     /// `HttpCache::purge`: removes what is stored for the key, and its entry from the manager. Returns whether anything was
@@ -24,16 +26,20 @@ impl<M: EvictionManager, K> Cache<M, K> {
             (purge_outcome true self.old.store (option_map slot request.old.cache.key))) }
         ensures store { OnOk result (self.new.store
             ≡ purged_at self.old.store (option_map slot request.old.cache.key)) }
+        ensures past { OnOk result
+            (Adds (purged_past request.old.cache.key) self.old.past self.new.past) }
         ensures tracked { OnOk result (self.new.tracked
             ≡ tracked_gone_for request.old.cache.uses.eviction request.old.cache.key
             (purge_outcome true self.old.store (option_map slot request.old.cache.key))
             self.old.tracked) }
         ensures same_store { OnErr result (self.new.store ≡ self.old.store) }
+        ensures same_past { OnErr result (self.new.past ≡ self.old.past) }
         ensures same_tracked { OnErr result (self.new.tracked ≡ self.old.tracked) }
         ensures limits { self.new.limits ≡ self.old.limits }
         ensures evicted { self.new.evicted ≡ self.old.evicted }
         ensures kind { IfErr result (λ e. e ≡ OutOfMemory) }
         ensures locks { self.new.locks ≡ self.old.locks }
+        ensures deeds { self.new.deeds ≡ self.old.deeds }
     {
         request.cache.purge(&mut self.store, &mut self.manager)
     }
@@ -53,16 +59,20 @@ impl<M: EvictionManager, K> Cache<M, K> {
             (purge_outcome true self.old.store (option_map slot request.old.cache.key))) }
         ensures store { OnOk result (self.new.store
             ≡ purged_at self.old.store (option_map slot request.old.cache.key)) }
+        ensures past { OnOk result
+            (Adds (purged_past request.old.cache.key) self.old.past self.new.past) }
         ensures tracked { OnOk result (self.new.tracked
             ≡ tracked_gone_for request.old.cache.uses.eviction request.old.cache.key
             (purge_outcome true self.old.store (option_map slot request.old.cache.key))
             self.old.tracked) }
         ensures same_store { OnErr result (self.new.store ≡ self.old.store) }
+        ensures same_past { OnErr result (self.new.past ≡ self.old.past) }
         ensures same_tracked { OnErr result (self.new.tracked ≡ self.old.tracked) }
         ensures limits { self.new.limits ≡ self.old.limits }
         ensures evicted { self.new.evicted ≡ self.old.evicted }
         ensures kind { IfErr result (λ e. e ≡ OutOfMemory) }
         ensures locks { self.new.locks ≡ self.old.locks }
+        ensures deeds { self.new.deeds ≡ self.old.deeds }
     {
         request
             .cache
@@ -80,16 +90,20 @@ impl<M: EvictionManager, K> Cache<M, K> {
             (expire_outcome self.old.store (option_map slot request.old.cache.key))) }
         ensures store { OnOk result (self.new.store
             ≡ expired_at now self.old.store (option_map slot request.old.cache.key)) }
+        ensures past { OnOk result
+            (Adds (expired_past now request.old.cache.key) self.old.past self.new.past) }
         ensures tracked { OnOk result (self.new.tracked
             ≡ tracked_gone_for request.old.cache.uses.eviction request.old.cache.key
             (expire_outcome self.old.store (option_map slot request.old.cache.key))
             self.old.tracked) }
         ensures same_store { OnErr result (self.new.store ≡ self.old.store) }
+        ensures same_past { OnErr result (self.new.past ≡ self.old.past) }
         ensures same_tracked { OnErr result (self.new.tracked ≡ self.old.tracked) }
         ensures limits { self.new.limits ≡ self.old.limits }
         ensures evicted { self.new.evicted ≡ self.old.evicted }
         ensures kind { IfErr result (λ e. e ≡ OutOfMemory) }
         ensures locks { self.new.locks ≡ self.old.locks }
+        ensures deeds { self.new.deeds ≡ self.old.deeds }
     {
         request
             .cache

@@ -19,6 +19,9 @@ impl<M: EvictionManager, K> Cache<M, K> {
     ghost use Rattle.pcache_request.specs.Reports.{name_of};
     ghost use Rattle.pcache_request.specs.Requests.{MayWrite, settled};
     ghost use Rattle.pcache_request.specs.Stale.{MayRevalidate, uncacheable};
+    ghost use Rattle.pcache_request.specs.LockPasts.{settled_deeds, varied_deeds};
+    ghost use Rattle.pcache_request.specs.StorePasts.{renewed_past};
+    ghost use Rattle.pcache_cache.specs.Parts.{Adds};
     ghost use Rattle.pcache_request.specs.Variants.{released_by_variance, table_varied, varied};
 
     /// `HttpCache::revalidate_cache_meta`: takes the meta of a response that says that the stale body is still valid.
@@ -34,12 +37,21 @@ impl<M: EvictionManager, K> Cache<M, K> {
         ensures store { OnOk result (self.new.store
             ≡ with_meta_of (renewed_by meta request.old.cache.meta) request.old.cache.key
             self.old.store) }
+        ensures past { OnOk result
+            (Adds (renewed_past meta request.old.cache) self.old.past self.new.past) }
         ensures same_store { OnErr result (self.new.store ≡ self.old.store) }
+        ensures same_past { OnErr result (self.new.past ≡ self.old.past) }
         ensures something { OnErr result (IsTrue (has_body self.old.store request.old.cache.key)) }
         ensures kind { IfErr result (λ e. e ≡ OutOfMemory) }
         ensures table { self.new.locks ≡ settled Done request.old.cache.held self.old.locks }
+        ensures deeds { Adds (settled_deeds Done request.old.cache.held) self.old.deeds self.new.deeds }
         ensures rest { self.new
-            ≡ record self.old { store = self.new.store; locks = self.new.locks } }
+            ≡ record self.old {
+              store = self.new.store;
+              past = self.new.past;
+              locks = self.new.locks;
+              deeds = self.new.deeds;
+            } }
     {
         request
             .cache
@@ -61,8 +73,12 @@ impl<M: EvictionManager, K> Cache<M, K> {
         ensures request { request.new.cache ≡ uncacheable (shown header) reason request.old.cache }
         ensures table { self.new.locks
             ≡ settled (status_for (λ text. GiveUp) reason) request.old.cache.held self.old.locks }
+        ensures deeds { Adds
+            (settled_deeds (status_for (λ text. GiveUp) reason) request.old.cache.held) self.old.deeds
+            self.new.deeds }
         ensures released { result ≡ option_map name_of request.old.cache.held }
-        ensures rest { self.new ≡ record self.old { locks = self.new.locks } }
+        ensures rest { self.new
+            ≡ record self.old { locks = self.new.locks; deeds = self.new.deeds } }
     {
         request
             .cache
@@ -78,8 +94,10 @@ impl<M: EvictionManager, K> Cache<M, K> {
         requires { MayWrite request.old.cache }
         ensures request { request.new.cache ≡ varied variance request.old.cache }
         ensures table { self.new.locks ≡ table_varied variance request.old.cache self.old.locks }
+        ensures deeds { Adds (varied_deeds variance request.old.cache) self.old.deeds self.new.deeds }
         ensures released { result ≡ released_by_variance variance request.old.cache }
-        ensures rest { self.new ≡ record self.old { locks = self.new.locks } }
+        ensures rest { self.new
+            ≡ record self.old { locks = self.new.locks; deeds = self.new.deeds } }
     {
         request.cache.update_variance(&mut self.lock, variance)
     }

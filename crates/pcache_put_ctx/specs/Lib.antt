@@ -1,6 +1,7 @@
 pub mod Brought
 pub mod Endings
 pub mod Openings
+pub mod Pasts
 pub mod Policies
 pub mod Puts
 pub mod Readings

@@ -4,6 +4,7 @@
 //! `end`.
 ghost use Rattle.std.specs.Prelude.{◌≡◌, option_map};
 ghost use Rattle.pcache_request.specs.Requests.{dropped_by};
+ghost use Rattle.pcache_request.specs.StorePasts.{dropped_past};
 ghost use Rattle.pcache_base.specs.declared.error.ErrorType.TheVariants.{InternalError};
 ghost use Rattle.pcache_put_ctx.specs.Endings.{stage_left};
 
@@ -64,8 +65,10 @@ fn stand<M>(place: &mut Stage<M>, taken: Taken<M>) -> PieceReport<M>
 
 // Drops a write, if there is one.
 fn drop_writer<S: Storage>(storage: &mut S, writer: Option<S::Miss>)
-    ensures { S.state storage.new
+    ensures store { S.state storage.new
         ≡ dropped_by (option_map S.Miss.write writer) (S.state storage.old) }
+    ensures past { S.past storage.new
+        ≡ dropped_past (option_map S.Miss.write writer) (S.past storage.old) }
 {
     if let Some(writer) = writer {
         writer.drop_write(storage);
@@ -89,6 +92,8 @@ impl<C: CachePut, S: Storage> CachePutCtx<C, S> {
     ghost use Rattle.pcache_put.specs.Progress.{AtHead, HasFailed};
     ghost use Rattle.pcache_request.specs.NoBody.{HasNoBody, LeavesNone};
     ghost use Rattle.pcache_request.specs.Requests.{dropped_by};
+    ghost use Rattle.pcache_request.specs.StorePasts.{dropped_past};
+    ghost use Rattle.pcache_put_ctx.specs.Pasts.{EndsPutPast, past_at, past_left};
     ghost use Rattle.pcache_put_ctx.specs.Puts.{Piece, IsResult, and_piece};
     ghost use Rattle.pcache_put_ctx.specs.Readings.{BringsNothing, HasRead, IfUnread, IsBegunRead, IsReadAt, MayFailRead, MayFailOnceRead, ReadsPiece};
     ghost use Rattle.pcache_store.specs.Store.{Store};
@@ -168,13 +173,19 @@ impl<C: CachePut, S: Storage> CachePutCtx<C, S> {
             ≡ store_left result
             (stage_at S.guarantees.numbers (S.state storage.old) self.old.stage d.began)
             (store_at S.guarantees.numbers self.old.key self.old.stage d.began d.wrote
-            (S.state storage.old))) }
+            (S.state storage.old)))
+            × (S.past storage.new
+            ≡ past_left result
+            (stage_at S.guarantees.numbers (S.state storage.old) self.old.stage d.began)
+            (past_at S.guarantees.numbers self.old.key self.old.stage d.began d.wrote
+            (S.state storage.old) (S.past storage.old))) }
         ensures stands { IsStageAfter result self.new.stage }
         ensures again { RepeatsResult self.old.stage result }
         ensures ignored { HasWholeBody self.old.stage self.old.parser
             → (result ≡ Ok None)
             × (self.new.stage ≡ self.old.stage)
-            × (S.state storage.new ≡ S.state storage.old) }
+            × (S.state storage.new ≡ S.state storage.old)
+            × (S.past storage.new ≡ S.past storage.old) }
         ensures kind { IfErr result (λ e.
             MayFailPiece self.old.stage (S.state storage.old) e ⊎ (self.old.parser ≡ HasFailed e)) }
     {
@@ -204,6 +215,9 @@ impl<C: CachePut, S: Storage> CachePutCtx<C, S> {
         ensures store { S.state storage.new
             ≡ store_at S.guarantees.numbers self.old.key self.old.stage result.began result.wrote
             (S.state storage.old) }
+        ensures past { S.past storage.new
+            ≡ past_at S.guarantees.numbers self.old.key self.old.stage result.began result.wrote
+            (S.state storage.old) (S.past storage.old) }
         ensures began { BeginsAtHead self.old.stage result.began }
         ensures ends { EndsPiece S.Miss.write result.end
             (stage_at S.guarantees.numbers (S.state storage.old) self.old.stage result.began)
@@ -269,6 +283,9 @@ impl<C: CachePut, S: Storage> CachePutCtx<C, S> {
         ensures store { S.state storage.new
             ≡ store_at S.guarantees.numbers self.old.key self.old.stage result.began result.wrote
             (S.state storage.old) }
+        ensures past { S.past storage.new
+            ≡ past_at S.guarantees.numbers self.old.key self.old.stage result.began result.wrote
+            (S.state storage.old) (S.past storage.old) }
         ensures began { BeginsAtHead self.old.stage result.began }
         ensures ends { EndsPiece S.Miss.write result.end
             (stage_at S.guarantees.numbers (S.state storage.old) self.old.stage result.began)
@@ -324,6 +341,8 @@ impl<C: CachePut, S: Storage> CachePutCtx<C, S> {
             (S.finishes storage.old) (E.limits eviction.old) self.old.stage end
             (S.state storage.old) (S.state storage.new) (E.tracked eviction.old)
             (E.tracked eviction.new)) }
+        ensures past { EndsAs result (λ end. EndsPutPast S.guarantees self.old.key self.old.stage end
+            (S.past storage.old) (S.past storage.new)) }
         ensures evicted { EndsAs result (λ end. E.evicted eviction.new
             ≡ evicted_ended self.old.key (S.finishes storage.old) self.old.stage
             (E.tracked eviction.old) (E.evicted eviction.old) end) }
@@ -364,6 +383,8 @@ impl<C: CachePut, S: Storage> CachePutCtx<C, S> {
             (S.state storage.old) (S.state storage.new)
             (tracked_before_put self.old.key replaced end (E.tracked eviction.old))
             (E.tracked eviction.new)) }
+        ensures past { EndsAs result (λ end. EndsPutPast S.guarantees self.old.key self.old.stage end
+            (S.past storage.old) (S.past storage.new)) }
         ensures evicted { EndsAs result (λ end. E.evicted eviction.new
             ≡ evicted_ended self.old.key (S.finishes storage.old) self.old.stage
             (tracked_before_put self.old.key replaced end (E.tracked eviction.old))
@@ -399,6 +420,8 @@ impl<C: CachePut, S: Storage> CachePutCtx<C, S> {
         ensures ends { EndsPut S.guarantees self.old.key self.old.parser (S.finishes storage.old)
             (E.limits eviction.old) self.old.stage result.end (S.state storage.old)
             (S.state storage.new) (E.tracked eviction.old) (E.tracked eviction.new) }
+        ensures past { EndsPutPast S.guarantees self.old.key self.old.stage result.end
+            (S.past storage.old) (S.past storage.new) }
         ensures entry { result.entry ≡ entry_reported self.old.key self.old.stage result.end }
         ensures evicted { E.evicted eviction.new
             ≡ evicted_ended self.old.key (S.finishes storage.old) self.old.stage
@@ -431,6 +454,8 @@ impl<C: CachePut, S: Storage> CachePutCtx<C, S> {
             (S.state storage.new)
             (tracked_before_put self.old.key replaced result.end (E.tracked eviction.old))
             (E.tracked eviction.new) }
+        ensures past { EndsPutPast S.guarantees self.old.key self.old.stage result.end
+            (S.past storage.old) (S.past storage.new) }
         ensures entry { result.entry ≡ entry_reported self.old.key self.old.stage result.end }
         ensures evicted { E.evicted eviction.new
             ≡ evicted_ended self.old.key (S.finishes storage.old) self.old.stage
@@ -464,7 +489,8 @@ impl<C: CachePut, S: Storage> CachePutCtx<C, S> {
 
     /// Ends the put, and drops a write that is still in flight.
     pub fn end(self, storage: &mut S)
-        ensures { S.state storage.new ≡ dropped_by (write_in self.stage) (S.state storage.old) }
+        ensures store { S.state storage.new ≡ dropped_by (write_in self.stage) (S.state storage.old) }
+        ensures past { S.past storage.new ≡ dropped_past (write_in self.stage) (S.past storage.old) }
     {
         let writer = self.into_writer();
         drop_writer(storage, writer);

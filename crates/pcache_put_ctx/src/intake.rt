@@ -6,10 +6,13 @@ ghost use Rattle.pcache_base.specs.declared.error.ErrorType.TheVariants.{OutOfMe
 ghost use Rattle.pcache_meta.specs.Meta.{Meta};
 ghost use Rattle.pcache_put.specs.Progress.{HasFailed};
 ghost use Rattle.pcache_put.specs.Response.{IsUnreadable};
+ghost use Rattle.pcache_store.specs.Notes.{noted};
+ghost use Rattle.pcache_store.specs.Past.{Began};
 ghost use Rattle.pcache_store.specs.Purge.{entry_given};
 ghost use Rattle.pcache_store.specs.Refusals.{MayFailWrite};
 ghost use Rattle.pcache_store.specs.Store.{Store, begun, is_told};
 ghost use Rattle.pcache_put_ctx.specs.Openings.{IsVerdict, IsBegun, IsDue, HasOpened};
+ghost use Rattle.pcache_put_ctx.specs.Pasts.{EndsPutPast, past_at, past_wrote};
 ghost use Rattle.pcache_put_ctx.specs.Puts.{Piece, IsResult, and_piece, joined};
 ghost use Rattle.pcache_put_ctx.specs.Readings.{BodyDue, IfUnread, IsBegunRead, IsOfBody, IsOfHead, MayFailOnceRead};
 ghost use Rattle.pcache_put_ctx.specs.Stages.{stage_of};
@@ -70,6 +73,8 @@ fn write_part<S: Storage>(
     ensures wrote { IfOk result (λ w. w ≡ option_map written part) }
     ensures ok { IfOk result (λ w. S.state storage.new
         ≡ store_wrote (Some (S.Miss.write writer.old)) w (S.state storage.old)) }
+    ensures past { IfOk result (λ w. S.past storage.new
+        ≡ past_wrote (Some (S.Miss.write writer.old)) w (S.past storage.old)) }
     ensures size { size.new ≡ counted_part size.old part }
     ensures allowed { OnOk result (IfSome part (λ _. IsAllowed size.new)) }
     ensures over { IfErr result (λ e. e ≡ ResponseTooLarge → ¬ (IsAllowed size.new)) }
@@ -78,6 +83,7 @@ fn write_part<S: Storage>(
     ensures kind { IfErr result (λ e.
         MayFailFill (S.state storage.old) (S.Miss.write writer.old) e) }
     ensures err { OnErr result (S.state storage.new ≡ S.state storage.old) }
+    ensures same_past { OnErr result (S.past storage.new ≡ S.past storage.old) }
     ensures same { S.Miss.write writer.new ≡ S.Miss.write writer.old }
     ensures entry { S.Miss.entry_number writer.new ≡ S.Miss.entry_number writer.old }
 {
@@ -187,6 +193,9 @@ impl<C: CachePut> Intake<C> {
         ensures store { S.state storage.new
             ≡ store_wrote (Some (S.Miss.write filling.writer)) result.report.wrote
             (S.state storage.old) }
+        ensures past { S.past storage.new
+            ≡ past_wrote (Some (S.Miss.write filling.writer)) result.report.wrote
+            (S.past storage.old) }
         ensures ends { EndsPiece S.Miss.write result.report.end
             (InBody (S.Miss.write filling.writer) (S.Miss.entry_number filling.writer)
             filling.fresh_until) (stage_of S.Miss.write S.Miss.entry_number result.stage) }
@@ -265,7 +274,11 @@ impl<C: CachePut> Intake<C> {
         ensures fresh { IfOk result (λ f. f.fresh_until ≡ meta.now.fresh_until) }
         ensures store { OnOk result (S.state storage.new
             ≡ begun (S.state storage.old) (slot self.now.key) meta.now) }
+        ensures past { OnOk result (S.past storage.new
+            ≡ noted (Some (Began (slot self.now.key) (S.state storage.old).next meta.now))
+            (S.past storage.old)) }
         ensures err { OnErr result (S.state storage.new ≡ S.state storage.old) }
+        ensures same_past { OnErr result (S.past storage.new ≡ S.past storage.old) }
         ensures kind { IfErr result (MayFailWrite (S.state storage.old)) }
     {
         let writer = storage.get_miss_handler(self.alloc, &self.key, meta)?;
@@ -287,6 +300,9 @@ impl<C: CachePut> Intake<C> {
         ensures store { S.state storage.new
             ≡ store_at S.guarantees.numbers self.old.key InHead result.report.began
             result.report.wrote (S.state storage.old) }
+        ensures past { S.past storage.new
+            ≡ past_at S.guarantees.numbers self.old.key InHead result.report.began
+            result.report.wrote (S.state storage.old) (S.past storage.old) }
         ensures ends { EndsPiece S.Miss.write result.report.end
             (stage_at S.guarantees.numbers (S.state storage.old) InHead result.report.began)
             (stage_of S.Miss.write S.Miss.entry_number result.stage) }
@@ -323,6 +339,9 @@ impl<C: CachePut> Intake<C> {
         ensures store { S.state storage.new
             ≡ store_at S.guarantees.numbers self.old.key InHead result.report.began
             result.report.wrote (S.state storage.old) }
+        ensures past { S.past storage.new
+            ≡ past_at S.guarantees.numbers self.old.key InHead result.report.began
+            result.report.wrote (S.state storage.old) (S.past storage.old) }
         ensures ends { EndsPiece S.Miss.write result.report.end
             (stage_at S.guarantees.numbers (S.state storage.old) InHead result.report.began)
             (stage_of S.Miss.write S.Miss.entry_number result.stage) }
@@ -367,6 +386,9 @@ impl<C: CachePut> Intake<C> {
         ensures store { S.state storage.new
             ≡ store_wrote (Some (S.Miss.write filling.writer)) result.report.wrote
             (S.state storage.old) }
+        ensures past { S.past storage.new
+            ≡ past_wrote (Some (S.Miss.write filling.writer)) result.report.wrote
+            (S.past storage.old) }
         ensures ends { EndsPiece S.Miss.write result.report.end
             (InBody (S.Miss.write filling.writer) (S.Miss.entry_number filling.writer)
             filling.fresh_until) (stage_of S.Miss.write S.Miss.entry_number result.stage) }
@@ -419,6 +441,9 @@ impl<C: CachePut> Intake<C> {
             filling.fresh_until) result.0 (S.state storage.old) (S.state storage.new)
             (tracked_before_put self.old.key replaced result.0 (E.tracked eviction.old))
             (E.tracked eviction.new) }
+        ensures past { EndsPutPast S.guarantees self.old.key
+            (InBody (S.Miss.write filling.writer) (S.Miss.entry_number filling.writer)
+            filling.fresh_until) result.0 (S.past storage.old) (S.past storage.new) }
         ensures entry { result.1
             ≡ entry_reported self.old.key
             (InBody (S.Miss.write filling.writer) (S.Miss.entry_number filling.writer)

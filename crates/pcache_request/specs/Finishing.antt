@@ -36,10 +36,14 @@ after_finish r = cond (is_some r.write) (record r { write = None; entry = None; 
 abbrev pub entry_slot : CacheEntryKey → ℕ
 entry_slot e = compact_slot (key_of e)
 
+-- b is a after a step for each entry in order, but for n of them, for which it was not taken
+abbrev pub TakesAll : {A : Type 0} → (A → CacheEntryKey → A) → A → List CacheEntryKey → ℕ → A → Type 0
+TakesAll step a [] n b = (n ≡ 0) × (b ≡ a)
+TakesAll step a (e ∷ es) n b = TakesAll step (step a e) es n b ⊎ ((m : ℕ) × (n ≡ m + 1) × TakesAll step a es m b)
+
 -- t is s after each entry was purged in order; for n of them the purge failed, and they remain
 abbrev pub PurgesAll : Bool → Store → List CacheEntryKey → ℕ → Store → Type 0
-PurgesAll numbers s [] n t = (n ≡ 0) × (t ≡ s)
-PurgesAll numbers s (e ∷ es) n t = PurgesAll numbers (entry_purged numbers s e) es n t ⊎ ((m : ℕ) × (n ≡ m + 1) × PurgesAll numbers s es m t)
+PurgesAll numbers s es n t = TakesAll (entry_purged numbers) s es n t
 
 -- with a manager in use the entry is admitted, and a fair eviction follows; otherwise nothing is tracked or evicted
 abbrev pub Admits : Bool → Limits → MissFinishType → CacheEntryKey → Tracked → List CacheEntryKey → Tracked → Type 0

@@ -2,6 +2,7 @@ pub mod Admissions
 pub mod Alone
 pub mod Digest
 pub mod Finishing
+pub mod LockPasts
 pub mod LockUse
 pub mod LockWaits
 pub mod LookUps
@@ -16,6 +17,7 @@ pub mod Requests
 pub mod Shown
 pub mod Sizes
 pub mod Stale
+pub mod StorePasts
 pub mod Variants
 pub mod Witnesses
 pub mod WriteEnds

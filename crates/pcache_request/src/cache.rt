@@ -13,6 +13,9 @@ ghost use Rattle.pcache_store.specs.Store.{find_write, followed};
 ghost use Rattle.pcache_store.specs.Tag.{named_by};
 ghost use Rattle.pcache_request.specs.Requests.{settled, let_go_by, table_asked, left_by, entry_of, reader_in, whole_by, length_by};
 ghost use Rattle.pcache_request.specs.Reports.{name_of, asked_with};
+ghost use Rattle.pcache_store.specs.Notes.{look_noted, noted};
+ghost use Rattle.pcache_request.specs.LockPasts.{asked_deeds, settled_deeds};
+ghost use Rattle.pcache_request.specs.StorePasts.{left_past};
 
 mod admission;
 mod alone;
@@ -141,10 +144,14 @@ fn take_lock<L: CacheKeyLock>(
         a ≡ asked_with stale_writer (L.table lock.old) key.now held.old) }
     ensures table { OnOk result (L.table lock.new
         ≡ table_asked stale_writer now (Some key.now) held.old (L.table lock.old)) }
+    ensures deeds { OnOk result (L.past lock.new
+        ≡ asked_deeds stale_writer now (L.table lock.old) (Some key.now) held.old
+        (L.past lock.old)) }
     ensures held { OnOk result (held.new
         ≡ Some (lock_given (L.table lock.old) stale_writer
         (holder (L.table lock.old) (slot key.now)))) }
     ensures same_table { OnErr result (L.table lock.new ≡ L.table lock.old) }
+    ensures same_deeds { OnErr result (L.past lock.new ≡ L.past lock.old) }
     ensures same_held { OnErr result (held.new ≡ held.old) }
     ensures kind { IfErr result (λ e. MayFailLock (L.table lock.old) e) }
 {
@@ -176,7 +183,12 @@ fn take_lock_if<L: CacheKeyLock>(
     ensures table { OnOk result (L.table lock.new
         ≡ cond asks (table_asked stale_writer now (Some key.now) held.old (L.table lock.old))
         (L.table lock.old)) }
+    ensures deeds { OnOk result (L.past lock.new
+        ≡ cond asks
+        (asked_deeds stale_writer now (L.table lock.old) (Some key.now) held.old (L.past lock.old))
+        (L.past lock.old)) }
     ensures same_table { OnErr result (L.table lock.new ≡ L.table lock.old) }
+    ensures same_deeds { OnErr result (L.past lock.new ≡ L.past lock.old) }
     ensures same_held { OnErr result (held.new ≡ held.old) }
     ensures kind { IfErr result (λ e. MayFailLock (L.table lock.old) e) }
     ensures asks { OnErr result (asks ≡ true) }
@@ -201,6 +213,7 @@ fn settle<L: CacheKeyLock>(
     ensures released { result ≡ option_map name_of held.old }
     ensures held { held.new ≡ None }
     ensures table { L.table lock.new ≡ settled status held.old (L.table lock.old) }
+    ensures deeds { L.past lock.new ≡ settled_deeds status held.old (L.past lock.old) }
 {
     let released = name_of(held);
     match held.take() {
@@ -230,9 +243,13 @@ fn join_write<S: Storage>(
     ensures ok { OnOk result (S.state storage.new
         ≡ followed (S.state storage.old) (find_write (S.state storage.old) (slot key.now)
         (named_by (option_copied tag.entry)))) }
+    ensures past { OnOk result (S.past storage.new
+        ≡ noted (look_noted (find_write (S.state storage.old) (slot key.now)
+        (named_by (option_copied tag.entry)))) (S.past storage.old)) }
     ensures something { OnErr result (IsSome
         (find_write (S.state storage.old) (slot key.now) (named_by (option_copied tag.entry)))) }
     ensures err { OnErr result (S.state storage.new ≡ S.state storage.old) }
+    ensures same_past { OnErr result (S.past storage.new ≡ S.past storage.old) }
     ensures kind { IfErr result (λ e. e ≡ OutOfMemory) }
 {
     match storage.lookup_streaming_write(alloc, key, tag)? {
@@ -254,6 +271,8 @@ fn replace_reader<S: Storage>(place: &mut Option<S::Hit>, reader: Option<S::Hit>
     ensures place { place.new ≡ reader }
     ensures store { S.state storage.new
         ≡ left_by (option_map S.Hit.reader place.old) (S.state storage.old) }
+    ensures past { S.past storage.new
+        ≡ left_past (option_map S.Hit.reader place.old) (S.past storage.old) }
 {
     if let Some(older) = std::mem::replace(place, reader) {
         older.let_go(storage);
@@ -274,6 +293,8 @@ impl<S: Storage> HttpCache<S> {
     ghost use Rattle.pcache_request.specs.Requests.{HasKey, HoldsNothing, Request, new_request, with_key, missed, without_reader, MayTakeMeta, with_meta, MayWrite, FailsToBegin, begin_followed, begun_for, begun_unfollowed, store_begun, write_begun, settled, left_by, dropped_by, let_go_by};
     ghost use Rattle.pcache_request.specs.Reports.{name_of};
     ghost use Rattle.pcache_request.specs.contracts.cache.HttpCache.{the_row};
+    ghost use Rattle.pcache_request.specs.LockPasts.{let_go_deeds, settled_deeds};
+    ghost use Rattle.pcache_request.specs.StorePasts.{begun_past, dropped_past, left_past, writing_past};
 
     /// A request for which caching was never turned on.
     pub fn new(alloc: Global) -> HttpCache<S>
@@ -412,6 +433,7 @@ impl<S: Storage> HttpCache<S> {
             }) }
         ensures same_request { OnErr result (self.new ≡ self.old) }
         ensures same_store { S.state storage.new ≡ S.state storage.old }
+        ensures same_past { S.past storage.new ≡ S.past storage.old }
         ensures something { OnErr result
             (IfSome self.old.reader (λ r. gives_piece (read_of (S.state storage.old) r) ≡ true)) }
         ensures kind { IfErr result (λ e. e ≡ OutOfMemory) }
@@ -491,6 +513,7 @@ impl<S: Storage> HttpCache<S> {
         requires { MayFinishHit self.old.phase }
         ensures request { self.new ≡ without_reader self.old }
         ensures store { S.state storage.new ≡ left_by self.old.reader (S.state storage.old) }
+        ensures past { S.past storage.new ≡ left_past self.old.reader (S.past storage.old) }
         ensures kind { IfErr result (λ e. e ≡ OutOfMemory) }
         ensures none { self.old.reader ≡ None → IsOk result }
         ensures answer { IfSome self.old.reader (λ r. S.ends_hit storage.old r result) }
@@ -574,11 +597,22 @@ impl<S: Storage> HttpCache<S> {
             self.old) }
         ensures store { OnOk result (S.state storage.new
             ≡ store_begun (S.streams storage.old) (S.state storage.old) self.old) }
+        ensures past { OnOk result (S.past storage.new
+            ≡ writing_past (S.streams storage.old) (S.state storage.old) self.old
+            (S.past storage.old)) }
         ensures table { OnOk result (L.table lock.new
             ≡ cond (S.streams storage.old) (settled Done self.old.held (L.table lock.old))
             (L.table lock.old)) }
+        ensures deeds { OnOk result (L.past lock.new
+            ≡ cond (S.streams storage.old) (settled_deeds Done self.old.held (L.past lock.old))
+            (L.past lock.old)) }
         ensures err { IfErr result (λ e. FailsToBegin S.guarantees.numbers (S.state storage.old)
             (L.table lock.old) self.old e (S.state storage.new) (L.table lock.new) self.new) }
+        ensures left_past { OnErr result ((S.past storage.new ≡ S.past storage.old)
+            ⊎ (S.past storage.new
+            ≡ begun_past (S.state storage.old) self.old (S.past storage.old))) }
+        ensures left_deeds { OnErr result ((L.past lock.new ≡ L.past lock.old)
+            ⊎ (L.past lock.new ≡ settled_deeds Done self.old.held (L.past lock.old))) }
         ensures kind { IfErr result (λ e.
             (e ≡ OutOfMemory) ⊎ MayFailWrite (S.state storage.old) e) }
         ensures something { OnErr result ((S.state storage.new ≡ S.state storage.old)
@@ -604,21 +638,31 @@ impl<S: Storage> HttpCache<S> {
             self.old)) }
         ensures store { IfOk result (λ b. OnOk b.following (S.state storage.new
             ≡ store_begun (S.streams storage.old) (S.state storage.old) self.old)) }
+        ensures past { IfOk result (λ b. OnOk b.following (S.past storage.new
+            ≡ writing_past (S.streams storage.old) (S.state storage.old) self.old
+            (S.past storage.old))) }
         ensures table { OnOk result (L.table lock.new
             ≡ cond (S.streams storage.old) (settled Done self.old.held (L.table lock.old))
             (L.table lock.old)) }
+        ensures deeds { OnOk result (L.past lock.new
+            ≡ cond (S.streams storage.old) (settled_deeds Done self.old.held (L.past lock.old))
+            (L.past lock.old)) }
         ensures unfollowed_streams { IfOk result (λ b.
             OnErr b.following (S.streams storage.old ≡ true)) }
         ensures unfollowed_request { IfOk result (λ b. OnErr b.following (self.new
             ≡ begun_unfollowed S.guarantees.numbers (S.state storage.old) self.old)) }
         ensures unfollowed_store { IfOk result (λ b. OnErr b.following (S.state storage.new
             ≡ begun_for self.old.key self.old.meta (S.state storage.old))) }
+        ensures unfollowed_past { IfOk result (λ b. OnErr b.following (S.past storage.new
+            ≡ begun_past (S.state storage.old) self.old (S.past storage.old))) }
         ensures unfollowed_kind { IfOk result (λ b. IfErr b.following (λ e. e ≡ OutOfMemory)) }
         ensures unfollowed_something { IfOk result (λ b.
             OnErr b.following (IsSome (begin_followed (S.state storage.old) self.old))) }
         ensures same_request { OnErr result (self.new ≡ self.old) }
         ensures same_store { OnErr result (S.state storage.new ≡ S.state storage.old) }
+        ensures same_past { OnErr result (S.past storage.new ≡ S.past storage.old) }
         ensures same_table { OnErr result (L.table lock.new ≡ L.table lock.old) }
+        ensures same_deeds { OnErr result (L.past lock.new ≡ L.past lock.old) }
         ensures kind { IfErr result (λ e. MayFailWrite (S.state storage.old) e) }
     {
         let Some(key) = &self.key else { unreachable!() };
@@ -681,7 +725,10 @@ impl<S: Storage> HttpCache<S> {
         ensures let_go { result ≡ option_map name_of self.held }
         ensures store { S.state storage.new
             ≡ left_by self.reader (dropped_by self.write (S.state storage.old)) }
+        ensures past { S.past storage.new
+            ≡ left_past self.reader (dropped_past self.write (S.past storage.old)) }
         ensures table { L.table lock.new ≡ let_go_by self.held (L.table lock.old) }
+        ensures deeds { L.past lock.new ≡ let_go_deeds self.held (L.past lock.old) }
     {
         let HttpCache {
             alloc: _,

@@ -1,5 +1,5 @@
 -- What a call knows of a part that it has.
-use Rattle.std.proofs.Common.{◌≡◌, ℕ, Bool, false, List, Some, refl, sym, subst, ap, ◌∙◌}
+use Rattle.std.proofs.Common.{◌≡◌, ℕ, Bool, false, List, [], Some, refl, sym, subst, ap, ◌∙◌}
 use Rattle.std.specs.FinMap.{empty}
 use Rattle.std.specs.Prelude.{◌↔◌, IsTrue, slice_get}
 use Rattle.std.proofs.lemmas.Bool.{both_ways}
@@ -11,7 +11,7 @@ use Rattle.pcache_shared_cache.specs.Shared.{OfPart, InPart, MovesPart}
 
 -- a part with nothing stored
 abbrev with_nothing : Limits → Parts
-with_nothing l = record { store = record { slots = empty; writes = empty; next = 0 }; tracked = empty; limits = l; evicted = record { weight = 0; count = 0 }; locks = no_locks 0 }
+with_nothing l = record { store = record { slots = empty; writes = empty; next = 0 }; past = []; tracked = empty; limits = l; evicted = record { weight = 0; count = 0 }; locks = no_locks 0; deeds = [] }
 
 module _ {P : Parts → Type 0} where
   -- v is the part as the lock lends it, p as the call sees it

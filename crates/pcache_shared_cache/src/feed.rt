@@ -16,7 +16,9 @@ impl<M: EvictionManager, K, const N: usize> SharedCache<M, K, N> {
     ghost use Rattle.pcache_put_ctx.specs.State.{Filled, HasTaken, limit_of, write_in};
     ghost use Rattle.pcache_put_ctx.specs.Steps.{Done, EndsAs, MayFailPiece, RepeatsResult, IsStageAfter, TakesPiece, TellsResult};
     ghost use Rattle.pcache_request.specs.Requests.{dropped_by};
+    ghost use Rattle.pcache_request.specs.StorePasts.{dropped_past};
     ghost use Rattle.pcache_cache.specs.OwnPut.{EndsOwnPut, MayEndPut};
+    ghost use Rattle.pcache_cache.specs.Parts.{Adds};
     ghost use Rattle.pcache_shared_cache.specs.Shared.{InPart, MovesPart};
 
     /// `Cache::cache_put` in the put's part: takes in the next piece of the response. Answers why nothing is stored, once that is so.
@@ -70,7 +72,9 @@ impl<M: EvictionManager, K, const N: usize> SharedCache<M, K, N> {
     /// `Cache::end_put`: ends the put, and drops a write that is still in flight. The policy is dropped before the part is locked.
     pub fn end_put<C: CachePut, R: Wait>(&self, rt: &R, put: SharedPut<C, K, N>)
         ensures { MovesPart self.now put.place (λ p q.
-            q ≡ record p { store = dropped_by (write_in put.put.stage) p.store }) }
+            (q.store ≡ dropped_by (write_in put.put.stage) p.store)
+            × Adds (dropped_past (write_in put.put.stage)) p.past q.past
+            × (q ≡ record p { store = q.store; past = q.past })) }
     {
         let place = put.place();
         let left = put.into_left();

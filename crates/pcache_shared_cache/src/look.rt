@@ -23,7 +23,9 @@ impl<M: EvictionManager, K, const N: usize> SharedCache<M, K, N> {
     ghost use Rattle.pcache_request.specs.Reports.{name_of};
     ghost use Rattle.pcache_request.specs.Requests.{HoldsNothing, asks_for_hit, found_row, length_by, whole_by, without_reader};
     ghost use Rattle.pcache_request.specs.Variants.{looked_for, seen_for};
+    ghost use Rattle.pcache_store.specs.Notes.{leave_noted, noted};
     ghost use Rattle.pcache_store.specs.Readers.{reader_of};
+    ghost use Rattle.pcache_cache.specs.Parts.{Adds};
     ghost use Rattle.pcache_store.specs.Store.{left, read_of, reader_after};
     ghost use Rattle.pcache_shared_cache.specs.Shared.{InPart, MovesPart};
 
@@ -80,7 +82,9 @@ impl<M: EvictionManager, K, const N: usize> SharedCache<M, K, N> {
     /// `Cache::let_go`: lets go the reader that a look-up of the request found.
     pub fn let_go<R: Wait>(&self, rt: &R, request: &SharedRequest<K, N>, hit: MemHitHandler)
         ensures { MovesPart self.now request.now.place (λ p q.
-            q ≡ record p { store = left p.store (reader_of hit) }) }
+            (q.store ≡ left p.store (reader_of hit))
+            × Adds (noted (leave_noted (reader_of hit))) p.past q.past
+            × (q ≡ record p { store = q.store; past = q.past })) }
     {
         let mut part = self.part(request.place()).lock(rt);
         part.let_go(hit);

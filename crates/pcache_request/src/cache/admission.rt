@@ -17,6 +17,8 @@ impl<S: Storage> HttpCache<S> {
     ghost use Rattle.pcache_base.specs.declared.reason.NoCacheReason.TheVariants.{Deferred};
     ghost use Rattle.pcache_request.specs.declared.phase.CachePhase.TheVariants.{CacheKey};
     ghost use Rattle.pcache_request.specs.Reports.{name_of};
+    ghost use Rattle.pcache_request.specs.LockPasts.{settled_deeds};
+    ghost use Rattle.pcache_request.specs.StorePasts.{dropped_past, left_past};
 
     /// Takes an admission policy into use. Look-ups with a policy borrow it.
     /// Requires the phase Uninit or CacheKey; ask `phase().may_take_key()`.
@@ -91,7 +93,11 @@ impl<S: Storage> HttpCache<S> {
         ensures request { self.new ≡ switched_off Deferred self.old }
         ensures store { S.state storage.new
             ≡ left_by self.old.reader (dropped_by self.old.write (S.state storage.old)) }
+        ensures past { S.past storage.new
+            ≡ left_past self.old.reader (dropped_past self.old.write (S.past storage.old)) }
         ensures table { L.table lock.new ≡ settled TransientError self.old.held (L.table lock.old) }
+        ensures deeds { L.past lock.new
+            ≡ settled_deeds TransientError self.old.held (L.past lock.old) }
         ensures released { result ≡ option_map name_of self.old.held }
     {
         self.disable(storage, lock, NoCacheReason::Deferred)

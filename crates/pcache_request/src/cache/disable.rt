@@ -57,6 +57,8 @@ impl<S: Storage> HttpCache<S> {
     ghost use Rattle.pcache_request.specs.Phases.{IsDisabled, MayBypass};
     ghost use Rattle.pcache_request.specs.Releasing.{MayRelease, MayDisable, status_for, disabled_for, bypassed};
     ghost use Rattle.pcache_request.specs.Reports.{name_of};
+    ghost use Rattle.pcache_request.specs.LockPasts.{settled_deeds};
+    ghost use Rattle.pcache_request.specs.StorePasts.{dropped_past, left_past};
     ghost use Rattle.pcache_request.specs.Requests.{HoldsNothing, settled, left_by, dropped_by};
 
     /// `bypass` for requests that use no predictor: it asks none, and leaves the reason that is kept, which is none in a request
@@ -104,9 +106,14 @@ impl<S: Storage> HttpCache<S> {
         ensures held { HoldsNothing self.new }
         ensures store { S.state storage.new
             ≡ left_by self.old.reader (dropped_by self.old.write (S.state storage.old)) }
+        ensures past { S.past storage.new
+            ≡ left_past self.old.reader (dropped_past self.old.write (S.past storage.old)) }
         ensures table { L.table lock.new
             ≡ settled (status_for (L.custom_status lock.old) reason) self.old.held
             (L.table lock.old) }
+        ensures deeds { L.past lock.new
+            ≡ settled_deeds (status_for (L.custom_status lock.old) reason) self.old.held
+            (L.past lock.old) }
         ensures released { result ≡ option_map name_of self.old.held }
     {
         if matches!(

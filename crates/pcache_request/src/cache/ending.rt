@@ -7,10 +7,13 @@ ghost use Rattle.pcache_evict.specs.Tracked.{evicted_with};
 ghost use Rattle.pcache_store.specs.Purge.{entry_purged};
 ghost use Rattle.pcache_store.specs.Refusals.{MayFailFinish};
 ghost use Rattle.pcache_store.specs.Store.{dropped, finished, is_untouched};
-ghost use Rattle.pcache_request.specs.Finishing.{PurgesAll, Admits, size_reported, with_entry};
+ghost use Rattle.pcache_request.specs.Finishing.{PurgesAll, Admits, TakesAll, size_reported, with_entry};
 ghost use Rattle.pcache_request.specs.Replacing.{tracked_before, without_entry};
 ghost use Rattle.pcache_request.specs.Reports.{entry_stored};
 ghost use Rattle.pcache_request.specs.Requests.{entry_of};
+ghost use Rattle.pcache_store.specs.Notes.{noted};
+ghost use Rattle.pcache_store.specs.Past.{Dropped, Finished};
+ghost use Rattle.pcache_request.specs.StorePasts.{EndsPast, entry_past};
 ghost use Rattle.pcache_request.specs.WriteEnds.{EndsBody, HoldsNoLock, evicted_by};
 
 use super::entry_for;
@@ -36,6 +39,9 @@ fn has_purge_failed<S: Storage>(storage: &mut S, entry: &CacheEntryKey) -> bool
     ensures refused { result ≡ true → S.state storage.new ≡ S.state storage.old }
     ensures purged { result ≡ false
         → S.state storage.new ≡ entry_purged S.guarantees.numbers (S.state storage.old) entry.now }
+    ensures same_past { result ≡ true → S.past storage.new ≡ S.past storage.old }
+    ensures past { result ≡ false
+        → S.past storage.new ≡ entry_past S.guarantees.numbers (S.past storage.old) entry.now }
     ensures sure { S.guarantees.purges ≡ true → result ≡ false }
 {
     storage
@@ -47,6 +53,8 @@ fn has_purge_failed<S: Storage>(storage: &mut S, entry: &CacheEntryKey) -> bool
 fn purge_all<S: Storage>(storage: &mut S, entries: &[CacheEntryKey]) -> usize
     ensures purges { PurgesAll S.guarantees.numbers (S.state storage.old) entries.now result
         (S.state storage.new) }
+    ensures past { TakesAll (entry_past S.guarantees.numbers) (S.past storage.old) entries.now
+        result (S.past storage.new) }
     ensures sure { S.guarantees.purges ≡ true → result ≡ 0 }
 {
     let mut failed = 0usize;
@@ -102,12 +110,15 @@ fn admit_and_purge<S: Storage, E: EvictionManager>(
         (E.tracked eviction.old) f.evicted.items (E.tracked eviction.new)) }
     ensures purges { IfOk result (λ f. PurgesAll S.guarantees.numbers (S.state storage.old)
         f.evicted.items f.failed_purges (S.state storage.new)) }
+    ensures past { IfOk result (λ f. TakesAll (entry_past S.guarantees.numbers)
+        (S.past storage.old) f.evicted.items f.failed_purges (S.past storage.new)) }
     ensures sure { IfOk result (λ f. S.guarantees.purges ≡ true → f.failed_purges ≡ 0) }
     ensures evicted { IfOk result (λ f. E.evicted eviction.new
         ≡ cond is_used
         (evicted_with (E.evicted eviction.old) (with_entry kind entry (E.tracked eviction.old))
         f.evicted.items) (E.evicted eviction.old)) }
     ensures same_store { OnErr result (S.state storage.new ≡ S.state storage.old) }
+    ensures same_past { OnErr result (S.past storage.new ≡ S.past storage.old) }
     ensures same_tracked { OnErr result (E.tracked eviction.new ≡ E.tracked eviction.old) }
     ensures same_evicted { OnErr result (E.evicted eviction.new ≡ E.evicted eviction.old) }
     ensures limits { E.limits eviction.new ≡ E.limits eviction.old }
@@ -147,10 +158,14 @@ fn finish_writer<S: Storage>(
     ensures answer { IfOk result (λ p. p.2 ≡ S.finishes storage.old (S.Miss.write writer)) }
     ensures ok { OnOk result (S.state storage.new
         ≡ finished (S.state storage.old) (S.Miss.write writer)) }
+    ensures past { OnOk result (S.past storage.new
+        ≡ noted (Some (Finished (S.Miss.write writer))) (S.past storage.old)) }
     ensures untouched { OnOk result (is_untouched (S.state storage.old) (S.Miss.write writer)
         ≡ true) }
     ensures err { OnErr result (S.state storage.new
         ≡ dropped (S.state storage.old) (S.Miss.write writer)) }
+    ensures drop_past { OnErr result (S.past storage.new
+        ≡ noted (Some (Dropped (S.Miss.write writer))) (S.past storage.old)) }
     ensures kind { IfErr result (λ e.
         (e ≡ OutOfMemory) ⊎ MayFailFinish (S.state storage.old) (S.Miss.write writer) e) }
 {
@@ -219,6 +234,8 @@ pub fn end_writer<S: Storage, E: EvictionManager>(
         result.end (S.state storage.old) (S.state storage.new)
         (tracked_before is_used key.now replaced result.end (E.tracked eviction.old))
         (E.tracked eviction.new) }
+    ensures past { EndsPast S.guarantees key.now (S.Miss.write writer) result.end
+        (S.past storage.old) (S.past storage.new) }
     ensures entry { result.entry
         ≡ entry_stored (Some key.now) (S.Miss.entry_number writer) result.end }
     ensures evicted { E.evicted eviction.new

@@ -56,6 +56,8 @@ impl<S: Storage> HttpCache<S> {
     ghost use Rattle.pcache_request.specs.WriteEnds.{Ends, EndsAs, finishes_of, evicted_after};
     ghost use Rattle.pcache_request.specs.Replacing.{tracked_before_end};
     ghost use Rattle.pcache_request.specs.Reports.{name_of, entry_stored};
+    ghost use Rattle.pcache_request.specs.LockPasts.{end_deeds, settled_deeds};
+    ghost use Rattle.pcache_request.specs.StorePasts.{EndsRequestPast};
 
     // Releases the lock that the request holds, a permit with a status, and returns which lock it
     // was.
@@ -64,6 +66,7 @@ impl<S: Storage> HttpCache<S> {
         ensures released { result ≡ option_map name_of self.old.held }
         ensures request { self.new ≡ record self.old { held = None } }
         ensures table { L.table lock.new ≡ settled status self.old.held (L.table lock.old) }
+        ensures deeds { L.past lock.new ≡ settled_deeds status self.old.held (L.past lock.old) }
     {
         settle(self.alloc, &self.key, &mut self.held, lock, status)
     }
@@ -85,6 +88,10 @@ impl<S: Storage> HttpCache<S> {
             (finishes_of (S.finishes storage.old) self.old.write) (E.limits eviction.old) end
             (S.state storage.old) (S.state storage.new) (E.tracked eviction.old)
             (E.tracked eviction.new) (L.table lock.old) (L.table lock.new)) }
+        ensures past { EndsAs result (λ end. EndsRequestPast S.guarantees self.old.key self.old.write
+            end (S.past storage.old) (S.past storage.new)) }
+        ensures deeds { EndsAs result (λ end. L.past lock.new
+            ≡ end_deeds self.old.write self.old.held end (L.past lock.old)) }
         ensures evicted { EndsAs result (λ end. E.evicted eviction.new
             ≡ evicted_after self.old self.old.key
             (finishes_of (S.finishes storage.old) self.old.write) (E.tracked eviction.old)
@@ -126,6 +133,10 @@ impl<S: Storage> HttpCache<S> {
             (S.state storage.old) (S.state storage.new)
             (tracked_before_end self.old self.old.key replaced end (E.tracked eviction.old))
             (E.tracked eviction.new) (L.table lock.old) (L.table lock.new)) }
+        ensures past { EndsAs result (λ end. EndsRequestPast S.guarantees self.old.key self.old.write
+            end (S.past storage.old) (S.past storage.new)) }
+        ensures deeds { EndsAs result (λ end. L.past lock.new
+            ≡ end_deeds self.old.write self.old.held end (L.past lock.old)) }
         ensures evicted { EndsAs result (λ end. E.evicted eviction.new
             ≡ evicted_after self.old self.old.key
             (finishes_of (S.finishes storage.old) self.old.write)
@@ -163,6 +174,10 @@ impl<S: Storage> HttpCache<S> {
             (finishes_of (S.finishes storage.old) self.old.write) (E.limits eviction.old) result.end
             (S.state storage.old) (S.state storage.new) (E.tracked eviction.old)
             (E.tracked eviction.new) (L.table lock.old) (L.table lock.new) }
+        ensures past { EndsRequestPast S.guarantees self.old.key self.old.write result.end
+            (S.past storage.old) (S.past storage.new) }
+        ensures deeds { L.past lock.new
+            ≡ end_deeds self.old.write self.old.held result.end (L.past lock.old) }
         ensures entry { result.entry ≡ entry_stored self.old.key self.old.entry result.end }
         ensures released { result.released
             ≡ cond (is_some self.old.write) (option_map name_of self.old.held) None }
@@ -193,6 +208,10 @@ impl<S: Storage> HttpCache<S> {
             (S.state storage.old) (S.state storage.new)
             (tracked_before_end self.old self.old.key replaced result.end (E.tracked eviction.old))
             (E.tracked eviction.new) (L.table lock.old) (L.table lock.new) }
+        ensures past { EndsRequestPast S.guarantees self.old.key self.old.write result.end
+            (S.past storage.old) (S.past storage.new) }
+        ensures deeds { L.past lock.new
+            ≡ end_deeds self.old.write self.old.held result.end (L.past lock.old) }
         ensures entry { result.entry ≡ entry_stored self.old.key self.old.entry result.end }
         ensures released { result.released
             ≡ cond (is_some self.old.write) (option_map name_of self.old.held) None }

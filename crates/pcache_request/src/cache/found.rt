@@ -67,6 +67,9 @@ impl<S: Storage> HttpCache<S> {
     ghost use Rattle.pcache_request.specs.Phases.{MayLookUp};
     ghost use Rattle.pcache_request.specs.Requests.{found_row, asks_for_hit, counts_found, store_found, table_found, tracked_by_hit};
     ghost use Rattle.pcache_request.specs.Reports.{asked_by_found, access_by_hit};
+    ghost use Rattle.pcache_store.specs.Notes.{leave_noted, noted};
+    ghost use Rattle.pcache_request.specs.LockPasts.{found_deeds};
+    ghost use Rattle.pcache_request.specs.StorePasts.{taken_past};
 
     // Records the use of the found entry with the manager, if one is in use and the hit counts and
     // is not treated as a miss. Returns the access.
@@ -116,12 +119,19 @@ impl<S: Storage> HttpCache<S> {
             ≡ found_row status meta (S.Hit.reader hit) (L.table lock.old) self.old) }
         ensures store { OnOk result (S.state storage.new
             ≡ store_found status (S.Hit.reader hit) self.old (S.state storage.old)) }
+        ensures past { OnOk result (S.past storage.new
+            ≡ taken_past status (S.Hit.reader hit) self.old (S.past storage.old)) }
         ensures table { OnOk result (L.table lock.new
             ≡ table_found status now self.old (L.table lock.old)) }
+        ensures deeds { OnOk result (L.past lock.new
+            ≡ found_deeds status now (L.table lock.old) self.old (L.past lock.old)) }
         ensures same_request { OnErr result (self.new ≡ self.old) }
         ensures left_store { OnErr result (S.state storage.new
             ≡ left (S.state storage.old) (S.Hit.reader hit)) }
+        ensures left_past { OnErr result (S.past storage.new
+            ≡ noted (leave_noted (S.Hit.reader hit)) (S.past storage.old)) }
         ensures same_table { OnErr result (L.table lock.new ≡ L.table lock.old) }
+        ensures same_deeds { OnErr result (L.past lock.new ≡ L.past lock.old) }
         ensures asks { OnErr result (IsTrue (asks_for_hit status self.old)) }
         ensures kind { IfErr result (λ e. MayFailLock (L.table lock.old) e) }
         ensures numbers { IfErr result (λ e.
@@ -179,15 +189,22 @@ impl<S: Storage> HttpCache<S> {
             ≡ found_row status meta (S.Hit.reader hit) (L.table lock.old) self.old) }
         ensures store { OnOk result (S.state storage.new
             ≡ store_found status (S.Hit.reader hit) self.old (S.state storage.old)) }
+        ensures past { OnOk result (S.past storage.new
+            ≡ taken_past status (S.Hit.reader hit) self.old (S.past storage.old)) }
         ensures table { OnOk result (L.table lock.new
             ≡ table_found status now self.old (L.table lock.old)) }
+        ensures deeds { OnOk result (L.past lock.new
+            ≡ found_deeds status now (L.table lock.old) self.old (L.past lock.old)) }
         ensures tracked { OnOk result (E.tracked eviction.new
             ≡ tracked_by_hit S.guarantees.numbers status (S.Hit.reader hit) self.old
             (E.tracked eviction.old)) }
         ensures same_request { OnErr result (self.new ≡ self.old) }
         ensures left_store { OnErr result (S.state storage.new
             ≡ left (S.state storage.old) (S.Hit.reader hit)) }
+        ensures left_past { OnErr result (S.past storage.new
+            ≡ noted (leave_noted (S.Hit.reader hit)) (S.past storage.old)) }
         ensures same_table { OnErr result (L.table lock.new ≡ L.table lock.old) }
+        ensures same_deeds { OnErr result (L.past lock.new ≡ L.past lock.old) }
         ensures noted { OnErr result ((E.tracked eviction.new ≡ E.tracked eviction.old)
             ⊎ (E.tracked eviction.new
             ≡ tracked_by_hit S.guarantees.numbers status (S.Hit.reader hit) self.old
@@ -238,15 +255,23 @@ impl<S: Storage> HttpCache<S> {
             ≡ found_row status meta (S.Hit.reader hit) (L.table lock.old) self.old)) }
         ensures store { IfOk result (λ f. OnOk f.asked (S.state storage.new
             ≡ store_found status (S.Hit.reader hit) self.old (S.state storage.old))) }
+        ensures past { IfOk result (λ f. OnOk f.asked (S.past storage.new
+            ≡ taken_past status (S.Hit.reader hit) self.old (S.past storage.old))) }
         ensures table { IfOk result (λ f.
             OnOk f.asked (L.table lock.new ≡ table_found status now self.old (L.table lock.old))) }
+        ensures deeds { IfOk result (λ f. OnOk f.asked (L.past lock.new
+            ≡ found_deeds status now (L.table lock.old) self.old (L.past lock.old))) }
 
         // The lock failed.
         ensures unlocked_request { IfOk result (λ f. OnErr f.asked (self.new ≡ self.old)) }
         ensures unlocked_store { IfOk result (λ f.
             OnErr f.asked (S.state storage.new ≡ left (S.state storage.old) (S.Hit.reader hit))) }
+        ensures unlocked_past { IfOk result (λ f. OnErr f.asked (S.past storage.new
+            ≡ noted (leave_noted (S.Hit.reader hit)) (S.past storage.old))) }
         ensures unlocked_table { IfOk result (λ f.
             OnErr f.asked (L.table lock.new ≡ L.table lock.old)) }
+        ensures unlocked_deeds { IfOk result (λ f.
+            OnErr f.asked (L.past lock.new ≡ L.past lock.old)) }
         ensures unlocked_asks { IfOk result (λ f.
             OnErr f.asked (IsTrue (asks_for_hit status self.old))) }
         ensures unlocked_kind { IfOk result (λ f.
@@ -257,7 +282,10 @@ impl<S: Storage> HttpCache<S> {
         ensures same_request { OnErr result (self.new ≡ self.old) }
         ensures left_store { OnErr result (S.state storage.new
             ≡ left (S.state storage.old) (S.Hit.reader hit)) }
+        ensures left_past { OnErr result (S.past storage.new
+            ≡ noted (leave_noted (S.Hit.reader hit)) (S.past storage.old)) }
         ensures same_table { OnErr result (L.table lock.new ≡ L.table lock.old) }
+        ensures same_deeds { OnErr result (L.past lock.new ≡ L.past lock.old) }
         ensures same_tracked { OnErr result (E.tracked eviction.new ≡ E.tracked eviction.old) }
         ensures unused { counts_found status (S.Hit.reader hit) self.old ≡ false
             → eviction.new ≡ eviction.old }

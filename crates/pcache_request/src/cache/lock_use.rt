@@ -70,6 +70,7 @@ impl<S: Storage> HttpCache<S> {
     ghost use Rattle.pcache_request.specs.Releasing.{MayRelease, status_for};
     ghost use Rattle.pcache_request.specs.Reports.{name_of, released_as};
     ghost use Rattle.pcache_request.specs.Requests.{HoldsNothing, settled};
+    ghost use Rattle.pcache_request.specs.LockPasts.{handed_deeds, published_deeds, settled_deeds};
 
     /// Whether `set_cache_lock` may be called: the phase is CacheKey, Stale or Hit, and no lock is
     /// held.
@@ -154,6 +155,7 @@ impl<S: Storage> HttpCache<S> {
         requires { IsOn self.old.phase }
         ensures request { self.new ≡ handed permit self.old }
         ensures table { L.table lock.new ≡ table_handed permit self.old (L.table lock.old) }
+        ensures deeds { L.past lock.new ≡ handed_deeds permit self.old (L.past lock.old) }
         ensures let_go { result ≡ option_map name_of (gone_for permit self.old) }
     {
         let new = Locked::Write(permit);
@@ -183,6 +185,9 @@ impl<S: Storage> HttpCache<S> {
         ensures table { L.table lock.new
             ≡ settled (status_for (L.custom_status lock.old) reason) self.old.held
             (L.table lock.old) }
+        ensures deeds { L.past lock.new
+            ≡ settled_deeds (status_for (L.custom_status lock.old) reason) self.old.held
+            (L.past lock.old) }
         ensures released { result
             ≡ option_map (released_as (status_for (L.custom_status lock.old) reason))
             self.old.held }
@@ -205,7 +210,10 @@ impl<S: Storage> HttpCache<S> {
             p ≡ option_map (λ w. name_of (Write w)) (permit_in self.now.held)) }
         ensures table { OnOk result (L.table lock.new
             ≡ published_by tokens.now self.now.held (L.table lock.old)) }
+        ensures deeds { OnOk result (L.past lock.new
+            ≡ published_deeds tokens.now self.now.held (L.past lock.old)) }
         ensures same_table { OnErr result (L.table lock.new ≡ L.table lock.old) }
+        ensures same_deeds { OnErr result (L.past lock.new ≡ L.past lock.old) }
         ensures kind { IfErr result (λ e. e ≡ OutOfMemory) }
         ensures clears { tokens.now ≡ [] → IsOk result }
         ensures none { permit_in self.now.held ≡ None → IsOk result }

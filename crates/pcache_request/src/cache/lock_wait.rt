@@ -7,6 +7,7 @@ ghost use Rattle.pcache_lock.specs.Waiting.{after_poll, polled, reader_polled, s
 ghost use Rattle.pcache_lock.specs.declared.lock.permit.Locked.TheVariants.{Read};
 ghost use Rattle.pcache_request.specs.LockWaits.{result_by, result_on, digest_after, finds_too_old, has_waited, held_after, is_old_result, let_go_after, outcome_of_status, since_after, since_of, unusable_in};
 ghost use Rattle.pcache_request.specs.Reports.{name_of};
+ghost use Rattle.pcache_request.specs.LockPasts.{ended_deeds, polled_deeds};
 
 use super::{HttpCache, LockName, WaitReport, put};
 use crate::digest::{HttpCacheDigest, LockAbandon};
@@ -107,8 +108,12 @@ fn poll_read<L: CacheKeyLock>(
     ensures table { OnOk result (L.table lock.new
         ≡ after_poll (L.table lock.old) now read.old.number
         (get (L.table lock.old).cores read.old.number)) }
+    ensures deeds { OnOk result (L.past lock.new
+        ≡ polled_deeds now (L.table lock.old) read.old (option_copied fills.entry)
+        (L.past lock.old)) }
     ensures same_read_lock { OnErr result (read.new ≡ read.old) }
     ensures same_table { OnErr result (L.table lock.new ≡ L.table lock.old) }
+    ensures same_deeds { OnErr result (L.past lock.new ≡ L.past lock.old) }
     ensures kind { IfErr result (λ e. e ≡ OutOfMemory) }
     ensures later { IsSome read.old.watch → IsOk result }
     ensures unnamed { option_copied fills.entry ≡ None → IsOk result }
@@ -153,6 +158,7 @@ fn end_poll<L: CacheKeyLock>(
     ensures held { held.new ≡ held_after answer read }
     ensures since { waits_since.new ≡ since_after answer since waits_since.old }
     ensures table { L.table lock.new ≡ let_go_after answer read.number (L.table lock.old) }
+    ensures deeds { L.past lock.new ≡ ended_deeds answer read.number (L.past lock.old) }
 {
     if let Poll::Ready(outcome) = answer {
         traces.trace_lock_wait(lock, &read, outcome);
@@ -209,10 +215,17 @@ fn wait_on<L: CacheKeyLock>(
         (option_map as_nanos timeout) digest.old.waits waits_since.old) read.number
         (after_poll (L.table lock.old) now read.number
         (get (L.table lock.old).cores read.number))) }
+    ensures deeds { OnOk result (L.past lock.new
+        ≡ ended_deeds
+        (result_on (L.table lock.old) now read (option_copied fills.entry)
+        (option_map as_nanos timeout) digest.old.waits waits_since.old) read.number
+        (polled_deeds now (L.table lock.old) read (option_copied fills.entry)
+        (L.past lock.old))) }
     ensures same_held { OnErr result (held.new ≡ Some (Read read)) }
     ensures same_since { OnErr result (waits_since.new ≡ waits_since.old) }
     ensures same_digest { OnErr result (digest.new ≡ digest.old) }
     ensures same_table { OnErr result (L.table lock.new ≡ L.table lock.old) }
+    ensures same_deeds { OnErr result (L.past lock.new ≡ L.past lock.old) }
     ensures kind { IfErr result (λ e. e ≡ OutOfMemory) }
     ensures later { IsSome read.watch → IsOk result }
     ensures unnamed { option_copied fills.entry ≡ None → IsOk result }
@@ -242,6 +255,7 @@ impl<S: Storage> HttpCache<S> {
     ghost use Rattle.pcache_request.specs.LockUse.{read_in};
     ghost use Rattle.pcache_request.specs.LockWaits.{table_waited, too_old_for, unusable_in, wait_result, waited};
     ghost use Rattle.pcache_request.specs.Reports.{name_of};
+    ghost use Rattle.pcache_request.specs.LockPasts.{waited_deeds};
 
     /// The fills that the request cannot use, for which it does not wait.
     pub fn unusable_fills(&self) -> Option<&UnusableFills>
@@ -271,8 +285,11 @@ impl<S: Storage> HttpCache<S> {
             ≡ waited (L.table lock.old) now self.old.held self.old) }
         ensures table { OnOk result (L.table lock.new
             ≡ table_waited (L.table lock.old) now self.old.held self.old) }
+        ensures deeds { OnOk result (L.past lock.new
+            ≡ waited_deeds (L.table lock.old) now self.old.held self.old (L.past lock.old)) }
         ensures same_request { OnErr result (self.new ≡ self.old) }
         ensures same_table { OnErr result (L.table lock.new ≡ L.table lock.old) }
+        ensures same_deeds { OnErr result (L.past lock.new ≡ L.past lock.old) }
         ensures kind { IfErr result (λ e. e ≡ OutOfMemory) }
         ensures later { IfSome (read_in self.old.held) (λ rd. IsSome rd.watch → IsOk result) }
         ensures unnamed { unusable_in self.old.key ≡ None → IsOk result }
@@ -294,8 +311,11 @@ impl<S: Storage> HttpCache<S> {
             ≡ waited (L.table lock.old) now self.old.held self.old) }
         ensures table { OnOk result (L.table lock.new
             ≡ table_waited (L.table lock.old) now self.old.held self.old) }
+        ensures deeds { OnOk result (L.past lock.new
+            ≡ waited_deeds (L.table lock.old) now self.old.held self.old (L.past lock.old)) }
         ensures same_request { OnErr result (self.new ≡ self.old) }
         ensures same_table { OnErr result (L.table lock.new ≡ L.table lock.old) }
+        ensures same_deeds { OnErr result (L.past lock.new ≡ L.past lock.old) }
         ensures kind { IfErr result (λ e. e ≡ OutOfMemory) }
         ensures later { IfSome (read_in self.old.held) (λ rd. IsSome rd.watch → IsOk result) }
         ensures unnamed { unusable_in self.old.key ≡ None → IsOk result }

@@ -6,6 +6,7 @@ ghost use Rattle.pcache_base.specs.declared.error.ErrorType.TheVariants.{OutOfMe
 ghost use Rattle.pcache_store.specs.Purge.{purge_outcome, purged_at};
 ghost use Rattle.pcache_request.specs.Reports.{untracked};
 ghost use Rattle.pcache_request.specs.Requests.{tracked_gone};
+ghost use Rattle.pcache_request.specs.StorePasts.{purged_past};
 
 use super::{HttpCache, Removal};
 use pcache_base::error::Result;
@@ -54,11 +55,14 @@ fn remove_key<S: Storage, E: EvictionManager>(
         r.untracked ≡ untracked is_used (compact_of key.now) r.outcome) }
     ensures store { OnOk result (S.state storage.new
         ≡ purged_at (S.state storage.old) (Some (slot key.now))) }
+    ensures past { OnOk result (S.past storage.new
+        ≡ purged_past (Some key.now) (S.past storage.old)) }
     ensures tracked { OnOk result (E.tracked eviction.new
         ≡ tracked_gone is_used (compact_of key.now)
         (purge_outcome S.guarantees.numbers (S.state storage.old) (Some (slot key.now)))
         (E.tracked eviction.old)) }
     ensures same_store { OnErr result (S.state storage.new ≡ S.state storage.old) }
+    ensures same_past { OnErr result (S.past storage.new ≡ S.past storage.old) }
     ensures same_tracked { OnErr result (E.tracked eviction.new ≡ E.tracked eviction.old) }
     ensures limits { E.limits eviction.new ≡ E.limits eviction.old }
     ensures evicted { E.evicted eviction.new ≡ E.evicted eviction.old }
@@ -78,6 +82,7 @@ impl<S: Storage> HttpCache<S> {
     ghost use Rattle.pcache_request.specs.Phases.{MayPurge, MaySpawnPurge};
     ghost use Rattle.pcache_request.specs.Reports.{untracked_for};
     ghost use Rattle.pcache_request.specs.Requests.{is_removed_by, tracked_expired, tracked_purged};
+    ghost use Rattle.pcache_request.specs.StorePasts.{expired_past, purged_past};
 
     /// Removes what is stored for the key, and its entry from the manager. Returns whether anything
     /// was stored.
@@ -90,10 +95,13 @@ impl<S: Storage> HttpCache<S> {
             (option_map slot self.old.key))) }
         ensures store { OnOk result (S.state storage.new
             ≡ purged_at (S.state storage.old) (option_map slot self.old.key)) }
+        ensures past { OnOk result (S.past storage.new
+            ≡ purged_past self.old.key (S.past storage.old)) }
         ensures tracked { OnOk result (E.tracked eviction.new
             ≡ tracked_purged S.guarantees.numbers self.old (S.state storage.old)
             (E.tracked eviction.old)) }
         ensures same_store { OnErr result (S.state storage.new ≡ S.state storage.old) }
+        ensures same_past { OnErr result (S.past storage.new ≡ S.past storage.old) }
         ensures same_tracked { OnErr result (E.tracked eviction.new ≡ E.tracked eviction.old) }
         ensures limits { E.limits eviction.new ≡ E.limits eviction.old }
         ensures evicted { E.evicted eviction.new ≡ E.evicted eviction.old }
@@ -119,10 +127,13 @@ impl<S: Storage> HttpCache<S> {
             r.untracked ≡ untracked_for self.old.uses.eviction self.old.key r.outcome) }
         ensures store { OnOk result (S.state storage.new
             ≡ purged_at (S.state storage.old) (option_map slot self.old.key)) }
+        ensures past { OnOk result (S.past storage.new
+            ≡ purged_past self.old.key (S.past storage.old)) }
         ensures tracked { OnOk result (E.tracked eviction.new
             ≡ tracked_purged S.guarantees.numbers self.old (S.state storage.old)
             (E.tracked eviction.old)) }
         ensures same_store { OnErr result (S.state storage.new ≡ S.state storage.old) }
+        ensures same_past { OnErr result (S.past storage.new ≡ S.past storage.old) }
         ensures same_tracked { OnErr result (E.tracked eviction.new ≡ E.tracked eviction.old) }
         ensures limits { E.limits eviction.new ≡ E.limits eviction.old }
         ensures evicted { E.evicted eviction.new ≡ E.evicted eviction.old }
@@ -148,10 +159,13 @@ impl<S: Storage> HttpCache<S> {
             (option_map slot self.old.key))) }
         ensures store { OnOk result (S.state storage.new
             ≡ purged_at (S.state storage.old) (option_map slot self.old.key)) }
+        ensures past { OnOk result (S.past storage.new
+            ≡ purged_past self.old.key (S.past storage.old)) }
         ensures tracked { OnOk result (E.tracked eviction.new
             ≡ tracked_purged S.guarantees.numbers self.old (S.state storage.old)
             (E.tracked eviction.old)) }
         ensures same_store { OnErr result (S.state storage.new ≡ S.state storage.old) }
+        ensures same_past { OnErr result (S.past storage.new ≡ S.past storage.old) }
         ensures same_tracked { OnErr result (E.tracked eviction.new ≡ E.tracked eviction.old) }
         ensures limits { E.limits eviction.new ≡ E.limits eviction.old }
         ensures evicted { E.evicted eviction.new ≡ E.evicted eviction.old }
@@ -177,10 +191,13 @@ impl<S: Storage> HttpCache<S> {
             r.untracked ≡ untracked_for self.old.uses.eviction self.old.key r.outcome) }
         ensures store { OnOk result (S.state storage.new
             ≡ purged_at (S.state storage.old) (option_map slot self.old.key)) }
+        ensures past { OnOk result (S.past storage.new
+            ≡ purged_past self.old.key (S.past storage.old)) }
         ensures tracked { OnOk result (E.tracked eviction.new
             ≡ tracked_purged S.guarantees.numbers self.old (S.state storage.old)
             (E.tracked eviction.old)) }
         ensures same_store { OnErr result (S.state storage.new ≡ S.state storage.old) }
+        ensures same_past { OnErr result (S.past storage.new ≡ S.past storage.old) }
         ensures same_tracked { OnErr result (E.tracked eviction.new ≡ E.tracked eviction.old) }
         ensures limits { E.limits eviction.new ≡ E.limits eviction.old }
         ensures evicted { E.evicted eviction.new ≡ E.evicted eviction.old }
@@ -204,9 +221,12 @@ impl<S: Storage> HttpCache<S> {
             ≡ is_removed_by (expire_outcome (S.state storage.old) (option_map slot self.old.key))) }
         ensures store { OnOk result (S.state storage.new
             ≡ expired_at now (S.state storage.old) (option_map slot self.old.key)) }
+        ensures past { OnOk result (S.past storage.new
+            ≡ expired_past now self.old.key (S.past storage.old)) }
         ensures tracked { OnOk result (E.tracked eviction.new
             ≡ tracked_expired self.old (S.state storage.old) (E.tracked eviction.old)) }
         ensures same_store { OnErr result (S.state storage.new ≡ S.state storage.old) }
+        ensures same_past { OnErr result (S.past storage.new ≡ S.past storage.old) }
         ensures same_tracked { OnErr result (E.tracked eviction.new ≡ E.tracked eviction.old) }
         ensures limits { E.limits eviction.new ≡ E.limits eviction.old }
         ensures evicted { E.evicted eviction.new ≡ E.evicted eviction.old }
@@ -232,9 +252,12 @@ impl<S: Storage> HttpCache<S> {
             r.untracked ≡ untracked_for self.old.uses.eviction self.old.key r.outcome) }
         ensures store { OnOk result (S.state storage.new
             ≡ expired_at now (S.state storage.old) (option_map slot self.old.key)) }
+        ensures past { OnOk result (S.past storage.new
+            ≡ expired_past now self.old.key (S.past storage.old)) }
         ensures tracked { OnOk result (E.tracked eviction.new
             ≡ tracked_expired self.old (S.state storage.old) (E.tracked eviction.old)) }
         ensures same_store { OnErr result (S.state storage.new ≡ S.state storage.old) }
+        ensures same_past { OnErr result (S.past storage.new ≡ S.past storage.old) }
         ensures same_tracked { OnErr result (E.tracked eviction.new ≡ E.tracked eviction.old) }
         ensures limits { E.limits eviction.new ≡ E.limits eviction.old }
         ensures evicted { E.evicted eviction.new ≡ E.evicted eviction.old }

@@ -129,6 +129,8 @@ impl<S: Storage> HttpCache<S> {
     ghost use Rattle.pcache_request.specs.Reports.{name_of};
     ghost use Rattle.pcache_request.specs.Requests.{settled};
     ghost use Rattle.pcache_request.specs.Stale.{MayRevalidate};
+    ghost use Rattle.pcache_request.specs.LockPasts.{settled_deeds};
+    ghost use Rattle.pcache_request.specs.StorePasts.{renewed_past};
 
     /// Takes the meta of a response that says that the stale body is still valid. The meta gets the
     /// creation of the old meta, and the moment from which its body came. The store sets it for the
@@ -147,10 +149,14 @@ impl<S: Storage> HttpCache<S> {
         ensures there { IfOk result (λ b. b ≡ has_body (S.state storage.old) self.old.key) }
         ensures store { OnOk result (S.state storage.new
             ≡ with_meta_of (renewed_by meta self.old.meta) self.old.key (S.state storage.old)) }
+        ensures past { OnOk result (S.past storage.new
+            ≡ renewed_past meta self.old (S.past storage.old)) }
         ensures same_store { OnErr result (S.state storage.new ≡ S.state storage.old) }
+        ensures same_past { OnErr result (S.past storage.new ≡ S.past storage.old) }
         ensures something { OnErr result (IsTrue (has_body (S.state storage.old) self.old.key)) }
         ensures kind { IfErr result (λ e. e ≡ OutOfMemory) }
         ensures table { L.table lock.new ≡ settled Done self.old.held (L.table lock.old) }
+        ensures deeds { L.past lock.new ≡ settled_deeds Done self.old.held (L.past lock.old) }
     {
         let Renewal {
             updated,
@@ -172,11 +178,15 @@ impl<S: Storage> HttpCache<S> {
         ensures there { IfOk result.updated (λ b. b ≡ has_body (S.state storage.old) self.old.key) }
         ensures store { OnOk result.updated (S.state storage.new
             ≡ with_meta_of (renewed_by meta self.old.meta) self.old.key (S.state storage.old)) }
+        ensures past { OnOk result.updated (S.past storage.new
+            ≡ renewed_past meta self.old (S.past storage.old)) }
         ensures same_store { OnErr result.updated (S.state storage.new ≡ S.state storage.old) }
+        ensures same_past { OnErr result.updated (S.past storage.new ≡ S.past storage.old) }
         ensures something { OnErr result.updated
             (IsTrue (has_body (S.state storage.old) self.old.key)) }
         ensures kind { IfErr result.updated (λ e. e ≡ OutOfMemory) }
         ensures table { L.table lock.new ≡ settled Done self.old.held (L.table lock.old) }
+        ensures deeds { L.past lock.new ≡ settled_deeds Done self.old.held (L.past lock.old) }
         ensures released { result.released ≡ option_map name_of self.old.held }
     {
         let Some(key) = &self.key else { unreachable!() };

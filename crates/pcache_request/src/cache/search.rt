@@ -22,6 +22,8 @@ impl<S: Storage> HttpCache<S> {
     ghost use Rattle.pcache_request.specs.Requests.{found_for};
     ghost use Rattle.pcache_request.specs.Variants.{is_hidden, visible, seen_for, hides_for, searched, with_key_lock, table_key_locked, asked_for_key, asks_unseen, looked_for, table_looked_for};
     ghost use Rattle.pcache_request.specs.Witnesses.{HasHeard, passed_over};
+    ghost use Rattle.pcache_request.specs.LockPasts.{key_locked_deeds, looked_deeds, looked_with_deeds};
+    ghost use Rattle.pcache_request.specs.StorePasts.{found_past, looked_past, passed_past, searched_past};
 
     /// What the store has for the key, even if it is hidden: the meta, and a reader that has to be
     /// taken or let go. Fails only when memory runs out, and then changes nothing.
@@ -32,8 +34,11 @@ impl<S: Storage> HttpCache<S> {
             ≡ found_for (S.state storage.old) self.now.key) }
         ensures store { OnOk result (S.state storage.new
             ≡ followed (S.state storage.old) (found_for (S.state storage.old) self.now.key)) }
+        ensures past { OnOk result (S.past storage.new
+            ≡ found_past (S.state storage.old) self.now.key (S.past storage.old)) }
         ensures something { OnErr result (IsSome (found_for (S.state storage.old) self.now.key)) }
         ensures same_store { OnErr result (S.state storage.new ≡ S.state storage.old) }
+        ensures same_past { OnErr result (S.past storage.new ≡ S.past storage.old) }
         ensures kind { IfErr result (λ e. e ≡ OutOfMemory) }
     {
         let Some(key) = &self.key else { unreachable!() };
@@ -64,8 +69,11 @@ impl<S: Storage> HttpCache<S> {
         ensures request { OnOk result (self.new ≡ with_key_lock (L.table lock.old) self.old) }
         ensures table { OnOk result (L.table lock.new
             ≡ table_key_locked now self.old (L.table lock.old)) }
+        ensures deeds { OnOk result (L.past lock.new
+            ≡ key_locked_deeds now (L.table lock.old) self.old (L.past lock.old)) }
         ensures same_request { OnErr result (self.new ≡ self.old) }
         ensures same_table { OnErr result (L.table lock.new ≡ L.table lock.old) }
+        ensures same_deeds { OnErr result (L.past lock.new ≡ L.past lock.old) }
         ensures kind { IfErr result (λ e. MayFailLock (L.table lock.old) e) }
         ensures used { OnErr result (IsTrue self.old.uses.lock) }
         ensures digest { self.new.digest ≡ self.old.digest }
@@ -94,6 +102,8 @@ impl<S: Storage> HttpCache<S> {
             ≡ found_for (S.state storage.old) self.now.key) }
         ensures store { OnOk result (S.state storage.new
             ≡ followed (S.state storage.old) (found_for (S.state storage.old) self.now.key)) }
+        ensures past { OnOk result (S.past storage.new
+            ≡ found_past (S.state storage.old) self.now.key (S.past storage.old)) }
         ensures heard { OnOk result (HasHeard W.hears witness.old
             (found_for (S.state storage.old) self.now.key) witness.new) }
         ensures something { OnErr result (IsSome (found_for (S.state storage.old) self.now.key)) }
@@ -101,6 +111,10 @@ impl<S: Storage> HttpCache<S> {
             × (S.state storage.new ≡ S.state storage.old))
             ⊎ (W.may_refuse e
             × (S.state storage.new ≡ passed_over (S.state storage.old) self.now.key))) }
+        ensures left_past { IfErr result (λ e. (S.past storage.new ≡ S.past storage.old)
+            ⊎ (W.may_refuse e
+            × (S.past storage.new
+            ≡ passed_past (S.state storage.old) self.now.key (S.past storage.old)))) }
     {
         let Some((meta, hit)) = self.find(storage)? else {
             return Ok(None);
@@ -142,9 +156,15 @@ impl<S: Storage> HttpCache<S> {
         ensures table { IfOk result (λ l. OnLooked l (L.table lock.new
             ≡ table_looked_with (decision_of_any has_policy (S.state storage.old) self.old self.new)
             (S.state storage.old) now self.old (L.table lock.old))) }
+        ensures deeds { IfOk result (λ l. OnLooked l (L.past lock.new
+            ≡ looked_with_deeds (decision_of_any has_policy (S.state storage.old) self.old self.new)
+            (S.state storage.old) now (L.table lock.old) self.old (L.past lock.old))) }
         ensures store { OnOk result (S.state storage.new
             ≡ store_looked_with (decision_of_any has_policy (S.state storage.old) self.old self.new)
             self.old (S.state storage.old)) }
+        ensures past { OnOk result (S.past storage.new
+            ≡ looked_past (decision_of_any has_policy (S.state storage.old) self.old self.new)
+            (S.state storage.old) self.old (S.past storage.old)) }
 
         // The lock failed.
         ensures unlocked_request { IfOk result (λ l. OnUnlocked l (self.new
@@ -152,6 +172,8 @@ impl<S: Storage> HttpCache<S> {
             self.old)) }
         ensures unlocked_table { IfOk result (λ l.
             OnUnlocked l (L.table lock.new ≡ L.table lock.old)) }
+        ensures unlocked_deeds { IfOk result (λ l.
+            OnUnlocked l (L.past lock.new ≡ L.past lock.old)) }
         ensures unlocked_store { IfOk result (λ l. OnUnlocked l (hides_for (S.state storage.old)
             self.old
             ≡ false
@@ -159,11 +181,16 @@ impl<S: Storage> HttpCache<S> {
 
         ensures same_request { OnErr result (self.new ≡ self.old) }
         ensures same_table { OnErr result (L.table lock.new ≡ L.table lock.old) }
+        ensures same_deeds { OnErr result (L.past lock.new ≡ L.past lock.old) }
         ensures something { OnErr result (IsSome (found_for (S.state storage.old) self.old.key)) }
         ensures refused { IfErr result (λ e. ((e ≡ OutOfMemory)
             × (S.state storage.new ≡ S.state storage.old))
             ⊎ (W.may_refuse e
             × (S.state storage.new ≡ passed_over (S.state storage.old) self.old.key))) }
+        ensures left_past { IfErr result (λ e. (S.past storage.new ≡ S.past storage.old)
+            ⊎ (W.may_refuse e
+            × (S.past storage.new
+            ≡ passed_past (S.state storage.old) self.old.key (S.past storage.old)))) }
     {
         let Some((meta, hit)) = self.find_shown(storage, witness)? else {
             if let Some(Decision::Defer { .. }) = self.decide(policy, has_policy) {
@@ -195,14 +222,22 @@ impl<S: Storage> HttpCache<S> {
             ≡ looked_for (S.state storage.old) (L.table lock.old) self.old) }
         ensures store { OnOk result (S.state storage.new
             ≡ searched (S.state storage.old) self.old) }
+        ensures past { OnOk result (S.past storage.new
+            ≡ searched_past (S.state storage.old) self.old (S.past storage.old)) }
         ensures table { OnOk result (L.table lock.new
             ≡ table_looked_for (S.state storage.old) now self.old (L.table lock.old)) }
+        ensures deeds { OnOk result (L.past lock.new
+            ≡ looked_deeds (S.state storage.old) now (L.table lock.old) self.old (L.past lock.old)) }
         ensures same_request { OnErr result (self.new ≡ self.old) }
         ensures left_store { OnErr result ((S.state storage.new ≡ S.state storage.old)
             ⊎ (S.state storage.new ≡ searched (S.state storage.old) self.old)) }
+        ensures left_past { OnErr result ((S.past storage.new ≡ S.past storage.old)
+            ⊎ (S.past storage.new
+            ≡ searched_past (S.state storage.old) self.old (S.past storage.old))) }
         ensures same_store { OnErr result (hides_for (S.state storage.old) self.old ≡ false
             → S.state storage.new ≡ S.state storage.old) }
         ensures same_table { OnErr result (L.table lock.new ≡ L.table lock.old) }
+        ensures same_deeds { OnErr result (L.past lock.new ≡ L.past lock.old) }
         ensures kind { IfErr result (λ e. MayFailLock (L.table lock.old) e) }
         ensures numbers { IfErr result (λ e.
             e ≡ NumbersExhausted → IsTrue (asks_unseen (S.state storage.old) self.old)) }
@@ -246,16 +281,26 @@ impl<S: Storage> HttpCache<S> {
         ensures store { OnOk result (S.state storage.new
             ≡ store_looked_with (decision_taken (S.state storage.old) self.old self.new) self.old
             (S.state storage.old)) }
+        ensures past { OnOk result (S.past storage.new
+            ≡ looked_past (decision_taken (S.state storage.old) self.old self.new)
+            (S.state storage.old) self.old (S.past storage.old)) }
         ensures table { OnOk result (L.table lock.new
             ≡ table_looked_with (decision_taken (S.state storage.old) self.old self.new)
             (S.state storage.old) now self.old (L.table lock.old)) }
+        ensures deeds { OnOk result (L.past lock.new
+            ≡ looked_with_deeds (decision_taken (S.state storage.old) self.old self.new)
+            (S.state storage.old) now (L.table lock.old) self.old (L.past lock.old)) }
         ensures decided { OnErr result (self.new
             ≡ with_decision (decision_taken (S.state storage.old) self.old self.new) self.old) }
         ensures left_store { OnErr result ((S.state storage.new ≡ S.state storage.old)
             ⊎ (S.state storage.new ≡ searched (S.state storage.old) self.old)) }
+        ensures left_past { OnErr result ((S.past storage.new ≡ S.past storage.old)
+            ⊎ (S.past storage.new
+            ≡ searched_past (S.state storage.old) self.old (S.past storage.old))) }
         ensures same_store { OnErr result (hides_for (S.state storage.old) self.old ≡ false
             → S.state storage.new ≡ S.state storage.old) }
         ensures same_table { OnErr result (L.table lock.new ≡ L.table lock.old) }
+        ensures same_deeds { OnErr result (L.past lock.new ≡ L.past lock.old) }
         ensures kind { IfErr result (λ e. MayFailLock (L.table lock.old) e) }
         ensures numbers { IfErr result (λ e.
             e ≡ NumbersExhausted → IsTrue (asks_unseen (S.state storage.old) self.old)) }
@@ -302,15 +347,23 @@ impl<S: Storage> HttpCache<S> {
         ensures table { IfOk result (λ l. OnLooked l (L.table lock.new
             ≡ table_looked_with (decision_taken (S.state storage.old) self.old self.new)
             (S.state storage.old) now self.old (L.table lock.old))) }
+        ensures deeds { IfOk result (λ l. OnLooked l (L.past lock.new
+            ≡ looked_with_deeds (decision_taken (S.state storage.old) self.old self.new)
+            (S.state storage.old) now (L.table lock.old) self.old (L.past lock.old))) }
         ensures store { OnOk result (S.state storage.new
             ≡ store_looked_with (decision_taken (S.state storage.old) self.old self.new) self.old
             (S.state storage.old)) }
+        ensures past { OnOk result (S.past storage.new
+            ≡ looked_past (decision_taken (S.state storage.old) self.old self.new)
+            (S.state storage.old) self.old (S.past storage.old)) }
 
         // The lock failed.
         ensures unlocked_request { IfOk result (λ l. OnUnlocked l (self.new
             ≡ with_decision (decision_taken (S.state storage.old) self.old self.new) self.old)) }
         ensures unlocked_table { IfOk result (λ l.
             OnUnlocked l (L.table lock.new ≡ L.table lock.old)) }
+        ensures unlocked_deeds { IfOk result (λ l.
+            OnUnlocked l (L.past lock.new ≡ L.past lock.old)) }
         ensures unlocked_store { IfOk result (λ l. OnUnlocked l (hides_for (S.state storage.old)
             self.old
             ≡ false
@@ -318,11 +371,16 @@ impl<S: Storage> HttpCache<S> {
 
         ensures same_request { OnErr result (self.new ≡ self.old) }
         ensures same_table { OnErr result (L.table lock.new ≡ L.table lock.old) }
+        ensures same_deeds { OnErr result (L.past lock.new ≡ L.past lock.old) }
         ensures something { OnErr result (IsSome (found_for (S.state storage.old) self.old.key)) }
         ensures refused { IfErr result (λ e. ((e ≡ OutOfMemory)
             × (S.state storage.new ≡ S.state storage.old))
             ⊎ (W.may_refuse e
             × (S.state storage.new ≡ passed_over (S.state storage.old) self.old.key))) }
+        ensures left_past { IfErr result (λ e. (S.past storage.new ≡ S.past storage.old)
+            ⊎ (W.may_refuse e
+            × (S.past storage.new
+            ≡ passed_past (S.state storage.old) self.old.key (S.past storage.old)))) }
     {
         self.search(storage, lock, policy, true, witness, now)
     }

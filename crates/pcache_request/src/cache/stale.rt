@@ -15,6 +15,7 @@ impl<S: Storage> HttpCache<S> {
     ghost use Rattle.pcache_request.specs.Requests.{settled};
     ghost use Rattle.pcache_meta.specs.Header.{shown};
     ghost use Rattle.pcache_request.specs.Stale.{MayRevalidate, updating, uncacheable};
+    ghost use Rattle.pcache_request.specs.LockPasts.{settled_deeds};
 
     /// Serves the stale body while another request renews it.
     /// Requires the phase Stale; ask `phase().is_stale()`.
@@ -49,6 +50,9 @@ impl<S: Storage> HttpCache<S> {
         ensures table { L.table lock.new
             ≡ settled (status_for (L.custom_status lock.old) reason) self.old.held
             (L.table lock.old) }
+        ensures deeds { L.past lock.new
+            ≡ settled_deeds (status_for (L.custom_status lock.old) reason) self.old.held
+            (L.past lock.old) }
         ensures released { result ≡ option_map name_of self.old.held }
     {
         let Some(meta) = &mut self.meta else {

@@ -57,6 +57,7 @@ impl<S: Storage> HttpCache<S> {
     ghost use Rattle.std.specs.Prelude.{◌≡◌, ◌↔◌, IsTrue, Some};
     ghost use Rattle.pcache_request.specs.Phases.{MayLookUp};
     ghost use Rattle.pcache_request.specs.Requests.{MayWrite};
+    ghost use Rattle.pcache_request.specs.LockPasts.{varied_deeds};
     ghost use Rattle.pcache_request.specs.Variants.{same_variance, looks_for_variance, varied, table_varied, released_by_variance};
 
     /// Sets the variance that the next look-up uses, given the meta that was found for the key. That
@@ -92,6 +93,7 @@ impl<S: Storage> HttpCache<S> {
         requires { MayWrite self.old }
         ensures request { self.new ≡ varied variance self.old }
         ensures table { L.table lock.new ≡ table_varied variance self.old (L.table lock.old) }
+        ensures deeds { L.past lock.new ≡ varied_deeds variance self.old (L.past lock.old) }
         ensures released { result ≡ released_by_variance variance self.old }
     {
         let Some(key) = &self.key else { unreachable!() };

@@ -1,5 +1,6 @@
 use Rattle.std.proofs.Common.{◌≡◌, ◌∙◌, refl, subst, sym, true, Some}
 use Rattle.pcache_request.specs.Requests.{dropped_by}
+use Rattle.pcache_request.specs.StorePasts.{dropped_past}
 use Rattle.pcache_put_ctx.specs.State.{write_in}
 use Rattle.pcache_cache.specs.Parts.{is_own_write}
 use Rattle.pcache_cache.proofs.Fed.{own_goes_on, own_nothing}
@@ -9,20 +10,20 @@ pub returns-in-GoesOn-clause-step : goal.returns-in-GoesOn-clause-step
 returns-in-GoesOn-clause-step g c =
     let e = c.store_piece-end.ensures in
     let r = c.store_piece-end.result in
-    (record { began = r.began; wrote = r.wrote }, record { policy = e.policy; key = e.key; parsed = e.parsed; limit = e.limit; taken = e.taken; last = e.last }, e.store)
+    (record { began = r.began; wrote = r.wrote }, record { policy = e.policy; key = e.key; parsed = e.parsed; limit = e.limit; taken = e.taken; last = e.last }, e.store, e.past)
 
 pub returns-in-NotCached-clause-step : goal.returns-in-NotCached-clause-step
 returns-in-NotCached-clause-step g c =
     let e = c.store_piece-end.ensures in
     let r = c.store_piece-end.result in
-    (record { began = r.began; wrote = r.wrote }, record { policy = e.policy; key = e.key; parsed = e.parsed; limit = e.limit; taken = e.taken; last = e.last }, e.store)
+    (record { began = r.began; wrote = r.wrote }, record { policy = e.policy; key = e.key; parsed = e.parsed; limit = e.limit; taken = e.taken; last = e.last }, e.store, e.past)
 
 pub returns-in-Refused-clause-step : goal.returns-in-Refused-clause-step
 returns-in-Refused-clause-step g c =
     let e = c.store_piece-end.ensures in
     let r = c.store_piece-end.result in
     let ends = rw c.in-Refused.is at e.ends in
-    (record { began = r.began; wrote = r.wrote }, record { policy = e.policy; key = e.key; parsed = e.parsed; limit = e.limit; taken = e.taken; last = e.last }, c.drop_writer.ensures ∙ (λ i. dropped_by (ends.1 i) (e.store i)))
+    (record { began = r.began; wrote = r.wrote }, record { policy = e.policy; key = e.key; parsed = e.parsed; limit = e.limit; taken = e.taken; last = e.last }, c.drop_writer.ensures.store ∙ (λ i. dropped_by (ends.1 i) (e.store i)), c.drop_writer.ensures.past ∙ (λ i. dropped_past (ends.1 i) (e.past i)))
 
 pub returns-in-GoesOn-clause-own : goal.returns-in-GoesOn-clause-own
 returns-in-GoesOn-clause-own g c own =

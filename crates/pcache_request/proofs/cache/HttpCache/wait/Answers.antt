@@ -1,5 +1,6 @@
 use Rattle.std.proofs.Common.{◌≡◌, IfOk, OnOk, Some, refl, subst, ap, ◌∙◌}
 use Rattle.pcache_lock.specs.declared.lock.permit.Locked.TheVariants.{Read}
+use Rattle.pcache_request.specs.LockPasts.{waited_deeds}
 use Rattle.pcache_request.specs.LockWaits.{wait_result, table_waited}
 use Rattle.pcache_request.proofs.cache.HttpCache.wait.Goals as goal
 
@@ -16,3 +17,10 @@ returns-clause-table g c =
     subst (λ r. OnOk c.wait_on.result (g.L.CacheKeyLock.table c.wait_on.new.lock ≡ table_waited (g.L.CacheKeyLock.table c.args.lock.now) c.args.now r.held r))
     c.self.view_is
     (rw held (rw (← c.unusable_in-fills.ensures) c.wait_on.ensures.table))
+
+pub returns-clause-deeds : goal.returns-clause-deeds
+returns-clause-deeds g c =
+    let held : c.self.inside.held ≡ Some (Read c.in-Read.read) = cc (c.in-Some.is, c.in-Read.is, c.take.ensures.value) in
+    subst (λ r. OnOk c.wait_on.result (g.L.CacheKeyLock.past c.wait_on.new.lock ≡ waited_deeds (g.L.CacheKeyLock.table c.args.lock.now) c.args.now r.held r (g.L.CacheKeyLock.past c.args.lock.now)))
+    c.self.view_is
+    (rw held (rw (← c.unusable_in-fills.ensures) c.wait_on.ensures.deeds))

@@ -8,4 +8,5 @@ returns g c =
     let p = c.deref_mut.result.now in
     let q = c.let_go.new.self in
     moves_part c.args.self.now c.args.request.now.place c.place.result c.part.result.now c.lock-part.result.value p q c.place.ensures.place c.part.ensures c.lock-part.ensures.limits c.lock-part.ensures.kept c.deref_mut.ensures.value
-    (ap (λ (x : Parts). x.limits) c.let_go.ensures) (keeps_as c.deref.result.now q c.deref.ensures c.is_kept.ensures) c.let_go.ensures
+    (ap (λ (x : Parts). x.limits) c.let_go.ensures.rest) (keeps_as c.deref.result.now q c.deref.ensures c.is_kept.ensures)
+    (c.let_go.ensures.store, c.let_go.ensures.past, c.let_go.ensures.rest)

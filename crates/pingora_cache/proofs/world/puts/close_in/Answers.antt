@@ -15,7 +15,7 @@ returns-in-Some-clause-answers g c t some =
 pub returns-in-Some-clause-moves : goal.returns-in-Some-clause-moves
 returns-in-Some-clause-moves g c world some =
     written-moves-as (taking c.args.ctx) c.args.store.now.state c.end_put-end.new.storage.state (g.M.EvictionManager.limits c.args.manager.now) (g.M.EvictionManager.tracked c.args.manager.now) (g.M.EvictionManager.tracked c.end_put-end.new.eviction) c.end_put-end.result.end c.end_put-end.result.entry c.end_put-end.ensures.entry c.end_put-end.ensures.ends
-    g.P.PutPolicy.says some.0 some.1 some.2 c.end.new.storage.state c.end_put-end.new.self.stage c.in-Some.write c.slot-slot.result c.end_written.new.events.items world (sym c.write_of-write.ensures.write ∙ c.in-Some.is) (sym c.write_of-write.ensures.entry ∙ c.in-Some.is) (c.slot-slot.ensures ∙ ap slot c.key.ensures) c.end_written.ensures.noted c.end_put-end.ensures.stage c.end.ensures
+    g.P.PutPolicy.says some.0 some.1 some.2 c.end.new.storage.state c.end_put-end.new.self.stage c.in-Some.write c.slot-slot.result c.end_written.new.events.items world (sym c.write_of-write.ensures.write ∙ c.in-Some.is) (sym c.write_of-write.ensures.entry ∙ c.in-Some.is) (c.slot-slot.ensures ∙ ap slot c.key.ensures) c.end_written.ensures.noted c.end_put-end.ensures.stage c.end.ensures.store
 
 pub returns-in-Some-clause-closes : goal.returns-in-Some-clause-closes
 returns-in-Some-clause-closes g c pieces f taken =
@@ -33,7 +33,7 @@ returns-in-None-clause-answers g c t some =
 pub returns-in-None-clause-moves : goal.returns-in-None-clause-moves
 returns-in-None-clause-moves g c world some =
     unwritten-moves-as (taking c.args.ctx) c.args.store.now.state c.end_put-end.new.storage.state (g.M.EvictionManager.limits c.args.manager.now) (g.M.EvictionManager.tracked c.args.manager.now) (g.M.EvictionManager.tracked c.end_put-end.new.eviction) c.end_put-end.result.end c.end_put-end.result.entry c.end_put-end.ensures.entry c.end_put-end.ensures.ends
-    c.end.new.storage.state c.end_put-end.new.self.stage c.args.events.now.items c.requires.none (sym c.write_of-write.ensures.write ∙ c.in-None.is) c.end_put-end.ensures.stage c.end.ensures
+    c.end.new.storage.state c.end_put-end.new.self.stage c.args.events.now.items c.requires.none (sym c.write_of-write.ensures.write ∙ c.in-None.is) c.end_put-end.ensures.stage c.end.ensures.store
 
 pub returns-in-None-clause-closes : goal.returns-in-None-clause-closes
 returns-in-None-clause-closes g c pieces f taken =
