@@ -1,3 +1,5 @@
 pub mod FreshMaps
+pub mod Lines
+pub mod Marks
 pub mod Replaying
 pub mod Standing
