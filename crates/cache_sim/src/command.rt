@@ -29,9 +29,11 @@ fn caches<'a>(alloc: Global, command: Command<'a>) -> Result<Command<'a>, AllocE
         .arg(option(alloc, "ttl", "SECONDS").help(
             "for how long a body is fresh once it came in; for ever without it",
         ))?
-        .arg(option(alloc, "expired", "WHAT").default_value("use").help(
-            "the refill of a body past its time: a use of its entry, or replace it: remove it and admit it anew",
-        ))?
+        .arg(
+            option(alloc, "expired", "WHAT").default_value("use").help(
+                "the refill of a body past its time: a use of its entry, or replace it: remove it and admit it anew",
+            ),
+        )?
         .arg(
             option(alloc, "large", "WHAT").default_value("pass").help(
                 "a body above the size of a cache: pass it by, or let it evict all others",
@@ -80,9 +82,9 @@ fn trace<'a>(alloc: Global, command: Command<'a>) -> Result<Command<'a>, AllocEr
 fn report<'a>(alloc: Global, command: Command<'a>) -> Result<Command<'a>, AllocError> {
     command
         .arg(
-            option(alloc, "warmup", "NUMBER")
-                .default_value("0")
-                .help("how many requests of the trace are made before any is counted"),
+            option(alloc, "warmup", "NUMBER").default_value("0").help(
+                "how many requests of the trace are made before any is counted",
+            ),
         )?
         .arg(option(alloc, "interval", "NUMBER").help(
             "results of each so many requests of the trace, in place of all",

@@ -1,5 +1,6 @@
 pub mod FreshMaps
-pub mod Lines
 pub mod Marks
+pub mod ReadLines
 pub mod Replaying
 pub mod Standing
+pub mod Tells

@@ -45,9 +45,10 @@ played p before asked more rules kept next start base gone left counts new now t
 
 -- what holds of the elements that were changed, and of those that were not yet, after one more
 pub each-more : {X : Type 0} (P Q : X → Type 0) (xs : List X) (i n : ℕ) (v : X) → i < length xs → Q v → AllWithin Q xs 0 i × AllWithin P xs i n → AllWithin Q (set xs i v) 0 (i + 1) × AllWithin P (set xs i v) (i + 1) n
-each-more P Q xs i n v lt is (done, left) =
-    (AllWithin-more_set xs i v lt Q done is,
-    λ k d low high. let other : k ≢ i = omega arith in let from : i ≤ k = omega arith in subst P (sym (get_or-set_other xs i k v d other)) (left k d from high))
+each-more P Q xs i n v lt is (done, left) = (
+  AllWithin-more_set xs i v lt Q done is,
+  λ k d low high. let other : k ≢ i = omega arith in let from : i ≤ k = omega arith in subst P (sym (get_or-set_other xs i k v d other)) (left k d from high),
+)
 
 -- once all were changed, the vector has them
 pub all-whole : {X : Type 0} (Q : X → Type 0) (xs rest : List X) (n i : ℕ) → n ≡ length xs → length xs ≤ i → AllWithin Q xs 0 i → All Q (take n (xs ++ rest))

@@ -71,9 +71,13 @@ policy_of (run.Sharded r) = named.Sharded
 policy_of (run.Sieve r) = named.Sieve
 policy_of (run.S3Fifo r) = named.S3Fifo
 
+-- the size of the largest body that a cache with this limit stores
+abbrev pub most_in : Setting → ℕ → ℕ
+most_in s limit = if s.passes_by then limit else largest
+
 -- the rules of a cache that has this size over all keys
 abbrev pub rules_in : Setting → ℕ → Rules
-rules_in s size = rules_of (limits_of (expected s.sample.rate size) (option_map (expected s.sample.rate) s.watermark)) (if s.passes_by then expected s.sample.rate size else largest) s.replaces
+rules_in s size = rules_of (limits_of (expected s.sample.rate size) (option_map (expected s.sample.rate) s.watermark)) (most_in s (expected s.sample.rate size)) s.replaces
 
 -- what is recorded of freshness before the first request
 abbrev pub start_in : Setting → Option Fresh

@@ -30,8 +30,11 @@ abbrev pub request_with : List ℕ → ℕ → ℕ → Request
 request_with hash size second = record { item = entry_with (record { primary = hash; variance = None; user_tag = [] }) None; size = size; time = second * 1000000000 }
 
 -- a line is a request if the hash of its key is in the sample
+abbrev pub request_by : Sample → List ℕ → ℕ → ℕ → Option Request
+request_by s hash size second = if is_in_part s.rate s.part (front_of hash) then Some (request_with hash size second) else None
+
 abbrev pub request_of : Sample → Line → Option Request
-request_of s l = if is_in_part s.rate s.part (front_of (blake2b_128 l.key)) then Some (request_with (blake2b_128 l.key) l.size l.second) else None
+request_of s l = request_by s (blake2b_128 l.key) l.size l.second
 
 -- the requests of these lines that are made
 abbrev pub requests_of : Sample → List Line → List Request

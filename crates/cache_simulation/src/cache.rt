@@ -71,7 +71,9 @@ impl AnyRun {
         let seed = Seed::fixed();
         match policy {
             Policy::Lru => {
-                let manager = simple_lru::Manager::new_with_watermark(alloc, seed, limit, watermark)?;
+                let manager = simple_lru::Manager::new_with_watermark(
+                    alloc, seed, limit, watermark,
+                )?;
                 Ok(AnyRun::Lru(Run::new(alloc, manager, most, time, replaces)))
             }
             Policy::Sharded => {
@@ -174,13 +176,9 @@ impl Cache {
         ensures kind { IfErr result (λ e. e ≡ OutOfMemory) }
     {
         let limit = setting.sample.scaled(size);
-        let most = if setting.passes_by {
-            limit
-        } else {
-            usize::MAX
-        };
         let watermark = setting.scaled_watermark();
-        let time = setting.ttl.map(Duration::from_secs);
+        let most = setting.most(limit);
+        let time = setting.time();
         let replaces = setting.replaces;
         let run = AnyRun::new(alloc, policy, limit, watermark, most, time, replaces)?;
         Ok(Cache { size, run, gone: 0 })

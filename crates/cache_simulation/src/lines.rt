@@ -95,11 +95,7 @@ impl<R: Read + Drop> Lines<R> {
 }
 
 // Adds at most so many bytes of what the reader has, and returns how many; 0 at the end.
-fn take_upto<R: BufRead>(
-    reader: &mut R,
-    most: usize,
-    line: &mut Vec<u8>,
-) -> Result<usize, Stop> {
+fn take_upto<R: BufRead>(reader: &mut R, most: usize, line: &mut Vec<u8>) -> Result<usize, Stop> {
     for _ in 0..u64::MAX {
         let buffer = match reader.fill_buf() {
             Ok(buffer) => buffer,

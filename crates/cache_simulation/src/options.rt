@@ -1,11 +1,15 @@
 //! The words of the command line.
 ghost use Rattle.std.specs.Prelude.{◌≡◌, option_map};
+ghost use Rattle.std.specs.Duration.{as_nanos};
+ghost use Rattle.cache_simulation.specs.Caches.{start_in, most_in};
+ghost use Rattle.cache_simulation.specs.Fresh.{none_fresh};
 ghost use Rattle.cache_simulation.specs.Sampled.{expected};
 
 use crate::sample::{Sample, WHOLE};
 use crate::trace::{Columns, TraceType, is_digits};
 use std::alloc::{AllocError, Global};
 use std::fmt;
+use std::time::Duration;
 
 /// Which entries are evicted.
 #[derive(Clone, Copy, Debug, PartialEq, Eq)]
@@ -141,8 +145,27 @@ impl Setting {
     pub fn scaled_watermark(&self) -> Option<usize>
         ensures { result ≡ option_map (expected self.now.sample.rate) self.now.watermark }
     {
-        let watermark = self.watermark?;
-        Some(self.sample.scaled(watermark))
+        match self.watermark {
+            Some(watermark) => Some(self.sample.scaled(watermark)),
+            None => None,
+        }
+    }
+
+    /// For how long bodies are fresh, if that is limited.
+    pub fn time(&self) -> Option<Duration>
+        ensures { option_map (λ t. none_fresh (as_nanos t)) result ≡ start_in self.now }
+    {
+        match self.ttl {
+            Some(seconds) => Some(Duration::from_secs(seconds)),
+            None => None,
+        }
+    }
+
+    /// The size of the largest body that a cache with this limit stores.
+    pub fn most(&self, limit: usize) -> usize
+        ensures { result ≡ most_in self.now limit }
+    {
+        if self.passes_by { limit } else { usize::MAX }
     }
 }
 
@@ -319,10 +342,7 @@ fn watermark(text: Option<&str>) -> Result<Option<usize>, Unusable<'_>> {
     }
 }
 
-fn interval<'a>(
-    text: Option<&'a str>,
-    plot: Option<&'a str>,
-) -> Result<Option<u64>, Unusable<'a>> {
+fn interval<'a>(text: Option<&'a str>, plot: Option<&'a str>) -> Result<Option<u64>, Unusable<'a>> {
     let Some(text) = text else {
         return Ok(None);
     };
@@ -339,12 +359,7 @@ fn interval<'a>(
 
 fn trace_type(text: Option<&str>) -> Result<Option<TraceType>, Unusable<'_>> {
     match text {
-        Some(text) => Ok(Some(value(
-            "trace-type",
-            text,
-            TRACE_TYPES,
-            TraceType::named(text),
-        )?)),
+        Some(text) => Ok(Some(value("trace-type", text, TRACE_TYPES, TraceType::named(text))?)),
         None => Ok(None),
     }
 }

@@ -1,10 +1,10 @@
 //! The requests of a trace, on their way to the caches.
 ghost use Rattle.std.specs.Prelude.{◌≡◌, ◌+◌, ◌++◌, ◌∷◌, [], List, IfOk, IfErr, OnOk, ◌⊎◌, is_some};
-ghost use Rattle.std.specs.List.{All};
+ghost use Rattle.std.specs.List.{All, cons_option};
 ghost use Rattle.pcache_base.specs.declared.error.ErrorType.TheVariants.{OutOfMemory, NumbersExhausted};
 ghost use Rattle.cache_simulation.specs.declared.run.Request.{Request};
 ghost use Rattle.cache_simulation.specs.Caches.{HasPlayed};
-ghost use Rattle.cache_simulation.specs.Reading.{Line, line, request_with, HasAsked, HasRead, IsRowOf, front_of, request_of};
+ghost use Rattle.cache_simulation.specs.Reading.{Line, line, request_with, HasAsked, HasRead, IsRowOf, front_of, request_by, request_of};
 
 use crate::cache::Span;
 use crate::counts::Counts;
@@ -67,11 +67,7 @@ impl Player {
         if self.all.is_full() {
             return Err(Error::new(ErrorType::NumbersExhausted));
         }
-        let primary = hash_key(key);
-        let is_sampled = self.runs.setting.sample.has(front(primary));
-        if is_sampled {
-            self.ask(primary, size, second)?;
-        }
+        let is_sampled = self.pick(hash_key(key), size, second)?;
         self.all.note(size, false);
         Ok(is_sampled)
     }
@@ -130,6 +126,26 @@ impl Player {
         }
     }
 
+    // Asks for a body, if the key of this hash is in the sample.
+    fn pick(&mut self, primary: HashBinary, size: usize, second: u64) -> Result<bool>
+        ensures asked { OnOk result ((before asked : List Request)
+            → HasAsked before asked self.old
+            → HasAsked before (asked ++ cons_option
+            (request_by self.old.runs.setting.sample primary size second) []) self.new) }
+        ensures sampled { IfOk result (λ is. is
+            ≡ is_some (request_by self.old.runs.setting.sample primary size second)) }
+        ensures setting { self.new.runs.setting ≡ self.old.runs.setting }
+        ensures from { self.new.from ≡ self.old.from }
+        ensures all { self.new.all ≡ self.old.all }
+        ensures kind { IfErr result (λ e. (e ≡ OutOfMemory) ⊎ (e ≡ NumbersExhausted)) }
+    {
+        if !self.runs.setting.sample.has(front(primary)) {
+            return Ok(false);
+        }
+        self.ask(primary, size, second)?;
+        Ok(true)
+    }
+
     // Adds a request to those that wait, and makes them if they are many.
     fn ask(&mut self, primary: HashBinary, size: usize, second: u64) -> Result<()>
         ensures asked { OnOk result ((before asked : List Request)
@@ -140,11 +156,13 @@ impl Player {
         ensures all { self.new.all ≡ self.old.all }
         ensures kind { IfErr result (λ e. (e ≡ OutOfMemory) ⊎ (e ≡ NumbersExhausted)) }
     {
-        self.batch.push(request(self.runs.alloc, primary, size, second))?;
+        self.batch
+            .push(request(self.runs.alloc, primary, size, second))?;
         if self.batch.len() < BATCH {
             return Ok(());
         }
-        self.play()
+        self.play()?;
+        Ok(())
     }
 
     // Makes the requests that wait.
@@ -165,6 +183,7 @@ impl Player {
 }
 
 // The first eight bytes of a hash as a number.
+#[tactic(auto, unfolding(pcache_base::specs::Key::number_of))]
 pub(crate) fn front(hash: HashBinary) -> u64
     ensures { result ≡ front_of hash }
 {

@@ -85,8 +85,11 @@ impl Progress {
     pub(crate) fn say_bad<E: Write>(&self, errors: &mut E) -> Result<(), Stop> {
         if self.passed > 0 {
             let Progress { passed, lines, .. } = *self;
-            writeln!(errors, "{passed} of {lines} lines are other operations than get and gets")
-                .map_err(Stop::Io)?;
+            writeln!(
+                errors,
+                "{passed} of {lines} lines are other operations than get and gets"
+            )
+            .map_err(Stop::Io)?;
         }
         if self.bad == 0 {
             return Ok(());

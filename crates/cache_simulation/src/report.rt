@@ -42,12 +42,20 @@ impl Row {
 
     // What is done with a body larger than the cache.
     fn large(&self) -> &'static str {
-        if self.setting.passes_by { "pass" } else { "evict" }
+        if self.setting.passes_by {
+            "pass"
+        } else {
+            "evict"
+        }
     }
 
     // What the refill of a body past its time is.
     fn expired(&self) -> &'static str {
-        if self.setting.replaces { "replace" } else { "use" }
+        if self.setting.replaces {
+            "replace"
+        } else {
+            "use"
+        }
     }
 }
 
@@ -74,7 +82,10 @@ fn write_csv<W: Write>(out: &mut W, rows: &[Row]) -> io::Result<()> {
         out,
         "expected_requests,corrected_hits,expected_bytes,corrected_hit_bytes,"
     )?;
-    writeln!(out, "sample,part,ttl,large,expired,ignore_size,watermark,from,until")?;
+    writeln!(
+        out,
+        "sample,part,ttl,large,expired,ignore_size,watermark,from,until"
+    )?;
     for row in rows {
         write_values(out, row)?;
     }
@@ -91,9 +102,14 @@ fn write_values<W: Write>(out: &mut W, row: &Row) -> io::Result<()> {
     write!(
         out,
         "{},{},{requests},{hits},{bytes},{hit_bytes},",
-        row.told.policy.name(), row.size
+        row.told.policy.name(),
+        row.size
     )?;
-    write!(out, "{},{},{},", row.told.evicted, row.told.tracked, row.expected)?;
+    write!(
+        out,
+        "{},{},{},",
+        row.told.evicted, row.told.tracked, row.expected
+    )?;
     write!(out, "{},", row.told.counts.corrected_hits(row.expected))?;
     write!(out, "{},", row.expected_bytes)?;
     write!(
@@ -137,7 +153,8 @@ fn write_object<W: Write>(out: &mut W, row: &Row) -> io::Result<()> {
     write!(
         out,
         "{{\"policy\":\"{}\",\"size\":{},",
-        row.told.policy.name(), row.size
+        row.told.policy.name(),
+        row.size
     )?;
     write!(
         out,
@@ -181,7 +198,12 @@ fn write_table<W: Write>(out: &mut W, rows: &[Row]) -> io::Result<()> {
     let is_part = rows.iter().any(|row| row.from > 0);
     for row in rows {
         if is_part {
-            write!(out, "requests {} to {}: ", row.from.saturating_add(1), row.until)?;
+            write!(
+                out,
+                "requests {} to {}: ",
+                row.from.saturating_add(1),
+                row.until
+            )?;
         }
         write_line(out, row)?;
     }
@@ -194,7 +216,9 @@ fn write_line<W: Write>(out: &mut W, row: &Row) -> io::Result<()> {
     write!(
         out,
         "{} of {} bytes: {} requests",
-        row.told.policy.name(), row.size, counts.requests
+        row.told.policy.name(),
+        row.size,
+        counts.requests
     )?;
     if row.setting.sample.is_all() {
         write!(out, ", {} hits ", counts.hits)?;
@@ -247,7 +271,8 @@ fn draw_point<W: Write>(
     writeln!(
         out,
         "<circle cx=\"{x}\" cy=\"{y}\" r=\"4\" fill=\"{colour}\"><title>{} {}</title></circle>",
-        row.told.policy.name(), row.size
+        row.told.policy.name(),
+        row.size
     )?;
     if place == 0 {
         let under = 40 + (policy as u128 % 16) * 16;

@@ -3,7 +3,7 @@ ghost use Rattle.std.specs.Prelude.{◌≡◌, ◌++◌, List, [], IfOk, IfErr, 
 ghost use Rattle.std.specs.List.{All};
 ghost use Rattle.pcache_base.specs.declared.error.ErrorType.TheVariants.{OutOfMemory, NumbersExhausted};
 ghost use Rattle.cache_simulation.specs.declared.run.Request.{Request};
-ghost use Rattle.cache_simulation.specs.Caches.{HasPlayed, IsRow};
+ghost use Rattle.cache_simulation.specs.Caches.{HasPlayed, StandsIn, IsRow};
 
 use crate::cache::{Cache, Span};
 use crate::options::{Options, Policy, Setting, Size};
@@ -31,7 +31,14 @@ impl Runs {
         let setting = options.setting;
         let mut caches = Vec::new(alloc);
         for policy in options.policies.as_slice() {
-            add(alloc, setting, *policy, options.sizes.as_slice(), distinct, &mut caches)?;
+            add(
+                alloc,
+                setting,
+                *policy,
+                options.sizes.as_slice(),
+                distinct,
+                &mut caches,
+            )?;
         }
         Ok(Runs {
             alloc,
@@ -90,7 +97,11 @@ fn add(
     sizes: &[Size],
     distinct: u64,
     caches: &mut Vec<Cache>,
-) -> Result<()> {
+) -> Result<()>
+    ensures ok { OnOk result (All (StandsIn setting [] []) caches.old.items
+        → All (StandsIn setting [] []) caches.new.items) }
+    ensures kind { IfErr result (λ e. e ≡ OutOfMemory) }
+{
     for size in sizes {
         caches.push(Cache::new(alloc, setting, policy, size.in_bytes(distinct))?)?;
     }

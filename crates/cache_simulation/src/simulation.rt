@@ -58,12 +58,28 @@ pub fn simulate<C: Clock + Files, R: Read + Drop, W: Write + Drop, E: Write>(
             let progress = Progress::start(rt, length(rt, path.as_str()))?;
             let file = fs::open(rt, path.as_str()).map_err(Stop::Io)?;
             let reader = Reader::new(alloc, options, file)?;
-            read_trace(rt, options, &mut player, &mut rows, reader, progress, errors)?
+            read_trace(
+                rt,
+                options,
+                &mut player,
+                &mut rows,
+                reader,
+                progress,
+                errors,
+            )?
         }
         None => {
             let progress = Progress::start(rt, length(rt, "/dev/stdin"))?;
             let reader = Reader::new(alloc, options, input)?;
-            read_trace(rt, options, &mut player, &mut rows, reader, progress, errors)?
+            read_trace(
+                rt,
+                options,
+                &mut player,
+                &mut rows,
+                reader,
+                progress,
+                errors,
+            )?
         }
     };
     read.check()?;

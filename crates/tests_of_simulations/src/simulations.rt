@@ -216,7 +216,15 @@ fn are_counted<C: Clock + Files>(rt: &C, alloc: Global) -> bool {
     words.ignores_size = true;
     words.watermark = Some("2");
     match read(alloc, &words) {
-        Ok(options) => is_played(rt, alloc, &options, "a 2\nb 3\na 2\nc 4\na 2", "done", COUNTED, ""),
+        Ok(options) => is_played(
+            rt,
+            alloc,
+            &options,
+            "a 2\nb 3\na 2\nc 4\na 2",
+            "done",
+            COUNTED,
+            "",
+        ),
         Err(_unusable) => false,
     }
 }
@@ -249,7 +257,8 @@ fn only_gets_are_requests(rt: HostRuntime) {
 
 // Two requests of five are not counted, and of the others there are results each two: `c` comes in for `b`, which goes; `a` is
 // there.
-const LATER: &str = "requests 3 to 4: lru of 5 bytes: 2 requests, 1 hits (50.00%), 33.33% of the bytes, 2 evicted, 4 bytes tracked\n\
+const LATER: &str =
+    "requests 3 to 4: lru of 5 bytes: 2 requests, 1 hits (50.00%), 33.33% of the bytes, 2 evicted, 4 bytes tracked\n\
     requests 5 to 5: lru of 5 bytes: 1 requests, 0 hits (0.00%), 0.00% of the bytes, 1 evicted, 2 bytes tracked\n";
 
 fn is_counted_later<C: Clock + Files>(
@@ -265,7 +274,15 @@ fn is_counted_later<C: Clock + Files>(
     words.warmup = warmup;
     words.interval = Some("2");
     match read(alloc, &words) {
-        Ok(options) => is_played(rt, alloc, &options, "a 2\nb 3\na 2\nc 4\na 2", end, written, ""),
+        Ok(options) => is_played(
+            rt,
+            alloc,
+            &options,
+            "a 2\nb 3\na 2\nc 4\na 2",
+            end,
+            written,
+            "",
+        ),
         Err(_unusable) => false,
     }
 }

@@ -43,4 +43,3 @@ returns-in-S3Fifo-clause-served c = λ before asked rules start base stands.
     (rules-same _ _ _ _ _ _ (ap (λ m. m.limits) c.mark-in-S3Fifo.ensures.manager) c.mark-in-S3Fifo.ensures.most c.mark-in-S3Fifo.ensures.replaces)
     c.mark-in-S3Fifo.ensures.evicted c.mark-in-S3Fifo.ensures.served
     (subst (λ (r : AnyRun). Stands before asked rules start base r) c.in-S3Fifo.is stands)
-

@@ -1,6 +1,6 @@
 use Rattle.std.proofs.Common.{◌≡◌, ◌∙◌, ◌++◌, ◌+◌, [], List, ap, sym, refl, length, length-append, arith}
 use Rattle.cache_simulation.specs.Reading.{requests_of}
-use Rattle.cache_simulation.proofs.Lines.{moved-on}
+use Rattle.cache_simulation.proofs.ReadLines.{moved-on}
 use Rattle.cache_simulation.proofs.player.Player.mark.Goals as goal
 
 pub returns-clause-read : goal.returns-clause-read

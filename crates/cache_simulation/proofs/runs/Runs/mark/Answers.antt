@@ -10,13 +10,15 @@ loop-cache-preserved c =
     let so_far = c.loop-cache.invariant in
     let long = so_far.long in
     let test = c.loop-cache-test.true in
+    let own = c.loop-cache.auto.cache-items in
+    let here : c.loop-cache.cache-index < length c.loop-cache.cache-items = omega arith in
     let setting = c.args.self.now.setting in
     record {
       long = length-set c.loop-cache.cache-items c.loop-cache.cache-index c.mark.new.self ∙ long;
       each = λ before asked stands.
           let each = so_far.each before asked stands in
-          each-more (StandsIn setting before asked) (StandsIn setting (before ++ asked) []) c.loop-cache.cache-items c.loop-cache.cache-index (length c.args.self.now.caches.items) c.mark.new.self test
-          (c.mark.ensures.served setting before asked (subst (StandsIn setting before asked) (sym c.cache-item.is) (each.1 c.loop-cache.cache-index c.cache-item.result (omega arith) (omega arith))))
+          each-more (StandsIn setting before asked) (StandsIn setting (before ++ asked) []) c.loop-cache.cache-items c.loop-cache.cache-index (length c.args.self.now.caches.items) c.mark.new.self here
+          (c.mark.ensures.served setting before asked (each.1 c.loop-cache.cache-index c.cache-item.result (omega arith) (omega arith)))
           each;
     }
 
