@@ -2,7 +2,7 @@
 """Sees that the documents say what is so: README.md, CHANGELOG.md, CONTRIBUTING.md and the pages of docs/.
 
   bench/docs_true.py             prints what is wrong, and fails if anything is
-  bench/docs_true.py --write     writes the table of AUDIT.md as it is today, and then does the same
+  bench/docs_true.py --write     writes the counts of AUDIT.md as they are today, and then does the same
   bench/docs_true.py --run       also runs the commands of README.md and GUIDE.md that take seconds, over the programs that are built
   bench/docs_true.py --use-it    runs the block "Use it" of README.md in a copy of the tree, which takes some minutes
   bench/docs_true.py --lies      plants a lie of each kind in the pages, in memory, and fails if one is not caught
@@ -15,7 +15,7 @@
 - each block of Rattle in README.md, GUIDE.md and AUDIT.md stands in a source, as it is but for blanks
 - each block of output in README.md and GUIDE.md is what a program's file stdout has
 - in a picture of the crates none stands above one that uses it
-- where a number of tests, crates, public functions or wrong bodies is said, it is today's; so in AUDIT.md's table
+- where a number of tests, crates, public functions or wrong bodies is said, it is today's; so in AUDIT.md's counts
 - bench/definitions_of.py reads each clause that begins in a source
 - README.md has at most 140 lines, and dev/PERFORMANCE.md 80
 """
@@ -248,12 +248,13 @@ def reached(wanted):
     return len(order), definitions_of.lines_of(order)
 
 
+PRINTED = re.compile(r"(`bench/definitions_of\.py ([\w:.]+)` prints the )\d+( definitions)")
 COUNTED = re.compile(r"(?m)^(\| [^|\n]* \| (?:`(\w+)`(?: of `([\w:]+)`)?)? ?\| )([\d,]+) \| ([\d,]+) \|$")
 
 
 def with_counts(text):
-    """The text of AUDIT.md with the table as it is today: a row for each clause of the headline, one for a world's legality, and two
-    for all of them."""
+    """The text of AUDIT.md as it is today: the table with a row for each clause of the headline, one for a world's legality, and two
+    for all of them; and how many definitions a contract prints."""
 
     def row(found):
         head, clause, name, *_ = found.groups()
@@ -263,13 +264,14 @@ def with_counts(text):
         count, lines = reached(wanted)
         return f"{head}{count:,} | {lines:,} |"
 
+    text = PRINTED.sub(lambda it: f"{it[1]}{reached([(it[2], None)])[0]}{it[3]}", text)
     return COUNTED.sub(row, text)
 
 
 def wrong_counts(text):
     for old, new in zip(text.split("\n"), with_counts(text).split("\n")):
         if old != new:
-            yield f"today this row is: {new}"
+            yield f"today this line is: {new}"
 
 
 # Pages of one screen or little more stay so.

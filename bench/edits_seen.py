@@ -9,7 +9,8 @@
   bench/edits_seen.py --named MINUTES [--lanes N] [NAME..]       those of bench/mistakes.txt, side by side, in so many minutes
 
 The gate tries the one file in must-fail/, and sees only that the edited crate as a whole is refused. This reads the files in
-wrong-bodies/ too, checks the edited text once for each file, in a copy, and looks for the function that each edit turns:
+wrong-bodies/ too, tries as many edits at once as turn functions of their own, in a copy, and looks for the function that each
+turns:
 
   by itself    a goal of this very function fails
   by callers   the function is still proved, but something that uses it is not, with this edit alone
@@ -47,6 +48,7 @@ import time
 
 sys.path.insert(0, os.path.dirname(os.path.realpath(__file__)))
 import definitions_of  # noqa: E402
+import prove  # noqa: E402
 
 TOP = os.path.dirname(os.path.dirname(os.path.realpath(__file__)))
 
@@ -65,20 +67,65 @@ class Edit:
             elif line.startswith("new:"):
                 self.pairs.append((path, old, line[len("new:") :].removeprefix(" ")))
 
-    def apply(self, folder):
-        """Changes the files below the folder, and answers the functions that it turns, as (module, type, function, trait)."""
+    def turn(self, folder, texts):
+        """Changes the texts of the files below the folder, of which some may be changed already, and answers the functions that it
+        turns, as (module, type, function, trait)."""
         turned = []
         for path, old, new in self.pairs:
-            with open(f"{folder}/{path}", encoding="utf-8") as it:
-                text = it.read()
+            if path not in texts:
+                with open(f"{folder}/{path}", encoding="utf-8") as it:
+                    texts[path] = it.read()
+            text = texts[path]
             if text.count(old) != 1:
                 raise SystemExit(f"{self.name}: the old text stands {text.count(old)} times in {path}: {old}")
             at = text.index(old)
-            text = text.replace(old, new)
+            texts[path] = text.replace(old, new)
+            turned.append(function_at(path, texts[path], at, at + len(new)))
+        return turned
+
+    def apply(self, folder):
+        """Changes the files below the folder, and answers the functions that it turns."""
+        texts = {}
+        turned = self.turn(folder, texts)
+        for path, text in texts.items():
             with open(f"{folder}/{path}", "w", encoding="utf-8") as it:
                 it.write(text)
-            turned.append(function_at(path, text, at, at + len(new)))
         return turned
+
+
+class Round:
+    """Edits of a crate that are checked together: each applies to what those before it made, and each turns functions of its own."""
+
+    def __init__(self, crate):
+        self.folder, self.texts, self.turned, self.edits = f"{TOP}/crates/{crate}", {}, set(), []
+
+    def takes(self, file, edit):
+        """Takes an edit in, if it fits."""
+        texts = dict(self.texts)
+        try:
+            turned = set(edit.turn(self.folder, texts))
+        except SystemExit:
+            return False
+        # one outside a function may change what any other shows
+        is_outside = any(it[2] is None for it in turned | self.turned)
+        if self.edits and (is_outside or turned & self.turned):
+            return False
+        self.texts, self.turned = texts, self.turned | turned
+        self.edits.append((file, edit))
+        return True
+
+
+def rounds_of(crate):
+    """The edits of a crate, with their files, in as few rounds as they fit into."""
+    found = []
+    for file in files_of(crate):
+        for edit in edits_in(f"{TOP}/crates/{crate}/{file}"):
+            if any(it.takes(file, edit) for it in found):
+                continue
+            found.append(Round(crate))
+            if not found[-1].takes(file, edit):
+                edit.turn(f"{TOP}/crates/{crate}", {})  # says why it does not apply
+    return [it.edits for it in found]
 
 
 def function_around(text, start, end):
@@ -146,29 +193,12 @@ def link(old, new):
         shutil.copy2(old, new)
 
 
-def lines_below(crate):
-    """The lines of crates.txt for a crate and for the crates of this repository that it uses, directly or not, by crate."""
-    lines = {}
-    with open(f"{TOP}/crates.txt", encoding="utf-8") as it:
-        for line in it:
-            head = line.split("#")[0].partition(":")[0].split()
-            if head:
-                lines[head[0]] = line
-    found, left = {}, [crate]
-    while left:
-        name = left.pop()
-        if name in lines and name not in found:
-            found[name] = lines[name]
-            left += lines[name].partition(":")[2].split()
-    return found
-
-
 @contextlib.contextmanager
 def copy_of(crate):
     """A folder with the crate and those below it, with what was built of them: the crate's own folder there."""
     with tempfile.TemporaryDirectory(prefix="edits-seen-") as room:
         shutil.copy(f"{TOP}/HANDLES", room)
-        lines = lines_below(crate)
+        lines = prove.rows_below(crate)
         with open(f"{room}/crates.txt", "w", encoding="utf-8") as it:
             it.writelines(lines.values())
         for name in lines.keys() - {crate}:
@@ -302,6 +332,26 @@ def of_functions(crate, lines):
     return said
 
 
+def paths_meant(paths, place):
+    """Those of these paths by which the prover calls the function at a place. A method whose type stands in a module beside its own
+    is found by its type, with its trait, and its name alone."""
+    module, owner, name, trait = place
+    if name is None:
+        return []
+    exact = [it for it in paths if is_named(it, module, owner, name)]
+    return exact or [it for it in paths if owner and is_method(it, owner + trait, name)]
+
+
+def is_method(path, owner, name):
+    """Whether a path is that of a method of a type with this name, or of a closure inside it, in whatever module."""
+    parts = path.split("::")
+    closure = parts.index("fn") if "fn" in parts else len(parts)
+    for at in range(len(parts) - 1):
+        if parts[at : at + 2] == [owner, name]:
+            return at + 2 == len(parts) or at > closure
+    return False
+
+
 def is_named(path, module, owner, name):
     """Whether what the prover calls this path is the function: module::Type::name, with the trait's name after the type's where
     it stands in a trait's impl, or a closure inside it, module::fn::Type::name::... A method may stand in a module below that
@@ -328,10 +378,9 @@ def is_named_in(parts, ours, owner, name):
 def outcome(said, turned):
     """What was said of the functions that an edit turned: 'by itself', 'only below', 'proved', or None if there is no such function."""
     best = None
-    for module, owner, name, _ in turned:
-        for path, words in said.items():
-            if name is None or not is_named(path, module, owner, name):
-                continue
+    for place in turned:
+        for path in paths_meant(said, place):
+            words = said[path]
             if words.startswith(("no proof: it calls", "not proved; it calls")):
                 best = best or "only below"
             elif words.startswith("proved"):
@@ -421,13 +470,13 @@ def path_of(module, owner, name, trait):
 
 def paths_named(crate, place, folder):
     """The paths of the functions that the prover may mean by a function's name alone: it lists them if there are several."""
-    module, owner, name, _ = place
+    name = place[2]
     lines = said_by(["rt", "check", "--jobs", "1", "--only", name], folder)
     several = [it for it in lines if f"several functions are named `{name}`" in it]
     if not several:
         return [name]
     found = re.findall(rf"`{crate}::([^`]+)`", several[0])
-    return [it for it in found if is_named(it, module, owner, name)]
+    return paths_meant(found, place)
 
 
 def outcome_alone(crate, edit, seconds):
@@ -573,12 +622,10 @@ def stamp_libraries():
 def main(names, keeps):
     bad = 0
     for crate in names:
-        files = files_of(crate)
         count, refused = 0, []
-        for file in files:
-            edits = edits_in(f"{TOP}/crates/{crate}/{file}")
-            _, said, turned = checked(crate, edits)
-            for edit, places in zip(edits, turned):
+        for tried in rounds_of(crate):
+            _, said, turned = checked(crate, [edit for _, edit in tried])
+            for (file, edit), places in zip(tried, turned):
                 seen = outcome(said, places)
                 if seen != "by itself":
                     seen = alone(crate, edit)
@@ -589,7 +636,7 @@ def main(names, keeps):
                     print(f"{crate}/{file}: {edit.name}: {seen}", flush=True)
             if keeps:
                 keep_verdicts(refused)
-        print(f"{crate}: {len(refused)} of {count} wrong bodies refused by themselves, {len(files)} file(s)", flush=True)
+        print(f"{crate}: {len(refused)} of {count} wrong bodies refused by themselves, {len(files_of(crate))} file(s)", flush=True)
         bad += count - len(refused)
     return 1 if bad else 0
 

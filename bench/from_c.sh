@@ -9,6 +9,7 @@
 #   bench/from_c.sh proved             the same, proved
 #   bench/from_c.sh threads            a million calls of eight threads under ThreadSanitizer, which takes some minutes
 #   bench/from_c.sh border             what a call over the border takes
+#   bench/from_c.sh memory             what a cache takes of memory, with bodies and heads of several lengths
 #   bench/from_c.sh proxy              the proxy (bench/proxy.py)
 set -eu
 cd "$(dirname "$0")/.."
@@ -50,8 +51,8 @@ threads)
     "$room/threads" | cmp - examples_c/threads.stdout
     echo "threads: ThreadSanitizer has nothing to say"
     ;;
-border)
-    run border
+border | memory)
+    run "$1"
     ;;
 proxy)
     (cd rust && cargo build --quiet --offline --release --example proxy)

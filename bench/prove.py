@@ -20,15 +20,17 @@ import time
 TOP = os.path.dirname(os.path.dirname(os.path.realpath(__file__)))
 
 
+def rows_of():
+    """The line of crates.txt of each crate of the repository."""
+    with open(f"{TOP}/crates.txt", encoding="utf-8") as it:
+        lines = [line.partition("#")[0].rstrip() + "\n" for line in it if ":" in line.partition("#")[0]]
+    return {line.partition(":")[0].split()[0]: line for line in lines}
+
+
 def crates_of():
     """Each crate of the repository with those of the repository that it uses."""
-    uses = {}
-    with open(f"{TOP}/crates.txt", encoding="utf-8") as it:
-        for line in it:
-            head, _, rest = line.partition(":")
-            if rest and not line.startswith("#"):
-                uses[head.split()[0]] = rest.split()
-    return {name: [it for it in words if it in uses] for name, words in uses.items()}
+    rows = rows_of()
+    return {name: [it for it in row.partition(":")[2].split() if it in rows] for name, row in rows.items()}
 
 
 def below(name, uses, found):
@@ -37,6 +39,12 @@ def below(name, uses, found):
             found.add(it)
             below(it, uses, found)
     return found
+
+
+def rows_below(name):
+    """The lines of crates.txt of a crate and of those below it, by crate."""
+    rows = rows_of()
+    return {it: rows[it] for it in [name, *sorted(below(name, crates_of(), set()))]}
 
 
 def lines_of(name):
@@ -114,8 +122,8 @@ def take_along(name, lane, libraries):
     shutil.rmtree(lane, ignore_errors=True)
     os.makedirs(lane)
     shutil.copy(f"{TOP}/HANDLES", lane)
-    with open(f"{TOP}/crates.txt", encoding="utf-8") as it, open(f"{lane}/crates.txt", "w", encoding="utf-8") as to:
-        to.writelines(line for line in it if line.partition(":")[0].split()[:1] in [[here] for here in (name, *libraries)])
+    with open(f"{lane}/crates.txt", "w", encoding="utf-8") as to:
+        to.writelines(rows_below(name).values())
     for it in [name, *libraries]:
         shutil.copytree(f"{TOP}/crates/{it}", f"{lane}/crates/{it}", ignore=shutil.ignore_patterns("out"))
     for it in libraries:

@@ -32,6 +32,27 @@ impl Key {
     }
 }
 
+// A call of the library about one entry of a manager: what it takes of the key, and then what else it takes.
+macro_rules! of_entry {
+    ($call:ident, $manager:expr, $key:expr $(, $more:expr)*) => {{
+        let variance = $key.variance();
+        // SAFETY: the handle has a manager, and the slices of the key hold what they say for the call.
+        done(unsafe {
+            raw::$call(
+                &mut $manager.0 .0,
+                $key.primary.as_ptr(),
+                16,
+                variance.as_ptr(),
+                variance.len(),
+                $key.tag.as_ptr(),
+                $key.tag.len(),
+                &$key.raw(),
+                $($more),*
+            )
+        })
+    }};
+}
+
 /// The counts of a manager.
 #[derive(Clone, Copy, Debug, Default, PartialEq, Eq)]
 pub struct Totals {
@@ -88,23 +109,7 @@ impl Manager {
     /// # Errors
     /// [`Error::NoMemory`], [`Error::BadValue`] for a moment that is none.
     pub fn admit(&mut self, key: &Key, weight: usize, fresh_until: Moment) -> Result<Vec<Key>, Error> {
-        let (variance, until) = (key.variance(), fresh_until);
-        // SAFETY: the slices of the key hold what they say for the call, as in the calls below.
-        done(unsafe {
-            raw::pcache_manager_admit(
-                &mut self.0 .0,
-                key.primary.as_ptr(),
-                16,
-                variance.as_ptr(),
-                variance.len(),
-                key.tag.as_ptr(),
-                key.tag.len(),
-                &key.raw(),
-                weight,
-                until.secs,
-                until.nanos,
-            )
-        })?;
+        of_entry!(pcache_manager_admit, self, key, weight, fresh_until.secs, fresh_until.nanos)?;
         self.evicted()
     }
 
@@ -113,21 +118,7 @@ impl Manager {
     /// # Errors
     /// [`Error::NoMemory`].
     pub fn increment(&mut self, key: &Key, delta: usize, most: usize) -> Result<Vec<Key>, Error> {
-        let variance = key.variance();
-        done(unsafe {
-            raw::pcache_manager_increment(
-                &mut self.0 .0,
-                key.primary.as_ptr(),
-                16,
-                variance.as_ptr(),
-                variance.len(),
-                key.tag.as_ptr(),
-                key.tag.len(),
-                &key.raw(),
-                delta,
-                most,
-            )
-        })?;
+        of_entry!(pcache_manager_increment, self, key, delta, most)?;
         self.evicted()
     }
 
@@ -136,23 +127,8 @@ impl Manager {
     /// # Errors
     /// [`Error::NoMemory`], [`Error::BadValue`] for a moment that is none.
     pub fn access(&mut self, key: &Key, weight: usize, fresh_until: Moment) -> Result<bool, Error> {
-        let (variance, until, mut was) = (key.variance(), fresh_until, 0);
-        done(unsafe {
-            raw::pcache_manager_access(
-                &mut self.0 .0,
-                key.primary.as_ptr(),
-                16,
-                variance.as_ptr(),
-                variance.len(),
-                key.tag.as_ptr(),
-                key.tag.len(),
-                &key.raw(),
-                weight,
-                until.secs,
-                until.nanos,
-                &mut was,
-            )
-        })?;
+        let mut was = 0;
+        of_entry!(pcache_manager_access, self, key, weight, fresh_until.secs, fresh_until.nanos, &mut was)?;
         Ok(was != 0)
     }
 
@@ -161,19 +137,7 @@ impl Manager {
     /// # Errors
     /// [`Error::NoMemory`].
     pub fn remove(&mut self, key: &Key) -> Result<(), Error> {
-        let variance = key.variance();
-        done(unsafe {
-            raw::pcache_manager_remove(
-                &mut self.0 .0,
-                key.primary.as_ptr(),
-                16,
-                variance.as_ptr(),
-                variance.len(),
-                key.tag.as_ptr(),
-                key.tag.len(),
-                &key.raw(),
-            )
-        })
+        of_entry!(pcache_manager_remove, self, key)
     }
 
     /// Whether an entry is there; it counts as no use.
@@ -181,20 +145,8 @@ impl Manager {
     /// # Errors
     /// [`Error::NoMemory`].
     pub fn peek(&mut self, key: &Key) -> Result<bool, Error> {
-        let (variance, mut was) = (key.variance(), 0);
-        done(unsafe {
-            raw::pcache_manager_peek(
-                &mut self.0 .0,
-                key.primary.as_ptr(),
-                16,
-                variance.as_ptr(),
-                variance.len(),
-                key.tag.as_ptr(),
-                key.tag.len(),
-                &key.raw(),
-                &mut was,
-            )
-        })?;
+        let mut was = 0;
+        of_entry!(pcache_manager_peek, self, key, &mut was)?;
         Ok(was != 0)
     }
 

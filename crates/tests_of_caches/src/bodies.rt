@@ -10,6 +10,7 @@ fn a_body_is_stored_and_found(rt: HostRuntime) -> Result<()> {
 }
 
 fn stored_and_found(cache: &mut List) -> bool {
+    cache.headline();
     matches!(fill(cache, "a", b"hi"), Ok(true))
         && matches!(finds(cache, "a", b"hi"), Ok(true))
         && matches!(finds(cache, "b", b"hi"), Ok(false))

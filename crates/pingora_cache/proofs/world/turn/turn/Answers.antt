@@ -54,7 +54,7 @@ pub returns-in-Done-clause-moves : goal.returns-in-Done-clause-moves
 returns-in-Done-clause-moves g c world = moves-over _ (Some c.done.new.request) _ c.parts-in-Done.view_is (moves_quietly _ _ (Some c.done.new.request) _ c.done.new.store.state _ _ c.requires.none c.done.ensures.moves)
 
 pub returns-in-Publish-clause-moves : goal.returns-in-Publish-clause-moves
-returns-in-Publish-clause-moves g c world = moves-over _ (Some c.args.request.now) _ c.parts-in-Publish.view_is (moves_quietly _ _ (Some c.args.request.now) _ c.parts-in-Publish.inside.store _ _ c.requires.none (c.publish.ensures.moves _))
+returns-in-Publish-clause-moves g c world = moves-over _ (Some c.args.request.now) _ c.parts-in-Publish.view_is (moves_quietly _ _ (Some c.args.request.now) _ c.parts-in-Publish.inside.store.state _ _ c.requires.none (c.publish.ensures.moves _))
 
 pub returns-in-Publish-clause-locks : goal.returns-in-Publish-clause-locks
 returns-in-Publish-clause-locks g c r = arm-locks-over c.args.request.now c.args.request.now c.publish.result c.args.events.now.items c.in-Publish.is c.parts-in-Publish.view_is (subst (λ (es : List Event). MovesLocks r (deeds_in r (Request (Publish c.in-Publish.tokens)) (kind_of_reply c.publish.result) es (Some c.args.request.now)) c.args.request.now.request.held c.parts-in-Publish.inside.lock.table c.args.request.now.request.held c.publish.new.lock.table) (sym c.requires.none) (c.publish.ensures.locks r))
