@@ -5,7 +5,7 @@
     bench/simulators.py --trace SEED REQUESTS KEYS > FILE
 
 LRU; SIEVE (Zhang, Yang, Yue, Vigfusson, Rashmi, NSDI 2024); S3-FIFO (Yang, Zhang, Qiu, Yue, Vigfusson, SOSP 2023). Each takes requests of (key, size) and tells hits.
-Nothing here is shared with the crates of this repository.
+With a time to live, a body past its time is a miss: its entry is used, or removed and admitted anew. Nothing here is shared with the crates of this repository.
 """
 import bisect
 import collections
@@ -32,6 +32,12 @@ class Lru:
             self.used -= self.sizes.pop(oldest)
             self.evicted += 1
         return False
+
+    def has(self, key):
+        return key in self.sizes
+
+    def remove(self, key):
+        self.used -= self.sizes.pop(key)
 
 
 class Node:
@@ -88,6 +94,16 @@ class Sieve:
         self.nodes[key] = node
         self.used += size
         return False
+
+    def has(self, key):
+        return key in self.nodes
+
+    def remove(self, key):
+        node = self.nodes.pop(key)
+        if self.hand is node:
+            self.hand = node.newer
+        self.unlink(node)
+        self.used -= node.size
 
 
 class S3Fifo:
@@ -149,20 +165,37 @@ class S3Fifo:
         del self.freq[key]
         self.evicted += 1
 
+    def has(self, key):
+        return key in self.sizes
+
+    def remove(self, key):
+        if key in self.small:
+            self.small.remove(key)
+            self.small_used -= self.sizes[key]
+        else:
+            self.main.remove(key)
+        self.used -= self.sizes.pop(key)
+        del self.freq[key]
+
 
 POLICIES = {"lru": Lru, "sieve": Sieve, "s3-fifo": S3Fifo}
 
 
-def simulate(policy, limit, trace, passes_by):
-    cache = POLICIES[policy](limit)
+def simulate(policy, limit, trace, passes_by, ttl=None, replaces=False):
+    """What a cache serves of requests, each a second after the one before."""
+    cache, came = POLICIES[policy](limit), {}
     hits = hit_bytes = total = 0
-    for key, size in trace:
+    for second, (key, size) in enumerate(trace):
         total += size
-        if passes_by and size > limit:
-            continue
-        if cache.request(key, size):
+        if cache.has(key) and (ttl is None or second <= came[key] + ttl):
+            cache.request(key, size)
             hits += 1
             hit_bytes += size
+        elif not passes_by or size <= limit:
+            if replaces and cache.has(key):
+                cache.remove(key)
+            cache.request(key, size)
+            came[key] = second
     return (len(trace), hits, total, hit_bytes, cache.evicted)
 
 
@@ -186,10 +219,11 @@ HAND_MADE = {
 }
 
 
-def rows_of(program, trace, sizes, passes_by):
-    text = "".join(f"{key} {size}\n" for key, size in trace)
+def rows_of(program, trace, sizes, passes_by, ttl=None, replaces=False):
+    text = "".join(f"{second},{key},{size}\n" for second, (key, size) in enumerate(trace))
     words = [program, "--policy", ",".join(POLICIES), "--size", ",".join(map(str, sizes)), "--format", "csv"]
-    words += ["--large", "pass" if passes_by else "evict"]
+    words += ["--large", "pass" if passes_by else "evict", "--expired", "replace" if replaces else "use"]
+    words += [] if ttl is None else ["--ttl", str(ttl)]
     output = subprocess.run(words, input=text, capture_output=True, text=True, check=True).stdout.split()
     assert output[0].startswith("policy,size,requests,hits,bytes,hit_bytes,evicted,"), output[0]
     for line in output[1:]:
@@ -198,15 +232,16 @@ def rows_of(program, trace, sizes, passes_by):
         yield policy, size, tuple(counts)
 
 
-def compare(program, name, trace, sizes):
-    for passes_by in (True, False):
-        rows = list(rows_of(program, trace, sizes, passes_by))
+def compare(program, name, trace, sizes, ttl):
+    ways = [(True, None, False), (False, None, False), (True, ttl, False), (True, ttl, True)]
+    for passes_by, time, replaces in ways:
+        rows = list(rows_of(program, trace, sizes, passes_by, time, replaces))
         assert len(rows) == len(POLICIES) * len(sizes), rows
         for policy, size, counts in rows:
-            wanted = simulate(policy, size, trace, passes_by)
+            wanted = simulate(policy, size, trace, passes_by, time, replaces)
             if counts != wanted:
-                sys.exit(f"{name}, {policy} of {size}, passes by {passes_by}: {counts}, and not {wanted}")
-    print(f"{name}: {len(trace)} requests, {len(rows)} caches, large bodies passed by and not: equal")
+                sys.exit(f"{name}, {policy} of {size}, passes by {passes_by}, ttl {time}, replaces {replaces}: {counts}, and not {wanted}")
+    print(f"{name}: {len(trace)} requests, {len(rows)} caches, large bodies passed by and not, bodies past their time used and replaced: equal")
 
 
 def each_prefix(program, name, trace, sizes):
@@ -229,7 +264,7 @@ def main():
     for seed, requests, keys in [(1, 100_000, 5_000), (2, 100_000, 50_000), (3, 1_000_000, 100_000)]:
         trace = list(zipf(seed, requests, keys))
         total = sum({key: size for key, size in trace}.values())
-        compare(program, f"Zipf {seed}", trace, [max(1, total * part // 1000) for part in (1, 10, 100, 500)])
+        compare(program, f"Zipf {seed}", trace, [max(1, total * part // 1000) for part in (1, 10, 100, 500)], requests // 10)
 
 
 if __name__ == "__main__":

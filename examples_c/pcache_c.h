@@ -126,6 +126,98 @@ uint32_t pcache_meta_write(pcache_handle *meta, uint8_t *internal, size_t intern
                            uint8_t *header, size_t header_room, size_t *internal_len,
                            size_t *header_len);
 
+/* ---- heads of requests ---- */
+
+/* PCACHE_BAD_VALUE for a method that is none. */
+uint32_t pcache_asked_new(pcache_handle *asked, const uint8_t *method, size_t method_len,
+                          const uint8_t *target, size_t target_len);
+uint32_t pcache_asked_add(pcache_handle *asked, const uint8_t *name, size_t name_len,
+                          const uint8_t *value, size_t value_len);
+
+/* ---- what HTTP's rules of caching decide (RFC 9111) ---- */
+
+/* What a decision goes by besides heads. All zeros but the moments: a shared cache that guesses no lifetimes. */
+typedef struct pcache_terms {
+    pcache_moment at;           /* of the decision: of a response, when it was received */
+    pcache_moment requested;    /* when the request was sent that the stored response answered, or that validated it last */
+    uint32_t is_private;        /* the cache is that of one user */
+    uint32_t repeated_is_stale; /* a response is stale that says its lifetime twice; else the first one counts */
+    uint32_t most_guessed_secs; /* the most that a lifetime is guessed to be, or 0 for no guess */
+    uint32_t is_alone;          /* the stored response is the only one that could be chosen for the request */
+    uint32_t is_processed;      /* its body was processed before it was stored, as decoded */
+} pcache_terms;
+
+enum { PCACHE_SERVE = 0, PCACHE_VALIDATE = 1, PCACHE_FETCH = 2, PCACHE_ONLY_IF_CACHED = 3 };
+enum { PCACHE_REUSE_FRESH = 0, PCACHE_REUSE_WHILE_REVALIDATING = 1, PCACHE_REUSE_ACCEPTED = 2 };
+enum { PCACHE_ANSWER_FULL = 0, PCACHE_ANSWER_RANGE = 1, PCACHE_ANSWER_NOT_MODIFIED = 2 };
+
+/* What becomes of a request. The last three count with PCACHE_SERVE alone. */
+typedef struct pcache_decision {
+    uint32_t does;
+    uint32_t reuse;
+    uint32_t answer;
+    uint32_t age; /* the Age to send */
+} pcache_decision;
+
+uint32_t pcache_decide_missing(pcache_handle *asked, pcache_decision *out);
+/* With a meta that the store has. `original` has the head of the request that it was stored for, or nothing where that had the
+ * same fields as this one (as where the key tells variants apart). */
+uint32_t pcache_decide_stored(const pcache_terms *terms, pcache_handle *asked, pcache_handle *meta,
+                              pcache_handle *original, pcache_decision *out);
+/* With which fields to validate: If-None-Match and If-Modified-Since, of which one of no bytes is not sent. Says both lengths
+ * first. PCACHE_BAD_VALUE if a buffer is too short, and nothing is written. */
+uint32_t pcache_meta_validators(pcache_handle *meta, uint8_t *tag, size_t tag_room, uint8_t *since,
+                                size_t since_room, size_t *tag_len, size_t *since_len);
+
+enum {
+    PCACHE_STORE = 0,       /* pass it on, and store it with the meta in `kept` */
+    PCACHE_FRESHEN = 1,     /* it is a 304: answer with what is stored, with the meta in `kept`, and store that if `reason` is 0 */
+    PCACHE_FETCH_AGAIN = 2, /* send the request again, without conditions */
+    PCACHE_SERVE_STALE = 3, /* it is an error: answer with what is stored */
+    PCACHE_UPDATE = 4,      /* pass it on (it answers a HEAD); the meta of what is stored is the one in `kept` now */
+    PCACHE_MARK_STALE = 5,  /* pass it on (it answers a HEAD), and remove what is stored */
+    PCACHE_INVALIDATE = 6,  /* pass it on, and purge its target */
+    PCACHE_PASS_ON = 7      /* pass it on, and store nothing, for the reason that is said */
+};
+enum {
+    PCACHE_METHOD_NOT_UNDERSTOOD = 1,
+    PCACHE_STATUS_NOT_FINAL = 2,
+    PCACHE_STATUS_NOT_UNDERSTOOD = 3,
+    PCACHE_NO_STORE_ASKED = 4,
+    PCACHE_NO_STORE_SAID = 5,
+    PCACHE_PRIVATE_SAID = 6,
+    PCACHE_AUTHORIZED = 7,
+    PCACHE_NOTHING_ALLOWS_IT = 8
+};
+
+/* What becomes of a response: `reason` counts with PCACHE_FRESHEN and PCACHE_PASS_ON, `answer` with PCACHE_FRESHEN and
+ * PCACHE_SERVE_STALE, `age` with the latter. */
+typedef struct pcache_outcome {
+    uint32_t does;
+    uint32_t reason;
+    uint32_t answer;
+    uint32_t age;
+} pcache_outcome;
+
+/* Of the response to a request that was sent on as it came: after PCACHE_FETCH, and again after PCACHE_FETCH_AGAIN. */
+uint32_t pcache_decide_fetched(pcache_handle *kept, const pcache_terms *terms, pcache_handle *asked,
+                               pcache_handle *response, pcache_outcome *out);
+/* Of the response to one that was sent with the validators of what is stored: after PCACHE_VALIDATE. */
+uint32_t pcache_decide_validated(pcache_handle *kept, const pcache_terms *terms, pcache_handle *asked,
+                                 pcache_handle *meta, pcache_handle *original,
+                                 pcache_handle *response, pcache_outcome *out);
+/* If no response came to it. PCACHE_NONE if what is stored may not answer. */
+uint32_t pcache_decide_failed(const pcache_terms *terms, pcache_handle *asked, pcache_handle *meta,
+                              pcache_handle *original, pcache_outcome *out);
+
+/* Which URIs a response to an unsafe method takes away besides its target, whose URI is handed in: those of its Location and
+ * of its Content-Location, if they are of the target's origin; one of no bytes is none. Says both lengths first.
+ * PCACHE_BAD_VALUE if a buffer is too short, and nothing is written, or if the target is no URI. */
+uint32_t pcache_taken_away(pcache_handle *response, const uint8_t *target, size_t target_len,
+                           uint8_t *location, size_t location_room, uint8_t *content_location,
+                           size_t content_location_room, size_t *location_len,
+                           size_t *content_location_len);
+
 /* ---- eviction managers ---- */
 
 /* What stands beside the hashes and the tag of an entry's key. `has_variance` and `tag_len` are

@@ -9,7 +9,7 @@
 mod http1;
 
 use http1::{answer_shortly, bad, field, left_of, members, next_piece, read_head, read_request, sent_on, Answer, Asked, Client, Fields, Left, Said};
-use pcache::{Cache, Head, Held, HitStatus, Looked, Meta, Moment, Options, Read, Reason, Request, View};
+use pcache::{Answer as Gets, Asked as Rules, Cache, Decision, Head, Held, HitStatus, Looked, Meta, Moment, Options, Outcome, Read, Reason, Request, Reuse, Terms, View};
 use std::collections::HashMap;
 use std::io::{self, BufReader, ErrorKind, Write};
 use std::net::{TcpListener, TcpStream};
@@ -40,13 +40,18 @@ impl Fetched {
     }
 
     fn head(&self) -> Result<Head, pcache::Error> {
-        head_of(self.status, &sent_on(&self.fields, &["content-length"]))
+        let mut head = Head::new(self.status)?;
+        for (name, value) in sent_on(&self.fields, &["content-length"]) {
+            head.add(&name, &value)?;
+        }
+        Ok(head)
     }
 }
 
-fn head_of(status: u16, fields: &Fields) -> Result<Head, pcache::Error> {
-    let mut head = Head::new(status)?;
-    for (name, value) in fields {
+/// The head of a request, of which the library decides what is served, validated, stored and purged (RFC 9111).
+fn rules_of(asked: &Asked) -> Result<Rules, pcache::Error> {
+    let mut head = Rules::new(&asked.method, asked.target.as_bytes())?;
+    for (name, value) in &asked.fields {
         head.add(name, value)?;
     }
     Ok(head)
@@ -102,6 +107,7 @@ struct Proxy {
 struct Stored {
     status: u16,
     fields: Fields,
+    gets: Gets,
 }
 
 impl Proxy {
@@ -168,7 +174,7 @@ impl Proxy {
         let now = Moment::now();
         let mut request = self.cache.request(&self.key_of(asked), "")?;
         let looked = request.look(now)?;
-        if looked != Looked::Found && asked.controls("only-if-cached") {
+        if looked != Looked::Found && rules_of(asked)?.decide_missing()? == Decision::OnlyIfCached {
             answer_shortly(client, asked, 504, "none");
             return Ok(true);
         }
@@ -176,8 +182,17 @@ impl Proxy {
             Looked::Found => self.found(client, asked, request, now),
             Looked::Waits => wait(&mut request),
             Looked::Permit if !asked.is_head() => {
-                let fetched = fetch(&self.origin, asked, Fields::new());
-                Ok(self.store(Some(client), asked, &mut request, fetched, "miss"))
+                match fetch(&self.origin, asked, Fields::new()) {
+                    Ok(fetched) => {
+                        let outcome = rules_of(asked)?.decide_fetched(&Terms::at(Moment::now()), &mut fetched.head()?)?;
+                        self.store(Some(client), asked, &mut request, fetched, outcome);
+                    }
+                    Err(_) => {
+                        let _ = request.disable(Reason::UpstreamError);
+                        answer_shortly(client, asked, 502, "none");
+                    }
+                }
+                Ok(true)
             }
             Looked::Permit | Looked::Nothing => {
                 drop(request);
@@ -189,126 +204,105 @@ impl Proxy {
 
     fn found(self: &Arc<Proxy>, client: &mut Client, asked: &Asked, mut request: Request, now: Moment) -> Result<bool, pcache::Error> {
         let mut meta = request.meta()?;
-        let (may, stored) = (meta.servable(now)?, stored_of(&mut meta, now)?);
-        if may.fresh && !asked.controls("no-cache") {
-            request.take(HitStatus::Fresh, now)?;
-            send_stored(client, asked, &mut request, stored, "hit");
-            return Ok(true);
-        }
-        if asked.controls("only-if-cached") {
-            answer_shortly(client, asked, 504, "none");
-            return Ok(true);
-        }
-        if asked.is_head() {
-            return Err(pcache::Error::Nothing);
-        }
-        request.take(if may.fresh { HitStatus::ForceExpired } else { HitStatus::Expired }, now)?;
-        let held = request.held()?;
-        let serves_stale = may.while_revalidating && !asked.controls("no-cache") && request.body_length()?.is_some();
-        if held == Held::Permit {
-            let mut stale = Vec::new();
-            if let (Read::Bytes(view), Some(_)) = (request.view()?, request.body_length()?) {
-                stale.push(view);
-            }
-            if serves_stale {
+        match rules_of(asked)?.decide_stored(&terms_of(&mut meta, now)?, &mut meta, None)? {
+            Decision::Serve(Reuse::WhileRevalidating, gets, age) if !asked.is_head() => {
+                request.take(HitStatus::Expired, now)?;
+                let stored = stored_of(&mut meta, gets, Some(age))?;
+                if request.held()? != Held::Permit || request.body_length()?.is_none() {
+                    send_stored(client, asked, &mut request, stored, "stale");
+                    return Ok(true);
+                }
+                let body = views_of(&mut request)?;
                 let (proxy, again) = (self.clone(), Asked { method: "GET".to_string(), target: asked.target.clone(), fields: asked.fields.clone(), body: Vec::new() });
-                let fields = stored.fields.clone();
                 // The request goes to the thread that renews, with its permit.
-                thread::spawn(move || proxy.renew(None, &again, &mut request, fields));
-                send_views(client, asked, stored, &stale, "stale");
-                return Ok(true);
+                thread::spawn(move || proxy.validate(None, &again, &mut request, meta));
+                send_views(client, asked, stored, &body, "stale");
+                Ok(true)
             }
-            let may_after_error = may.after_error;
-            if self.renew(Some(client), asked, &mut request, stored.fields.clone()) {
-                return Ok(true);
+            Decision::Serve(reuse, gets, age) => {
+                request.take(HitStatus::Fresh, now)?;
+                let stored = stored_of(&mut meta, gets, Some(age))?;
+                send_stored(client, asked, &mut request, stored, if reuse == Reuse::Fresh { "hit" } else { "stale" });
+                Ok(true)
             }
-            if may_after_error && !stale.is_empty() {
-                send_views(client, asked, stored, &stale, "stale after an error");
-                return Ok(true);
+            Decision::OnlyIfCached => {
+                answer_shortly(client, asked, 504, "none");
+                Ok(true)
             }
-            return Err(pcache::Error::Nothing);
-        }
-        if serves_stale {
-            send_stored(client, asked, &mut request, stored, "stale");
-            return Ok(true);
-        }
-        wait(&mut request)
-    }
-
-    /// Asks the origin whether a stale body is good, and fills the key anew if it is not. Says whether the client has its answer.
-    fn renew(&self, client: Option<&mut Client>, asked: &Asked, request: &mut Request, old: Fields) -> bool {
-        let mut conditions = Fields::new();
-        for (name, condition) in [("etag", "if-none-match"), ("last-modified", "if-modified-since")] {
-            if let Some(value) = field(&old, name) {
-                conditions.push((condition.to_string(), value.as_bytes().to_vec()));
+            Decision::Validate if !asked.is_head() => {
+                request.take(HitStatus::Expired, now)?;
+                if request.held()? != Held::Permit {
+                    return wait(&mut request);
+                }
+                self.validate(Some(client), asked, &mut request, meta)
             }
-        }
-        let fetched = fetch(&self.origin, asked, conditions);
-        match fetched {
-            Ok(fetched) if fetched.status == 304 => self.renewed(client, asked, request, old, &fetched).is_ok(),
-            Ok(fetched) if fetched.status < 500 => self.store(client, asked, request, Ok(fetched), "miss"),
-            _ => {
-                let _ = request.release(Reason::UpstreamError);
-                false
-            }
+            Decision::Validate | Decision::Fetch => Err(pcache::Error::Nothing),
         }
     }
 
-    fn renewed(&self, client: Option<&mut Client>, asked: &Asked, request: &mut Request, mut old: Fields, fetched: &Fetched) -> Result<(), pcache::Error> {
-        let newer = sent_on(&fetched.fields, &["content-length"]);
-        old.retain(|(name, _)| name != "age" && !newer.iter().any(|(it, _)| it == name));
-        old.extend(newer);
-        let now = Moment::now();
-        let mut meta = head_of(200, &old)?.meta(field(&asked.fields, "authorization").is_some(), (0, 0), now)?.ok_or(pcache::Error::Nothing)?;
-        request.renew(&mut meta)?;
-        if let Some(client) = client {
-            let stored = stored_of(&mut request.meta()?, now)?;
-            request.seek(0, None)?;
-            send_stored(client, asked, request, stored, "revalidated");
-        }
-        Ok(())
-    }
-
-    /// Sends what was fetched to the client, and stores it if it is to be stored. Says whether the client has its answer.
-    fn store(&self, client: Option<&mut Client>, asked: &Asked, request: &mut Request, fetched: io::Result<Fetched>, origin: &str) -> bool {
-        let mut fetched = match fetched {
-            Ok(fetched) => fetched,
-            Err(_) => {
-                let _ = request.disable(Reason::UpstreamError);
-                return client.map_or(false, |client| {
-                    answer_shortly(client, asked, 502, "none");
-                    true
-                });
-            }
+    /// Asks the origin whether a stored body is good, and fills the key anew if it is not. Says whether the client has its answer.
+    fn validate(&self, client: Option<&mut Client>, asked: &Asked, request: &mut Request, mut meta: Meta) -> Result<bool, pcache::Error> {
+        let (tag, since) = meta.validators()?;
+        let conditions = [("if-none-match", tag), ("if-modified-since", since)].into_iter().filter(|(_, value)| !value.is_empty());
+        let fetched = fetch(&self.origin, asked, conditions.map(|(name, value)| (name.to_string(), value)).collect());
+        let (mut rules, terms) = (rules_of(asked)?, terms_of(&mut meta, Moment::now())?);
+        let outcome = match &fetched {
+            Ok(fetched) => rules.decide_validated(&terms, &mut meta, None, &mut fetched.head()?)?,
+            Err(_) => rules.decide_failed(&terms, &mut meta, None)?.map_or(Outcome::FetchAgain, |(gets, age)| Outcome::ServeStale(gets, age)),
         };
+        match (outcome, fetched) {
+            (Outcome::Freshen(mut newer, true, gets), _) => {
+                request.renew(&mut newer)?;
+                if let Some(client) = client {
+                    let stored = stored_of(&mut newer, gets, None)?;
+                    request.seek(0, None)?;
+                    send_stored(client, asked, request, stored, "revalidated");
+                }
+            }
+            (Outcome::ServeStale(gets, age), _) => {
+                let (stored, body) = (stored_of(&mut meta, gets, Some(age))?, views_of(request)?);
+                let _ = request.release(Reason::UpstreamError);
+                if let Some(client) = client {
+                    send_views(client, asked, stored, &body, "stale after an error");
+                }
+            }
+            (Outcome::FetchAgain | Outcome::Freshen(..), _) | (_, Err(_)) => {
+                let _ = request.release(Reason::UpstreamError);
+                return Err(pcache::Error::Nothing);
+            }
+            (outcome, Ok(fetched)) => self.store(client, asked, request, fetched, outcome),
+        }
+        Ok(true)
+    }
+
+    /// Sends what was fetched to the client, and stores it if it is to be stored.
+    fn store(&self, client: Option<&mut Client>, asked: &Asked, request: &mut Request, mut fetched: Fetched, outcome: Outcome) {
         let names = members(&fetched.fields, "vary");
-        let authorized = field(&asked.fields, "authorization").is_some();
-        let may_store = [200, 203, 301, 308, 404, 410].contains(&fetched.status) && !names.iter().any(|it| it == "*");
-        let meta = match fetched.head() {
-            Ok(mut head) if may_store => head.meta(authorized, (0, 0), Moment::now()).unwrap_or(None),
+        // (what is never fresh and has no validator, or is for no other request, would only be in the way)
+        let has_validator = field(&fetched.fields, "etag").or(field(&fetched.fields, "last-modified")).is_some();
+        let is_of_use = |meta: &mut Meta| has_validator || meta.servable(Moment::now()).map_or(false, |it| it.fresh);
+        let kept = match outcome {
+            Outcome::Store(mut meta) if !names.iter().any(|it| it == "*") => if is_of_use(&mut meta) { Some(meta) } else { None },
             _ => None,
         };
-        let mut meta = match meta {
+        let mut meta = match kept {
             Some(meta) => meta,
             None => {
                 // Who waits for this key is told to go to the origin itself.
                 let _ = request.disable(Reason::OriginNotCache);
-                send_on(client, asked, &mut fetched, None, "pass");
-                return true;
+                return send_on(client, asked, &mut fetched, None, "pass");
             }
         };
         if !self.learn(asked, names) {
-            send_on(client, asked, &mut fetched, Some((request, &mut meta)), origin);
-            return true;
+            return send_on(client, asked, &mut fetched, Some((request, &mut meta)), "miss");
         }
         // Its key is another one now: those who wait look again, under the key that their own fields give.
         let _ = request.disable(Reason::UpstreamError);
         let variant = self.cache.request(&self.key_of(asked), "");
         match variant.map(|mut variant| (variant.look(Moment::now()), variant)) {
-            Ok((Ok(Looked::Permit), mut variant)) => send_on(client, asked, &mut fetched, Some((&mut variant, &mut meta)), origin),
-            _ => send_on(client, asked, &mut fetched, None, origin),
+            Ok((Ok(Looked::Permit), mut variant)) => send_on(client, asked, &mut fetched, Some((&mut variant, &mut meta)), "miss"),
+            _ => send_on(client, asked, &mut fetched, None, "miss"),
         }
-        true
     }
 
     /// Hands the request to the origin. What an unsafe method may have changed is purged (RFC 9111, 4.4).
@@ -317,7 +311,8 @@ impl Proxy {
         conditions.retain(|(name, _)| ["range", "if-range", "if-none-match", "if-modified-since"].contains(&name.as_str()));
         match fetch(&self.origin, asked, conditions) {
             Ok(mut fetched) => {
-                if !["GET", "HEAD", "OPTIONS", "TRACE"].contains(&asked.method.as_str()) && fetched.status < 400 {
+                let outcome = rules_of(asked).and_then(|mut it| it.decide_fetched(&Terms::at(Moment::now()), &mut fetched.head()?));
+                if let Ok(Outcome::Invalidate) = outcome {
                     let _ = self.purge(asked);
                 }
                 send_on(Some(client), asked, &mut fetched, None, "pass");
@@ -335,12 +330,27 @@ fn wait(request: &mut Request) -> Result<bool, pcache::Error> {
     }
 }
 
-fn stored_of(meta: &mut Meta, now: Moment) -> Result<Stored, pcache::Error> {
+/// The stored response was received when its meta was updated, and its request was sent right before.
+fn terms_of(meta: &mut Meta, now: Moment) -> Result<Terms, pcache::Error> {
+    Ok(Terms { requested: meta.says()?.updated, ..Terms::at(now) })
+}
+
+/// What is sent of a stored response: with this Age or, right after it was validated, with the one that it came with.
+fn stored_of(meta: &mut Meta, gets: Gets, age: Option<u32>) -> Result<Stored, pcache::Error> {
     let (status, mut fields) = meta.head()?;
-    let age = now.secs.saturating_sub(meta.says()?.updated.secs) + field(&fields, "age").and_then(|it| it.parse::<u64>().ok()).unwrap_or(0);
-    fields.retain(|(name, _)| name != "age");
-    fields.push(("age".to_string(), age.to_string().into_bytes()));
-    Ok(Stored { status, fields })
+    if let Some(age) = age {
+        fields.retain(|(name, _)| name != "age");
+        fields.push(("age".to_string(), age.to_string().into_bytes()));
+    }
+    Ok(Stored { status, fields, gets })
+}
+
+/// The whole body that a request may read, which is kept whatever becomes of the request.
+fn views_of(request: &mut Request) -> Result<Vec<View>, pcache::Error> {
+    match request.view()? {
+        Read::Bytes(view) if request.body_length()?.is_some() => Ok(vec![view]),
+        _ => Err(pcache::Error::Nothing),
+    }
 }
 
 /// Sends a response on as it comes, to the client and to the write of a request. A write that fails is let go.
@@ -368,12 +378,8 @@ fn send_on(client: Option<&mut Client>, asked: &Asked, fetched: &mut Fetched, st
 }
 
 /// The first and the last byte of the one range that is asked for, of a body of this length; `Err` if it has none of it.
-fn range_of(asked: &Asked, stored: &Stored, length: usize) -> Option<Result<(usize, usize), ()>> {
+fn range_of(asked: &Asked, length: usize) -> Option<Result<(usize, usize), ()>> {
     let range = field(&asked.fields, "range")?.strip_prefix("bytes=")?;
-    let tag = field(&stored.fields, "etag");
-    if stored.status != 200 || field(&asked.fields, "if-range").map_or(false, |it| Some(it) != tag || it.starts_with("W/")) {
-        return None;
-    }
     let (first, last) = range.split_once('-')?;
     let number = |it: &str| it.parse::<usize>().ok().filter(|_| it.bytes().all(|byte| byte.is_ascii_digit()));
     let (first, last) = match (number(first), number(last)) {
@@ -385,24 +391,15 @@ fn range_of(asked: &Asked, stored: &Stored, length: usize) -> Option<Result<(usi
     Some(if first < length { Ok((first, last)) } else { Err(()) })
 }
 
-/// Whether the client has what is stored already.
-fn has_it(asked: &Asked, stored: &Stored) -> bool {
-    let tag = field(&stored.fields, "etag").map(|it| it.trim_start_matches("W/").to_ascii_lowercase());
-    if field(&asked.fields, "if-none-match").is_some() {
-        return members(&asked.fields, "if-none-match").iter().any(|it| it == "*" || Some(it.trim_start_matches("w/")) == tag.as_deref());
-    }
-    let since = field(&asked.fields, "if-modified-since");
-    since.is_some() && since == field(&stored.fields, "last-modified")
-}
-
 /// Sends what a request reads: whole, in a range, or along with a write.
 fn send_stored(client: &mut Client, asked: &Asked, request: &mut Request, mut stored: Stored, origin: &str) {
     let mut length = request.body_length().unwrap_or(None);
-    if stored.status == 200 && has_it(asked, &stored) {
+    if stored.gets == Gets::NotModified {
         Answer::begin(Some(client), asked, &Said { status: 304, fields: &stored.fields, length: None, origin }).end(true);
         return;
     }
-    match length.and_then(|whole| range_of(asked, &stored, whole).map(|range| (whole, range))) {
+    let has_ranges = stored.gets == Gets::Range && stored.status == 200;
+    match length.filter(|_| has_ranges).and_then(|whole| range_of(asked, whole).map(|range| (whole, range))) {
         Some((whole, Err(()))) => {
             let fields = vec![("content-range".to_string(), format!("bytes */{whole}").into_bytes())];
             Answer::begin(Some(client), asked, &Said { status: 416, fields: &fields, length: Some(0), origin }).end(true);

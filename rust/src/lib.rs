@@ -38,6 +38,7 @@
 #![warn(missing_docs)]
 
 mod cache;
+mod decisions;
 mod error;
 mod manager;
 mod meta;
@@ -45,6 +46,7 @@ mod raw;
 mod request;
 
 pub use cache::{Cache, CacheTotals, Options};
+pub use decisions::{Answer, Asked, Decision, NotStored, Outcome, Reuse, Terms};
 pub use error::Error;
 pub use manager::{EvictionManager, Key, Manager, SharedManager, Totals};
 pub use meta::{Answers, Head, Meta, Moment, Said, Servable};

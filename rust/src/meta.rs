@@ -23,7 +23,7 @@ impl Moment {
         Moment { secs: raw.secs, nanos: raw.nanos }
     }
 
-    fn raw(self) -> raw::PcacheMoment {
+    pub(crate) fn raw(self) -> raw::PcacheMoment {
         raw::PcacheMoment { secs: self.secs, nanos: self.nanos }
     }
 }
@@ -52,7 +52,7 @@ pub struct Answers {
 }
 
 /// The head of a response.
-pub struct Head(Handle);
+pub struct Head(pub(crate) Handle);
 
 impl Head {
     /// A head of HTTP/1.1 with this status and no fields.
@@ -96,6 +96,29 @@ impl Head {
             stale_while_revalidate: seconds(out.has_stale_while_revalidate, out.stale_while_revalidate_secs),
             stale_if_error: seconds(out.has_stale_if_error, out.stale_if_error_secs),
         }))
+    }
+
+    /// Which URIs this response to an unsafe method takes away besides its target, whose URI is handed in: those of its Location and
+    /// of its Content-Location, if they are of the target's origin. One of no bytes is none.
+    ///
+    /// ```
+    /// # fn main() -> Result<(), pcache::Error> {
+    /// let mut head = pcache::Head::new(201)?;
+    /// head.add("Location", b"/news/7")?;
+    /// head.add("Content-Location", b"http://other.example/news")?;
+    /// assert_eq!(head.taken_away(b"http://example.org/news")?, (b"http://example.org/news/7".to_vec(), Vec::new()));
+    /// # Ok(())
+    /// # }
+    /// ```
+    ///
+    /// # Errors
+    /// [`Error::BadValue`] for a target that is no URI, [`Error::NoMemory`].
+    pub fn taken_away(&mut self, target: &[u8]) -> Result<(Vec<u8>, Vec<u8>), Error> {
+        let head = &mut self.0 .0;
+        let (at, len) = (target.as_ptr(), target.len());
+        texts(256, 256, |one, two, first, second| unsafe {
+            raw::pcache_taken_away(head, at, len, one.as_mut_ptr(), one.len(), two.as_mut_ptr(), two.len(), first, second)
+        })
     }
 
     /// The meta to store the response with, or nothing if it is not to be stored. `authorized` says that the request had an
@@ -217,34 +240,22 @@ impl Meta {
     /// # Errors
     /// [`Error::NoMemory`].
     pub fn write(&mut self) -> Result<(Vec<u8>, Vec<u8>), Error> {
-        let (mut internal, mut header) = (vec![0; 64], vec![0; 512]);
-        loop {
-            let (mut first, mut second) = (0, 0);
-            // SAFETY: two buffers of the lengths that are said.
-            let answer = done(unsafe {
-                raw::pcache_meta_write(
-                    &mut self.0 .0,
-                    internal.as_mut_ptr(),
-                    internal.len(),
-                    header.as_mut_ptr(),
-                    header.len(),
-                    &mut first,
-                    &mut second,
-                )
-            });
-            match answer {
-                Err(Error::BadValue) if first > internal.len() || second > header.len() => {
-                    internal.resize(first.max(1), 0);
-                    header.resize(second.max(1), 0);
-                }
-                Err(error) => return Err(error),
-                Ok(()) => {
-                    internal.truncate(first);
-                    header.truncate(second);
-                    return Ok((internal, header));
-                }
-            }
-        }
+        let meta = &mut self.0 .0;
+        texts(64, 512, |internal, header, first, second| unsafe {
+            raw::pcache_meta_write(meta, internal.as_mut_ptr(), internal.len(), header.as_mut_ptr(), header.len(), first, second)
+        })
+    }
+
+    /// The values of If-None-Match and If-Modified-Since with which to validate what is stored. One of no bytes is not sent.
+    ///
+    /// # Errors
+    /// [`Error::NoMemory`].
+    pub fn validators(&mut self) -> Result<(Vec<u8>, Vec<u8>), Error> {
+        let meta = &mut self.0 .0;
+        // SAFETY: two buffers of the lengths that are said, as in the calls of `texts` below.
+        texts(64, 64, |tag, since, first, second| unsafe {
+            raw::pcache_meta_validators(meta, tag.as_mut_ptr(), tag.len(), since.as_mut_ptr(), since.len(), first, second)
+        })
     }
 
     /// The status and the fields of its head, the names in lower case.
@@ -273,5 +284,29 @@ impl Meta {
             fields.push((name, line.get(colon + 2..).unwrap_or(b"").to_vec()));
         }
         Ok((status.ok_or(Error::Unreadable)?, fields))
+    }
+}
+
+/// Two texts that a call writes to two buffers, whose lengths it says: with more room, if there was too little.
+fn texts(
+    first_room: usize,
+    second_room: usize,
+    mut call: impl FnMut(&mut [u8], &mut [u8], &mut usize, &mut usize) -> u32,
+) -> Result<(Vec<u8>, Vec<u8>), Error> {
+    let (mut one, mut two) = (vec![0; first_room], vec![0; second_room]);
+    loop {
+        let (mut first, mut second) = (0, 0);
+        match done(call(&mut one, &mut two, &mut first, &mut second)) {
+            Err(Error::BadValue) if first > one.len() || second > two.len() => {
+                one.resize(first.max(1), 0);
+                two.resize(second.max(1), 0);
+            }
+            Err(error) => return Err(error),
+            Ok(()) => {
+                one.truncate(first);
+                two.truncate(second);
+                return Ok((one, two));
+            }
+        }
     }
 }

@@ -77,6 +77,36 @@ pub struct PcacheCacheCounts {
     pub evicted_entries: usize,
 }
 
+#[repr(C)]
+#[derive(Clone, Copy, Debug, Default)]
+pub struct PcacheTerms {
+    pub at: PcacheMoment,
+    pub requested: PcacheMoment,
+    pub is_private: u32,
+    pub repeated_is_stale: u32,
+    pub most_guessed_secs: u32,
+    pub is_alone: u32,
+    pub is_processed: u32,
+}
+
+#[repr(C)]
+#[derive(Clone, Copy, Debug, Default)]
+pub struct PcacheDecision {
+    pub does: u32,
+    pub reuse: u32,
+    pub answer: u32,
+    pub age: u32,
+}
+
+#[repr(C)]
+#[derive(Clone, Copy, Debug, Default)]
+pub struct PcacheOutcome {
+    pub does: u32,
+    pub reason: u32,
+    pub answer: u32,
+    pub age: u32,
+}
+
 pub const OK: u32 = 0;
 pub const NO_MEMORY: u32 = 1;
 pub const BAD_HANDLE: u32 = 2;
@@ -94,6 +124,20 @@ pub const IO: u32 = 13;
 
 extern "C" {
     pub fn pcache_is_proved() -> u32;
+    pub fn pcache_asked_add(
+        handle: *mut PcacheHandle,
+        name: *const u8,
+        name_len: usize,
+        value: *const u8,
+        value_len: usize,
+    ) -> u32;
+    pub fn pcache_asked_new(
+        handle: *mut PcacheHandle,
+        method: *const u8,
+        method_len: usize,
+        target: *const u8,
+        target_len: usize,
+    ) -> u32;
     pub fn pcache_cache_new(
         cache: *mut PcacheHandle,
         seed: *const u8,
@@ -113,6 +157,37 @@ extern "C" {
     ) -> u32;
     pub fn pcache_control_answers(control: *mut PcacheHandle, out: *mut PcacheAnswers) -> u32;
     pub fn pcache_control_read(control: *mut PcacheHandle, head: *mut PcacheHandle) -> u32;
+    pub fn pcache_decide_failed(
+        terms: *const PcacheTerms,
+        request: *mut PcacheHandle,
+        meta: *mut PcacheHandle,
+        original: *mut PcacheHandle,
+        out: *mut PcacheOutcome,
+    ) -> u32;
+    pub fn pcache_decide_fetched(
+        kept: *mut PcacheHandle,
+        terms: *const PcacheTerms,
+        request: *mut PcacheHandle,
+        response: *mut PcacheHandle,
+        out: *mut PcacheOutcome,
+    ) -> u32;
+    pub fn pcache_decide_missing(request: *mut PcacheHandle, out: *mut PcacheDecision) -> u32;
+    pub fn pcache_decide_stored(
+        terms: *const PcacheTerms,
+        request: *mut PcacheHandle,
+        meta: *mut PcacheHandle,
+        original: *mut PcacheHandle,
+        out: *mut PcacheDecision,
+    ) -> u32;
+    pub fn pcache_decide_validated(
+        kept: *mut PcacheHandle,
+        terms: *const PcacheTerms,
+        request: *mut PcacheHandle,
+        meta: *mut PcacheHandle,
+        original: *mut PcacheHandle,
+        response: *mut PcacheHandle,
+        out: *mut PcacheOutcome,
+    ) -> u32;
     pub fn pcache_end(handle: *mut PcacheHandle) -> u32;
     pub fn pcache_hash_key(key: *const u8, key_len: usize, out: *mut u8, out_len: usize) -> u32;
     pub fn pcache_head_add(
@@ -223,6 +298,15 @@ extern "C" {
         now_secs: u64,
         now_nanos: u32,
         out: *mut PcacheServable,
+    ) -> u32;
+    pub fn pcache_meta_validators(
+        meta: *mut PcacheHandle,
+        tag: *mut u8,
+        tag_room: usize,
+        since: *mut u8,
+        since_room: usize,
+        tag_len: *mut usize,
+        since_len: *mut usize,
     ) -> u32;
     pub fn pcache_meta_write(
         meta: *mut PcacheHandle,
@@ -362,6 +446,17 @@ extern "C" {
         seed_len: usize,
         limit: usize,
         watermark: usize,
+    ) -> u32;
+    pub fn pcache_taken_away(
+        response: *mut PcacheHandle,
+        target: *const u8,
+        target_len: usize,
+        location: *mut u8,
+        location_room: usize,
+        content_location: *mut u8,
+        content_location_room: usize,
+        location_len: *mut usize,
+        content_location_len: *mut usize,
     ) -> u32;
     pub fn pcache_variance_add(
         handle: *mut PcacheHandle,

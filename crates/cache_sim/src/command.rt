@@ -1,7 +1,7 @@
 //! The command line.
 
 use cache_simulation::options::Words;
-use clap::{Arg, ArgMatches, Command};
+use clap::{Arg, ArgAction, ArgMatches, Command};
 use std::alloc::{AllocError, Global};
 
 /// The options, with their defaults.
@@ -30,15 +30,32 @@ fn caches<'a>(alloc: Global, command: Command<'a>) -> Result<Command<'a>, AllocE
             "for how long a body is fresh once it came in; for ever without it",
         ))?
         .arg(
+            option(alloc, "expired", "WHAT").default_value("use").help(
+                "the refill of a body past its time: a use of its entry, or replace it: remove it and admit it anew",
+            ),
+        )?
+        .arg(
             option(alloc, "large", "WHAT").default_value("pass").help(
                 "a body above the size of a cache: pass it by, or let it evict all others",
             ),
+        )?
+        .arg(option(alloc, "watermark", "NUMBER").help(
+            "how many entries a cache may have; as many as there is room for without it",
+        ))?
+        .arg(
+            Arg::new(alloc, "ignore-size")
+                .long("ignore-size")
+                .action(ArgAction::SetTrue)
+                .help("each body counts as one byte, so that sizes are numbers of bodies"),
         )
 }
 
 fn trace<'a>(alloc: Global, command: Command<'a>) -> Result<Command<'a>, AllocError> {
     command
         .arg(option(alloc, "trace", "FILE").help("the trace; standard input without it"))?
+        .arg(option(alloc, "trace-type", "TYPE").help(
+            "csv, cdn, twitter or oracleGeneral; what the beginning of the trace says without it",
+        ))?
         .arg(option(alloc, "columns", "NAMES").help(
             "the columns of lines with commas, as time,key,size; what the header says without it",
         ))?
@@ -65,6 +82,14 @@ fn trace<'a>(alloc: Global, command: Command<'a>) -> Result<Command<'a>, AllocEr
 fn report<'a>(alloc: Global, command: Command<'a>) -> Result<Command<'a>, AllocError> {
     command
         .arg(
+            option(alloc, "warmup", "NUMBER").default_value("0").help(
+                "how many requests of the trace are made before any is counted",
+            ),
+        )?
+        .arg(option(alloc, "interval", "NUMBER").help(
+            "results of each so many requests of the trace, in place of all",
+        ))?
+        .arg(
             option(alloc, "format", "FORMAT")
                 .default_value("table")
                 .help("table, csv, or json with an object a line"),
@@ -86,7 +111,13 @@ pub fn words<'a>(matches: &ArgMatches<'a>) -> Words<'a> {
         trace: matches.get_str("trace"),
         distinct: matches.get_str("distinct"),
         ttl: matches.get_str("ttl"),
+        expired: matches.get_str("expired").unwrap_or(""),
         large: matches.get_str("large").unwrap_or(""),
+        watermark: matches.get_str("watermark"),
+        ignores_size: matches.get_flag("ignore-size"),
+        warmup: matches.get_str("warmup").unwrap_or(""),
+        interval: matches.get_str("interval"),
+        trace_type: matches.get_str("trace-type"),
         columns: matches.get_str("columns"),
         sample: matches.get_str("sample").unwrap_or(""),
         part: matches.get_str("part").unwrap_or(""),

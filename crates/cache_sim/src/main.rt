@@ -73,6 +73,9 @@ fn tell(rt: &HostRuntime, stop: &Stop) -> io::Result<()> {
         ),
         Stop::NoRequests => eprintln!(rt; "no line of the trace is a request"),
         Stop::NoneSampled => eprintln!(rt; "no key of the trace is in the sample"),
+        Stop::NoneCounted => eprintln!(rt;
+            "the trace has no more requests than --warmup, which are not counted"
+        ),
         Stop::Memory => eprintln!(rt; "out of memory"),
         Stop::Io(error) => eprintln!(rt; "{error}"),
     }

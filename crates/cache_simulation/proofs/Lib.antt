@@ -1,3 +1,6 @@
 pub mod FreshMaps
+pub mod Marks
+pub mod ReadLines
 pub mod Replaying
 pub mod Standing
+pub mod Tells

@@ -1,5 +1,5 @@
 -- What a manager tracks is what stands after the events so far.
-use Rattle.std.proofs.Common.{◌≡◌, ℕ, ◌+◌, arith, length-append, sum_by, Bool, true, false, cond, not, ◌&&◌, ◌||◌, Some, is_some, List, [], ◌∷◌, ◌++◌, refl, ap, sym, subst, ◌∙◌}
+use Rattle.std.proofs.Common.{◌≡◌, ℕ, ◌+◌, arith, length-append, sum_by, Bool, true, false, cond, not, ◌&&◌, ◌||◌, None, Some, is_some, List, [], ◌∷◌, ◌++◌, refl, ap, sym, subst, ◌∙◌}
 use Rattle.std.specs.Prelude.{◌<◌, ◌≤◌}
 use Rattle.std.specs.List.{list_any}
 use Rattle.std.specs.Ordering.{eq_by_cmp}
@@ -9,12 +9,13 @@ use Rattle.std.proofs.lemmas.List.Sums.{sum_by-append, sum_by-cons}
 use Rattle.pcache_evict.specs.declared.eviction.entry_key.CacheEntryKey.{CacheEntryKey}
 use Rattle.pcache_evict.specs.Entry.{entry_cmp, entries_total}
 use Rattle.pcache_evict.specs.Tracked.{Tracked, Limits, IsWithin, without}
+use Rattle.pcache_evict.proofs.EntryOrder.{exact_entries}
 use Rattle.pcache_evict.proofs.Evictions.{is_gone}
 use Rattle.pcache_evict.proofs.TrackedMaps.{get-without_apart}
 use Rattle.cache_simulation.specs.declared.run.Request.{Request}
 use Rattle.cache_simulation.specs.declared.counts.Counts.{Counts}
-use Rattle.cache_simulation.specs.Events.{Event, Hit, Came, Passed, RunsTo, stands, HitsStand, is_hit, size_in}
-use Rattle.cache_simulation.specs.Plays.{Rules, State, IsEvent, Becomes, Plays, IsCounted}
+use Rattle.cache_simulation.specs.Events.{Event, Hit, Came, Renewed, Passed, comes, RunsTo, stands, HitsStand, is_hit, size_in}
+use Rattle.cache_simulation.specs.Plays.{Rules, State, IsEvent, Becomes, Plays, IsCounted, rules_of}
 
 abbrev ties : CacheEntryKey → CacheEntryKey → Bool
 ties = eq_by_cmp entry_cmp
@@ -53,6 +54,9 @@ hits-stand limits past (Hit k n ∷ es) m after t (next, (there, same), rest) =
 hits-stand limits past (Came k n out ∷ es) m after t (next, (fair, is), rest) =
     hits-stand limits (Came k n out ∷ past) es next after (λ q.
     ap (λ m. fin.contains_key m q) is ∙ has-without out (fin.insert m k n) q ∙ ap (λ b. b && not (list_any (ties q) out)) (has-insert m k n q ∙ ap (λ b. ties q k || b) (t q))) rest
+hits-stand limits past (Renewed k n out ∷ es) m after t (next, (fair, is), rest) =
+    hits-stand limits (Renewed k n out ∷ past) es next after (λ q.
+    ap (λ m. fin.contains_key m q) is ∙ has-without out (fin.insert m k n) q ∙ ap (λ b. b && not (list_any (ties q) out)) (has-insert m k n q ∙ ap (λ b. ties q k || b) (t q))) rest
 hits-stand limits past (Passed k n ∷ es) m after t (next, same, rest) =
     hits-stand limits (Passed k n ∷ past) es next after (λ q. ap (λ m. fin.contains_key m q) same ∙ t q) rest
 
@@ -63,6 +67,7 @@ pub stays-within : (limits : Limits) (m : Tracked) (es : List Event) (after : Tr
 stays-within limits m [] after w r = subst (IsWithin limits) (sym r) w
 stays-within limits m (Hit k n ∷ es) after w (next, (there, same), rest) = stays-within limits next es after (subst (IsWithin limits) (sym same) w) rest
 stays-within limits m (Came k n out ∷ es) after w (next, (fair, is), rest) = stays-within limits next es after (subst (IsWithin limits) (sym is) fair.enough) rest
+stays-within limits m (Renewed k n out ∷ es) after w (next, (fair, is), rest) = stays-within limits next es after (subst (IsWithin limits) (sym is) fair.enough) rest
 stays-within limits m (Passed k n ∷ es) after w (next, same, rest) = stays-within limits next es after (subst (IsWithin limits) (sym same) w) rest
 
 -- what is played is a run
@@ -113,15 +118,36 @@ pub both_first : (a b : Bool) → (a && b) ≡ true → a ≡ true
 both_first true b h = refl
 both_first false b h = h
 
-pub is-hit : (there : Bool) (most : ℕ) (k : CacheEntryKey) (n : ℕ) → there ≡ true → IsEvent there most k n (Hit k n)
-is-hit there most k n y = record { hit = λ _. refl; passed = λ z more. absurd (both_ways _ z y); came = λ z few. absurd (both_ways _ z y) }
+pub is-hit : (there anew : Bool) (most : ℕ) (k : CacheEntryKey) (n : ℕ) → there ≡ true → IsEvent there anew most k n (Hit k n)
+is-hit there anew most k n y = record { hit = λ _. refl; passed = λ z more. absurd (both_ways _ z y); came = λ z few. absurd (both_ways _ z y) }
 
-pub is-passed : (there : Bool) (most : ℕ) (k : CacheEntryKey) (n : ℕ) → there ≡ false → most < n → IsEvent there most k n (Passed k n)
-is-passed there most k n z large = record { hit = λ y. absurd (both_ways _ z y); passed = λ _ _. refl; came = λ _ few. absurd (omega arith) }
+pub is-passed : (there anew : Bool) (most : ℕ) (k : CacheEntryKey) (n : ℕ) → there ≡ false → most < n → IsEvent there anew most k n (Passed k n)
+is-passed there anew most k n z large = record { hit = λ y. absurd (both_ways _ z y); passed = λ _ _. refl; came = λ _ few. absurd (omega arith) }
 
-pub is-come : (there : Bool) (most : ℕ) (k : CacheEntryKey) (n : ℕ) (out : List CacheEntryKey) → there ≡ false → n ≤ most → IsEvent there most k n (Came k n out)
-is-come there most k n out z few = record { hit = λ y. absurd (both_ways _ z y); passed = λ _ large. absurd (omega arith); came = λ _ _. (out, refl) }
+pub is-come : (there anew : Bool) (most : ℕ) (k : CacheEntryKey) (n : ℕ) (out : List CacheEntryKey) → there ≡ false → n ≤ most → IsEvent there anew most k n (comes anew k n out)
+is-come there anew most k n out z few = record { hit = λ y. absurd (both_ways _ z y); passed = λ _ large. absurd (omega arith); came = λ _ _. (out, refl) }
 
 -- the rules of a cache stay
-pub same-rules : (l m : Limits) (a b : ℕ) (s t : State) (asked : Request) (e : Event) → l ≡ m → a ≡ b → Becomes (record { limits = l; most = a }) s asked e t → Becomes (record { limits = m; most = b }) s asked e t
-same-rules l m a b s t asked e lm ab h = subst (λ b. Becomes (record { limits = m; most = b }) s asked e t) ab (subst (λ m. Becomes (record { limits = m; most = a }) s asked e t) lm h)
+pub same-rules : (x y : Rules) (s t : State) (asked : Request) (e : Event) → x ≡ y → Becomes x s asked e t → Becomes y s asked e t
+same-rules x y s t asked e is h = subst (λ rules. Becomes rules s asked e t) is h
+
+-- rules with equal parts are equal
+pub rules-same : (l m : Limits) (a b : ℕ) (c d : Bool) → l ≡ m → a ≡ b → c ≡ d → rules_of l a c ≡ rules_of m b d
+rules-same l m a b c d lm ab cd = ap (λ l. rules_of l a c) lm ∙ ap (λ a. rules_of m a c) ab ∙ ap (λ c. rules_of m b c) cd
+
+-- what was removed and is added anew
+pub insert-removed : (m : Tracked) (k : CacheEntryKey) (n : ℕ) → fin.insert (fin.remove m k) k n ≡ fin.insert m k n
+insert-removed m k n = fin.same_map entries_total exact_entries _ _ (λ q.
+    fin.get-insert entries_total (fin.remove m k) k n q
+    ∙ ap (λ o. cond (ties q k) (Some n) o) (fin.get-remove entries_total m k q)
+    ∙ (elim (ties q k) as (λ b. cond b (Some n) (cond b None (fin.get m q)) ≡ cond b (Some n) (fin.get m q)) [ true ↦ refl | false ↦ refl ])
+    ∙ sym (fin.get-insert entries_total m k n q))
+
+-- what comes in is as large anew or not, and no hit
+pub comes-size : (anew : Bool) (k : CacheEntryKey) (n : ℕ) (out : List CacheEntryKey) → size_in (comes anew k n out) ≡ n
+comes-size true k n out = refl
+comes-size false k n out = refl
+
+pub comes-miss : (anew : Bool) (k : CacheEntryKey) (n : ℕ) (out : List CacheEntryKey) → is_hit (comes anew k n out) ≡ false
+comes-miss true k n out = refl
+comes-miss false k n out = refl

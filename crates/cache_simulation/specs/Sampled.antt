@@ -1,5 +1,5 @@
 -- What a part of the keys stands for: sampling by the hashes of keys (SHARDS: Waldspurger, Park, Garthwaite, Ahmad, FAST 2015).
-use Rattle.std.specs.Prelude.{ℕ, ◌+◌, ◌-◌, ◌*◌, ◌/◌, ◌%◌, ◌<◌, ◌≤◌}
+use Rattle.std.specs.Prelude.{ℕ, Bool, ◌&&◌, nat_le, nat_lt, ◌+◌, ◌-◌, ◌*◌, ◌/◌, ◌%◌, ◌<◌, ◌≤◌}
 
 -- the number of parts of the smallest size; sizes of parts are told in these
 abbrev pub whole : ℕ
@@ -9,6 +9,10 @@ whole = 1000000
 pub record IsInPart (rate part hash : ℕ) : Type 0 where
   pub from : rate * part ≤ hash % whole
   pub to : hash % whole < rate * part + rate
+
+-- the same as a test
+abbrev pub is_in_part : ℕ → ℕ → ℕ → Bool
+is_in_part rate part hash = nat_le (rate * part) (hash % whole) && nat_lt (hash % whole) (rate * part + rate)
 
 -- how many were to be expected in a part of this size, if there are so many in the whole trace
 abbrev pub expected : ℕ → ℕ → ℕ

@@ -1,27 +1,33 @@
 #![tactic(auto)]
 //! What caches of some sizes and policies would have served of a trace of requests.
 //!
+//! - `cache`: one cache, of any policy
 //! - `counts`: the counts over a trace
 //! - `freshness`: until when bodies are fresh
 //! - `laws`: laws of all runs
 //! - `layout`: how the lines of a trace are read
 //! - `lines`: the lines of a reader, one after the other
 //! - `options`: the words of the command line
+//! - `player`: the requests of a trace, on their way to the caches
 //! - `progress`: the progress of a simulation
+//! - `reader`: the requests of a trace, one after the other
 //! - `report`: tables, rows for plots, and a drawing
 //! - `run`: one manager over a trace
-//! - `runs`: the managers of a simulation
+//! - `runs`: the caches of a simulation
 //! - `sample`: a sample of the keys, which represents all
 //! - `simulation`: a trace from its first line to the report
 //! - `trace`: the lines of a trace
 
+pub mod cache;
 pub mod counts;
 pub mod freshness;
 pub mod laws;
 pub mod layout;
 mod lines;
 pub mod options;
+pub mod player;
 mod progress;
+mod reader;
 pub mod report;
 pub mod run;
 pub mod runs;

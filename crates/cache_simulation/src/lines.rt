@@ -1,6 +1,7 @@
 //! The lines of a reader, one after the other.
 
 use crate::simulation::Stop;
+use crate::trace::RECORD;
 use std::alloc::Global;
 use std::io;
 use std::io::{BufRead, BufReader, Read};
@@ -43,6 +44,32 @@ impl<R: Read + Drop> Lines<R> {
         self.read
     }
 
+    /// Takes the first bytes for the line that was read last, and leaves them to be read.
+    pub(crate) fn begin(&mut self) -> Result<(), Stop> {
+        self.line.clear();
+        let _taken = take_upto(&mut self.reader, RECORD, &mut self.line)?;
+        Ok(())
+    }
+
+    /// Reads the next record in place of a line, and returns whether there was one. The last one can be cut.
+    pub(crate) fn advance_record(&mut self) -> Result<bool, Stop> {
+        self.line.clear();
+        self.is_long = false;
+        for _ in 0..u64::MAX {
+            let missing = RECORD.saturating_sub(self.line.len());
+            if missing == 0 {
+                return Ok(true);
+            }
+            let taken = take_upto(&mut self.reader, missing, &mut self.line)?;
+            if taken == 0 {
+                break;
+            }
+            self.reader.consume(taken);
+            self.read = self.read.saturating_add(taken as u64);
+        }
+        Ok(!self.line.is_empty())
+    }
+
     /// Reads the next line, and returns whether there was one.
     pub(crate) fn advance(&mut self) -> Result<bool, Stop> {
         self.line.clear();
@@ -65,6 +92,20 @@ impl<R: Read + Drop> Lines<R> {
         }
         Ok(is_there)
     }
+}
+
+// Adds at most so many bytes of what the reader has, and returns how many; 0 at the end.
+fn take_upto<R: BufRead>(reader: &mut R, most: usize, line: &mut Vec<u8>) -> Result<usize, Stop> {
+    for _ in 0..u64::MAX {
+        let buffer = match reader.fill_buf() {
+            Ok(buffer) => buffer,
+            Err(failed) if failed.kind() == io::ErrorKind::Interrupted => continue,
+            Err(failed) => return Err(Stop::Io(failed)),
+        };
+        let end = buffer.len().min(most);
+        return extend(line, &buffer[..end]);
+    }
+    Ok(0)
 }
 
 // Adds the part of a line that the reader has: how many bytes that were, and whether the line ended.

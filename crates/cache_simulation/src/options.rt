@@ -1,9 +1,15 @@
 //! The words of the command line.
+ghost use Rattle.std.specs.Prelude.{◌≡◌, option_map};
+ghost use Rattle.std.specs.Duration.{as_nanos};
+ghost use Rattle.cache_simulation.specs.Caches.{start_in, most_in};
+ghost use Rattle.cache_simulation.specs.Fresh.{none_fresh};
+ghost use Rattle.cache_simulation.specs.Sampled.{expected};
 
 use crate::sample::{Sample, WHOLE};
-use crate::trace::{Columns, is_digits};
+use crate::trace::{Columns, TraceType, is_digits};
 use std::alloc::{AllocError, Global};
 use std::fmt;
+use std::time::Duration;
 
 /// Which entries are evicted.
 #[derive(Clone, Copy, Debug, PartialEq, Eq)]
@@ -27,6 +33,16 @@ impl Policy {
             "sieve" => Some(Policy::Sieve),
             "s3-fifo" => Some(Policy::S3Fifo),
             _ => None,
+        }
+    }
+
+    /// Its name.
+    pub fn name(self) -> &'static str {
+        match self {
+            Policy::Lru => "lru",
+            Policy::Sharded => "sharded:16",
+            Policy::Sieve => "sieve",
+            Policy::S3Fifo => "s3-fifo",
         }
     }
 }
@@ -78,8 +94,20 @@ pub struct Words<'a> {
     pub distinct: Option<&'a str>,
     /// For how many seconds a body is fresh.
     pub ttl: Option<&'a str>,
+    /// What the refill of a body past its time is.
+    pub expired: &'a str,
     /// What to do with a body larger than a cache.
     pub large: &'a str,
+    /// How many entries a cache may have.
+    pub watermark: Option<&'a str>,
+    /// Whether each body counts as one byte.
+    pub ignores_size: bool,
+    /// How many requests are made before any is counted.
+    pub warmup: &'a str,
+    /// After how many requests results are written.
+    pub interval: Option<&'a str>,
+    /// How the trace is written.
+    pub trace_type: Option<&'a str>,
     /// The names of columns, separated by commas.
     pub columns: Option<&'a str>,
     /// Which share of the keys represents all.
@@ -94,6 +122,53 @@ pub struct Words<'a> {
     pub bad_lines: &'a str,
 }
 
+/// The options that all caches of a simulation have in common.
+#[derive(Clone, Copy, Debug)]
+pub struct Setting {
+    /// The keys whose requests are played.
+    pub sample: Sample,
+    /// For how many seconds a body is fresh; without end if it is `None`.
+    pub ttl: Option<u64>,
+    /// Whether the entry of a body past its time is removed before that body is added anew. Otherwise that
+    /// is a use of its entry.
+    pub replaces: bool,
+    /// Whether a body larger than a cache is not stored. Otherwise it evicts all others.
+    pub passes_by: bool,
+    /// Whether each body counts as one byte.
+    pub ignores_size: bool,
+    /// How many entries a cache may have, if that is limited.
+    pub watermark: Option<usize>,
+}
+
+impl Setting {
+    /// How many entries a cache of the sample may have, if that is limited.
+    pub fn scaled_watermark(&self) -> Option<usize>
+        ensures { result ≡ option_map (expected self.now.sample.rate) self.now.watermark }
+    {
+        match self.watermark {
+            Some(watermark) => Some(self.sample.scaled(watermark)),
+            None => None,
+        }
+    }
+
+    /// For how long bodies are fresh, if that is limited.
+    pub fn time(&self) -> Option<Duration>
+        ensures { option_map (λ t. none_fresh (as_nanos t)) result ≡ start_in self.now }
+    {
+        match self.ttl {
+            Some(seconds) => Some(Duration::from_secs(seconds)),
+            None => None,
+        }
+    }
+
+    /// The size of the largest body that a cache with this limit stores.
+    pub fn most(&self, limit: usize) -> usize
+        ensures { result ≡ most_in self.now limit }
+    {
+        if self.passes_by { limit } else { usize::MAX }
+    }
+}
+
 /// The options of the command line.
 #[derive(Debug, Drop)]
 pub struct Options {
@@ -105,18 +180,20 @@ pub struct Options {
     pub trace: Option<String>,
     /// The total bytes of all bodies of the trace, each counted once, if they are given.
     pub distinct: Option<u64>,
-    /// For how many seconds a body is fresh; without end if it is `None`.
-    pub ttl: Option<u64>,
+    /// What all caches have in common.
+    pub setting: Setting,
     /// The form of the output.
     pub output: Output,
     /// The file of the drawing, if there is one.
     pub plot: Option<String>,
-    /// The keys whose requests are played.
-    pub sample: Sample,
-    /// Whether a body larger than a cache is not stored. Otherwise it evicts all others.
-    pub passes_by: bool,
     /// How many lines may be bad.
     pub bad_lines: u64,
+    /// How many requests of the trace are made before any is counted.
+    pub warmup: u64,
+    /// After how many requests each there are results of these alone; only of all if it is `None`.
+    pub interval: Option<u64>,
+    /// How the trace is written, if it is given.
+    pub trace_type: Option<TraceType>,
     /// The columns of lines with commas, if they are given.
     pub columns: Option<Columns>,
 }
@@ -125,6 +202,11 @@ impl Options {
     /// Whether a size is a share of the total bytes of all bodies.
     pub fn have_share(&self) -> bool {
         self.sizes.iter().any(|size| matches!(size, Size::Share(_)))
+    }
+
+    /// The size that counts of a body which has this one.
+    pub fn counted(&self, size: usize) -> usize {
+        if self.setting.ignores_size { 1 } else { size }
     }
 }
 
@@ -164,7 +246,7 @@ pub fn read<'a>(alloc: Global, words: &Words<'a>) -> Result<Options, Unusable<'a
         sizes: sizes(alloc, words.size)?,
         trace: owned(alloc, words.trace)?,
         distinct: distinct(words.distinct)?,
-        ttl: ttl(words.ttl)?,
+        setting: read_setting(words)?,
         output: value(
             "format",
             words.format,
@@ -172,15 +254,32 @@ pub fn read<'a>(alloc: Global, words: &Words<'a>) -> Result<Options, Unusable<'a
             output_named(words.format),
         )?,
         plot: owned(alloc, words.plot)?,
-        sample: sample(words.sample, words.part)?,
-        passes_by: value("large", words.large, "pass or evict", large(words.large))?,
         bad_lines: value(
             "bad-lines",
             words.bad_lines,
             NUMBER,
             whole_number(words.bad_lines),
         )?,
+        warmup: value("warmup", words.warmup, NUMBER, whole_number(words.warmup))?,
+        interval: interval(words.interval, words.plot)?,
+        trace_type: trace_type(words.trace_type)?,
         columns: columns(words.columns)?,
+    })
+}
+
+fn read_setting<'a>(words: &Words<'a>) -> Result<Setting, Unusable<'a>> {
+    Ok(Setting {
+        sample: sample(words.sample, words.part)?,
+        ttl: ttl(words.ttl)?,
+        replaces: value(
+            "expired",
+            words.expired,
+            "use or replace",
+            expired(words.expired),
+        )?,
+        passes_by: value("large", words.large, "pass or evict", large(words.large))?,
+        ignores_size: words.ignores_size,
+        watermark: watermark(words.watermark)?,
     })
 }
 
@@ -193,6 +292,11 @@ const SIZE: &str =
 
 const SIZES: &str =
     "sizes with commas: each a whole number of bytes below 2^64, with a unit (K, M, G, T, KB .. TB, KiB .. TiB) or without, or a number with %";
+
+const INTERVAL: &str =
+    "a whole number from 1 and below 2^64, without --plot, which draws the whole trace";
+
+const TRACE_TYPES: &str = "csv, cdn, twitter or oracleGeneral";
 
 const COLUMNS: &str = "names with commas, with key and size among them once and time at most once";
 
@@ -231,6 +335,35 @@ fn ttl(text: Option<&str>) -> Result<Option<u64>, Unusable<'_>> {
     }
 }
 
+fn watermark(text: Option<&str>) -> Result<Option<usize>, Unusable<'_>> {
+    match text {
+        Some(text) => Ok(Some(value("watermark", text, NUMBER, size_number(text))?)),
+        None => Ok(None),
+    }
+}
+
+fn interval<'a>(text: Option<&'a str>, plot: Option<&'a str>) -> Result<Option<u64>, Unusable<'a>> {
+    let Some(text) = text else {
+        return Ok(None);
+    };
+    let every = value("interval", text, INTERVAL, whole_number(text))?;
+    if every == 0 || plot.is_some() {
+        return Err(Unusable::Value {
+            option: "interval",
+            value: text,
+            choices: INTERVAL,
+        });
+    }
+    Ok(Some(every))
+}
+
+fn trace_type(text: Option<&str>) -> Result<Option<TraceType>, Unusable<'_>> {
+    match text {
+        Some(text) => Ok(Some(value("trace-type", text, TRACE_TYPES, TraceType::named(text))?)),
+        None => Ok(None),
+    }
+}
+
 fn columns(text: Option<&str>) -> Result<Option<Columns>, Unusable<'_>> {
     match text {
         Some(text) => Ok(Some(value("columns", text, COLUMNS, Columns::read(text))?)),
@@ -256,6 +389,14 @@ fn output_named(value: &str) -> Option<Output> {
         "table" => Some(Output::Table),
         "csv" => Some(Output::Csv),
         "json" => Some(Output::Json),
+        _ => None,
+    }
+}
+
+fn expired(value: &str) -> Option<bool> {
+    match value {
+        "use" => Some(false),
+        "replace" => Some(true),
         _ => None,
     }
 }
@@ -348,6 +489,10 @@ fn whole_number(text: &str) -> Option<u64> {
         return None;
     }
     text.parse::<u64>().ok()
+}
+
+fn size_number(text: &str) -> Option<usize> {
+    usize::try_from(whole_number(text)?).ok()
 }
 
 // The same, if it is below 2^64.

@@ -16,6 +16,7 @@ pub(crate) struct Progress {
     /// The lines.
     pub(crate) lines: u64,
     bad: u64,
+    passed: u64,
     length: Option<u64>,
 }
 
@@ -26,8 +27,14 @@ impl Progress {
             start: Instant::now(rt).map_err(Stop::Io)?,
             lines: 0,
             bad: 0,
+            passed: 0,
             length,
         })
+    }
+
+    /// Counts a line of another operation.
+    pub(crate) fn passed(&mut self) {
+        self.passed = self.passed.saturating_add(1);
     }
 
     /// Counts a line that is no request, and names the first of them. Returns whether more are bad than may be.
@@ -74,8 +81,16 @@ impl Progress {
         Some(rest.saturating_mul(millis).checked_div(bytes as u128)? / 1000)
     }
 
-    /// Writes at the end how many lines were bad, if there were any.
+    /// Writes at the end how many lines were bad or of other operations, if there were any.
     pub(crate) fn say_bad<E: Write>(&self, errors: &mut E) -> Result<(), Stop> {
+        if self.passed > 0 {
+            let Progress { passed, lines, .. } = *self;
+            writeln!(
+                errors,
+                "{passed} of {lines} lines are other operations than get and gets"
+            )
+            .map_err(Stop::Io)?;
+        }
         if self.bad == 0 {
             return Ok(());
         }

@@ -1,53 +1,61 @@
 //! Tables, rows for plots, and a drawing.
 ghost use Rattle.std.specs.Prelude.{◌<◌};
 
+use crate::cache::Told;
 use crate::counts::Counts;
-use crate::options::Output;
-use crate::sample::{Sample, WHOLE};
+use crate::options::{Output, Setting};
+use crate::sample::WHOLE;
 use std::io;
 use std::io::Write;
 
 /// The results of one cache over a trace, and the options that they depend on.
 #[derive(Clone, Copy, Debug)]
 pub struct Row {
-    /// The name of its policy.
-    pub policy: &'static str,
     /// Its size, in bytes.
     pub size: usize,
-    /// The counts of the requests that were read: those of the sample.
-    pub counts: Counts,
-    /// How many entries were evicted.
-    pub evicted: usize,
-    /// The sum of the weights of the tracked entries at the end, in bytes.
-    pub tracked: usize,
+    /// What it tells after the requests that were read: those of the sample.
+    pub told: Told,
+    /// How many lines of the trace are before those that are counted.
+    pub from: u64,
+    /// How many there are with those.
+    pub until: u64,
     /// How many requests were to be expected in the sample.
     pub expected: u64,
     /// How many bytes.
     pub expected_bytes: u128,
-    /// The keys that were asked for.
-    pub sample: Sample,
-    /// For how many seconds a body is fresh; without end if it is `None`.
-    pub ttl: Option<u64>,
-    /// Whether a body larger than the cache is not stored.
-    pub passes_by: bool,
+    /// What all caches have in common.
+    pub setting: Setting,
 }
 
 impl Row {
     // The share of hits in the requests, in hundredths of a percent; of a sample, corrected.
     fn hit_ratio(&self) -> u128 {
-        let hits = self.counts.corrected_hits(self.expected);
+        let hits = self.told.counts.corrected_hits(self.expected);
         ratio(u128::from(hits), u128::from(self.expected))
     }
 
     // The share of their bytes.
     fn byte_ratio(&self) -> u128 {
-        let bytes = self.counts.corrected_hit_bytes(self.expected_bytes);
+        let bytes = self.told.counts.corrected_hit_bytes(self.expected_bytes);
         ratio(bytes, self.expected_bytes)
     }
 
     // What is done with a body larger than the cache.
     fn large(&self) -> &'static str {
-        if self.passes_by { "pass" } else { "evict" }
+        if self.setting.passes_by {
+            "pass"
+        } else {
+            "evict"
+        }
+    }
+
+    // What the refill of a body past its time is.
+    fn expired(&self) -> &'static str {
+        if self.setting.replaces {
+            "replace"
+        } else {
+            "use"
+        }
     }
 }
 
@@ -74,7 +82,10 @@ fn write_csv<W: Write>(out: &mut W, rows: &[Row]) -> io::Result<()> {
         out,
         "expected_requests,corrected_hits,expected_bytes,corrected_hit_bytes,"
     )?;
-    writeln!(out, "sample,part,ttl,large")?;
+    writeln!(
+        out,
+        "sample,part,ttl,large,expired,ignore_size,watermark,from,until"
+    )?;
     for row in rows {
         write_values(out, row)?;
     }
@@ -87,31 +98,41 @@ fn write_values<W: Write>(out: &mut W, row: &Row) -> io::Result<()> {
         hits,
         bytes,
         hit_bytes,
-    } = row.counts;
+    } = row.told.counts;
     write!(
         out,
         "{},{},{requests},{hits},{bytes},{hit_bytes},",
-        row.policy, row.size
+        row.told.policy.name(),
+        row.size
     )?;
-    write!(out, "{},{},{},", row.evicted, row.tracked, row.expected)?;
-    write!(out, "{},", row.counts.corrected_hits(row.expected))?;
+    write!(
+        out,
+        "{},{},{},",
+        row.told.evicted, row.told.tracked, row.expected
+    )?;
+    write!(out, "{},", row.told.counts.corrected_hits(row.expected))?;
     write!(out, "{},", row.expected_bytes)?;
     write!(
         out,
         "{},",
-        row.counts.corrected_hit_bytes(row.expected_bytes)
+        row.told.counts.corrected_hit_bytes(row.expected_bytes)
     )?;
     write_sample(out, row)?;
-    write!(out, ",{},", row.sample.part)?;
-    if let Some(ttl) = row.ttl {
+    write!(out, ",{},", row.setting.sample.part)?;
+    if let Some(ttl) = row.setting.ttl {
         write!(out, "{ttl}")?;
     }
-    writeln!(out, ",{}", row.large())
+    write!(out, ",{},{},", row.large(), row.expired())?;
+    write!(out, "{},", row.setting.ignores_size)?;
+    if let Some(watermark) = row.setting.watermark {
+        write!(out, "{watermark}")?;
+    }
+    writeln!(out, ",{},{}", row.from, row.until)
 }
 
 // The rate of the sample, as a part of 1.
 fn write_sample<W: Write>(out: &mut W, row: &Row) -> io::Result<()> {
-    let rate = row.sample.rate;
+    let rate = row.setting.sample.rate;
     write!(out, "{}.{:06}", rate / WHOLE, rate % WHOLE)
 }
 
@@ -128,11 +149,12 @@ fn write_object<W: Write>(out: &mut W, row: &Row) -> io::Result<()> {
         hits,
         bytes,
         hit_bytes,
-    } = row.counts;
+    } = row.told.counts;
     write!(
         out,
         "{{\"policy\":\"{}\",\"size\":{},",
-        row.policy, row.size
+        row.told.policy.name(),
+        row.size
     )?;
     write!(
         out,
@@ -141,46 +163,64 @@ fn write_object<W: Write>(out: &mut W, row: &Row) -> io::Result<()> {
     write!(
         out,
         "\"evicted\":{},\"tracked\":{},",
-        row.evicted, row.tracked
+        row.told.evicted, row.told.tracked
     )?;
     write!(out, "\"expected_requests\":{},", row.expected)?;
     write!(
         out,
         "\"corrected_hits\":{},",
-        row.counts.corrected_hits(row.expected)
+        row.told.counts.corrected_hits(row.expected)
     )?;
     write!(out, "\"expected_bytes\":{},", row.expected_bytes)?;
     write!(
         out,
         "\"corrected_hit_bytes\":{},",
-        row.counts.corrected_hit_bytes(row.expected_bytes)
+        row.told.counts.corrected_hit_bytes(row.expected_bytes)
     )?;
     write!(out, "\"sample\":")?;
     write_sample(out, row)?;
-    write!(out, ",\"part\":{},\"ttl\":", row.sample.part)?;
-    match row.ttl {
+    write!(out, ",\"part\":{},\"ttl\":", row.setting.sample.part)?;
+    match row.setting.ttl {
         Some(ttl) => write!(out, "{ttl}")?,
         None => write!(out, "null")?,
     }
-    writeln!(out, ",\"large\":\"{}\"}}", row.large())
+    write!(out, ",\"large\":\"{}\"", row.large())?;
+    write!(out, ",\"expired\":\"{}\"", row.expired())?;
+    write!(out, ",\"ignore_size\":{}", row.setting.ignores_size)?;
+    match row.setting.watermark {
+        Some(watermark) => write!(out, ",\"watermark\":{watermark}")?,
+        None => write!(out, ",\"watermark\":null")?,
+    }
+    writeln!(out, ",\"from\":{},\"until\":{}}}", row.from, row.until)
 }
 
 fn write_table<W: Write>(out: &mut W, rows: &[Row]) -> io::Result<()> {
+    let is_part = rows.iter().any(|row| row.from > 0);
     for row in rows {
+        if is_part {
+            write!(
+                out,
+                "requests {} to {}: ",
+                row.from.saturating_add(1),
+                row.until
+            )?;
+        }
         write_line(out, row)?;
     }
     Ok(())
 }
 
 fn write_line<W: Write>(out: &mut W, row: &Row) -> io::Result<()> {
-    let counts = row.counts;
+    let counts = row.told.counts;
     let (hits, bytes) = (row.hit_ratio(), row.byte_ratio());
     write!(
         out,
         "{} of {} bytes: {} requests",
-        row.policy, row.size, counts.requests
+        row.told.policy.name(),
+        row.size,
+        counts.requests
     )?;
-    if row.sample.is_all() {
+    if row.setting.sample.is_all() {
         write!(out, ", {} hits ", counts.hits)?;
     } else {
         let corrected = counts.corrected_hits(row.expected);
@@ -192,7 +232,7 @@ fn write_line<W: Write>(out: &mut W, row: &Row) -> io::Result<()> {
     writeln!(
         out,
         "{} evicted, {} bytes tracked",
-        row.evicted, row.tracked
+        row.told.evicted, row.told.tracked
     )
 }
 
@@ -231,14 +271,15 @@ fn draw_point<W: Write>(
     writeln!(
         out,
         "<circle cx=\"{x}\" cy=\"{y}\" r=\"4\" fill=\"{colour}\"><title>{} {}</title></circle>",
-        row.policy, row.size
+        row.told.policy.name(),
+        row.size
     )?;
     if place == 0 {
         let under = 40 + (policy as u128 % 16) * 16;
         writeln!(
             out,
             "<text x=\"520\" y=\"{under}\" fill=\"{colour}\">{}</text>",
-            row.policy
+            row.told.policy.name()
         )?;
     }
     if policy == 0 {

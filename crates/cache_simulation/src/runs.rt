@@ -1,179 +1,109 @@
-//! The managers of a simulation.
-ghost use Rattle.pcache_base.specs.declared.error.ErrorType.TheVariants.{OutOfMemory};
+//! The caches of a simulation.
+ghost use Rattle.std.specs.Prelude.{◌≡◌, ◌++◌, List, [], IfOk, IfErr, OnOk, ◌⊎◌};
+ghost use Rattle.std.specs.List.{All};
+ghost use Rattle.pcache_base.specs.declared.error.ErrorType.TheVariants.{OutOfMemory, NumbersExhausted};
+ghost use Rattle.cache_simulation.specs.declared.run.Request.{Request};
+ghost use Rattle.cache_simulation.specs.Caches.{HasPlayed, StandsIn, IsRow};
 
-use crate::counts::Counts;
-use crate::options::{Options, Policy};
+use crate::cache::{Cache, Span};
+use crate::options::{Options, Policy, Setting, Size};
 use crate::report::Row;
-use crate::run::{Request, Run};
-use crate::sample::Sample;
+use crate::run::Request;
 use pcache_base::error::Result;
-use pcache_base::seed::Seed;
-use pcache_evict::eviction::ordered::OrderedManager;
-use pcache_evict::eviction::{sharded_lru, simple_lru};
-use pcache_policies::{s3_fifo, sieve};
 use std::alloc::Global;
-use std::time::Duration;
 
-// A run of a cache, with the size in bytes that it represents over all keys.
-#[derive(Drop)]
-struct Sized<M: OrderedManager> {
-    size: usize,
-    run: Run<M>,
-}
-
-// The options that all runs have in common.
-#[derive(Clone, Copy)]
-struct Setting {
-    sample: Sample,
-    ttl: Option<u64>,
-    passes_by: bool,
-}
-
-/// The runs of a simulation, for each policy one of each size.
+/// The caches of a simulation, for each policy one of each size.
 #[derive(Drop)]
 pub struct Runs {
-    alloc: Global,
-    setting: Setting,
-    policies: Vec<Policy>,
-    lru: Vec<Sized<simple_lru::Manager>>,
-    sharded: Vec<Sized<sharded_lru::Manager<16>>>,
-    sieve: Vec<Sized<sieve::Manager>>,
-    s3_fifo: Vec<Sized<s3_fifo::Manager>>,
+    pub(crate) alloc: Global,
+    pub(crate) setting: Setting,
+    caches: Vec<Cache>,
 }
 
 impl Runs {
-    /// The runs that the options ask for, over a trace whose bodies have `distinct` bytes
+    /// The caches that the options ask for, over a trace whose bodies have `distinct` bytes
     /// altogether, each counted once.
-    pub fn new(alloc: Global, options: &Options, distinct: u64) -> Result<Runs> {
-        let mut runs = Runs {
-            alloc,
-            setting: Setting {
-                sample: options.sample,
-                ttl: options.ttl,
-                passes_by: options.passes_by,
-            },
-            policies: Vec::new(alloc),
-            lru: Vec::new(alloc),
-            sharded: Vec::new(alloc),
-            sieve: Vec::new(alloc),
-            s3_fifo: Vec::new(alloc),
-        };
+    pub fn new(alloc: Global, options: &Options, distinct: u64) -> Result<Runs>
+        ensures empty { IfOk result (λ r. HasPlayed [] [] r) }
+        ensures setting { IfOk result (λ r. r.setting ≡ options.now.setting) }
+        ensures kind { IfErr result (λ e. e ≡ OutOfMemory) }
+    {
+        let setting = options.setting;
+        let mut caches = Vec::new(alloc);
         for policy in options.policies.as_slice() {
-            runs.policies.push(*policy)?;
-            for size in options.sizes.as_slice() {
-                runs.add(options, *policy, size.in_bytes(distinct))?;
-            }
+            add(
+                alloc,
+                setting,
+                *policy,
+                options.sizes.as_slice(),
+                distinct,
+                &mut caches,
+            )?;
         }
-        Ok(runs)
-    }
-
-    fn add(&mut self, options: &Options, policy: Policy, size: usize) -> Result<()> {
-        let limit = options.sample.scaled(size);
-        // A run over the same trace should take the same time again, and no outsider chooses its
-        // keys.
-        let seed = Seed::fixed();
-        match policy {
-            Policy::Lru => {
-                let manager = simple_lru::Manager::new(self.alloc, seed, limit)?;
-                add_run(self.alloc, &mut self.lru, options, manager, size)
-            }
-            Policy::Sharded => {
-                let manager = sharded_lru::Manager::with_capacity(self.alloc, seed, limit, 0)?;
-                add_run(self.alloc, &mut self.sharded, options, manager, size)
-            }
-            Policy::Sieve => {
-                let manager = sieve::Manager::new(self.alloc, seed, limit)?;
-                add_run(self.alloc, &mut self.sieve, options, manager, size)
-            }
-            Policy::S3Fifo => {
-                let manager = s3_fifo::Manager::new(self.alloc, seed, limit)?;
-                add_run(self.alloc, &mut self.s3_fifo, options, manager, size)
-            }
-        }
+        Ok(Runs {
+            alloc,
+            setting,
+            caches,
+        })
     }
 
     /// Makes these requests to each cache.
-    pub fn play(&mut self, requests: &[Request]) -> Result<()> {
-        play_each(&mut self.lru, requests)?;
-        play_each(&mut self.sharded, requests)?;
-        play_each(&mut self.sieve, requests)?;
-        play_each(&mut self.s3_fifo, requests)
+    pub fn play(&mut self, requests: &[Request]) -> Result<()>
+        ensures served { OnOk result ((before asked : List Request)
+            → HasPlayed before asked self.old
+            → HasPlayed before (asked ++ requests.now) self.new) }
+        ensures setting { self.new.setting ≡ self.old.setting }
+        ensures kind { IfErr result (λ e. (e ≡ OutOfMemory) ⊎ (e ≡ NumbersExhausted)) }
+    {
+        for cache in self.caches.iter_mut() {
+            cache.play(requests)?;
+        }
+        Ok(())
     }
 
-    /// The results of each cache over the sample of a trace that has these counts of requests and bytes, by policy and size in
-    /// the order in which they were given.
-    pub fn rows(&self, all: Counts) -> Result<Vec<Row>> {
+    /// Counts anew from here on.
+    pub fn mark(&mut self)
+        ensures served { (before asked : List Request)
+            → HasPlayed before asked self.old
+            → HasPlayed (before ++ asked) [] self.new }
+        ensures setting { self.new.setting ≡ self.old.setting }
+    {
+        for cache in self.caches.iter_mut() {
+            cache.mark();
+        }
+    }
+
+    /// The results of each cache over the sample of a part of a trace, by policy and size in the order in which
+    /// they were given.
+    pub fn rows(&self, span: Span) -> Result<Vec<Row>>
+        ensures rows { IfOk result (λ rows. (before asked : List Request)
+            → HasPlayed before asked self.now
+            → All (IsRow self.now.setting span before asked) rows.items) }
+        ensures kind { IfErr result (λ e. e ≡ OutOfMemory) }
+    {
         let mut rows = Vec::new(self.alloc);
-        let setting = self.setting;
-        for policy in self.policies.as_slice() {
-            match policy {
-                Policy::Lru => add_rows(&mut rows, setting, all, "lru", self.lru.as_slice())?,
-                Policy::Sharded => {
-                    add_rows(
-                        &mut rows,
-                        setting,
-                        all,
-                        "sharded:16",
-                        self.sharded.as_slice(),
-                    )?
-                }
-                Policy::Sieve => add_rows(&mut rows, setting, all, "sieve", self.sieve.as_slice())?,
-                Policy::S3Fifo => {
-                    add_rows(&mut rows, setting, all, "s3-fifo", self.s3_fifo.as_slice())?
-                }
-            }
+        for cache in self.caches.as_slice() {
+            rows.push(cache.row(self.setting, span))?;
         }
         Ok(rows)
     }
 }
 
-fn add_run<M: OrderedManager>(
+// Adds a cache of a policy for each size.
+fn add(
     alloc: Global,
-    runs: &mut Vec<Sized<M>>,
-    options: &Options,
-    manager: M,
-    size: usize,
-) -> Result<()> {
-    let most = if options.passes_by {
-        options.sample.scaled(size)
-    } else {
-        usize::MAX
-    };
-    let time = options.ttl.map(Duration::from_secs);
-    runs.push(Sized {
-        size,
-        run: Run::new(alloc, manager, most, time),
-    })?;
-    Ok(())
-}
-
-fn play_each<M: OrderedManager>(runs: &mut Vec<Sized<M>>, requests: &[Request]) -> Result<()> {
-    for sized in runs.iter_mut() {
-        sized.run.play(requests)?;
-    }
-    Ok(())
-}
-
-fn add_rows<M: OrderedManager>(
-    rows: &mut Vec<Row>,
     setting: Setting,
-    all: Counts,
-    policy: &'static str,
-    runs: &[Sized<M>],
-) -> Result<()> {
-    for sized in runs {
-        rows.push(Row {
-            policy,
-            size: sized.size,
-            counts: sized.run.counts,
-            evicted: sized.run.manager.evicted_items(),
-            tracked: sized.run.manager.total_size(),
-            expected: setting.sample.expected(all.requests),
-            expected_bytes: setting.sample.expected_bytes(all.bytes),
-            sample: setting.sample,
-            ttl: setting.ttl,
-            passes_by: setting.passes_by,
-        })?;
+    policy: Policy,
+    sizes: &[Size],
+    distinct: u64,
+    caches: &mut Vec<Cache>,
+) -> Result<()>
+    ensures ok { OnOk result (All (StandsIn setting [] []) caches.old.items
+        → All (StandsIn setting [] []) caches.new.items) }
+    ensures kind { IfErr result (λ e. e ≡ OutOfMemory) }
+{
+    for size in sizes {
+        caches.push(Cache::new(alloc, setting, policy, size.in_bytes(distinct))?)?;
     }
     Ok(())
 }

@@ -1,7 +1,7 @@
 //! A sample of the keys, which represents all: spatial sampling by the key's hash (Waldspurger,
 //! Park, Garthwaite, Ahmad, FAST 2015).
 ghost use Rattle.std.specs.Prelude.{◌≡◌, ◌+◌, ◌*◌, ◌/◌, ◌<◌, ◌≤◌, ◌↔◌, ◌⊎◌, None, IfSome, IsTrue};
-ghost use Rattle.cache_simulation.specs.Sampled.{IsInPart, expected, expected_bytes};
+ghost use Rattle.cache_simulation.specs.Sampled.{IsInPart, is_in_part, expected, expected_bytes};
 
 /// One, in millionths.
 pub const WHOLE: u64 = 1_000_000;
@@ -44,7 +44,8 @@ impl Sample {
 
     /// Whether a key with this hash is in the sample.
     pub fn has(&self, hash: u64) -> bool
-        ensures { IsTrue result ↔ IsInPart self.now.rate self.now.part hash }
+        ensures part { IsTrue result ↔ IsInPart self.now.rate self.now.part hash }
+        ensures test { result ≡ is_in_part self.now.rate self.now.part hash }
     {
         let place = hash % WHOLE;
         let from = self.rate * self.part;

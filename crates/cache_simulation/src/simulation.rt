@@ -1,26 +1,18 @@
 //! A trace from its first line to the report.
 
-use crate::counts::Counts;
-use crate::layout::{First, Layout, Refused};
-use crate::lines::Lines;
+use crate::layout::Refused;
 use crate::options::{Options, Policy};
-use crate::progress::{Progress, say_line};
-use crate::report::{draw, write_rows};
-use crate::run::Request;
-use crate::runs::Runs;
-use crate::trace::{Asked, BadLine};
-use pcache_base::key::{CompactCacheKey, HashBinary, hash_key};
-use pcache_base::moment::Moment;
-use pcache_base::text::Text;
-use pcache_evict::eviction::CacheEntryKey;
+use crate::player::{Player, front};
+use crate::progress::Progress;
+use crate::reader::Reader;
+use crate::report::{Row, draw, write_rows};
+use crate::trace::Asked;
+use pcache_base::key::hash_key;
 use std::alloc::Global;
 use std::collections::HashSet;
 use std::io::{BufWriter, Read, Write};
 use std::rt::{Clock, Files};
 use std::{fs, io};
-
-// How many requests are read before they are made to each cache in turn.
-const BATCH: usize = 1024;
 
 // After how many lines the progress is written.
 const LINES_BETWEEN: u64 = 1_000_000;
@@ -38,6 +30,8 @@ pub enum Stop {
     NoRequests,
     /// No key of the trace is in the sample.
     NoneSampled,
+    /// The trace has no more requests than are made before any is counted.
+    NoneCounted,
     /// Memory ran out.
     Memory,
     /// The trace cannot be read, or the report cannot be written.
@@ -55,24 +49,46 @@ pub fn simulate<C: Clock + Files, R: Read + Drop, W: Write + Drop, E: Write>(
     errors: &mut E,
 ) -> Result<(), Stop> {
     let distinct = distinct(rt, alloc, options, errors)?;
-    let Ok(mut runs) = Runs::new(alloc, options, distinct) else {
+    let Ok(mut player) = Player::new(alloc, options, distinct) else {
         return Err(Stop::Memory);
     };
+    let mut rows = Vec::new(alloc);
     let read = match &options.trace {
         Some(path) => {
             let progress = Progress::start(rt, length(rt, path.as_str()))?;
-            let lines = Lines::new(alloc, fs::open(rt, path.as_str()).map_err(Stop::Io)?)?;
-            read_trace(rt, alloc, options, &mut runs, lines, progress, errors)?
+            let file = fs::open(rt, path.as_str()).map_err(Stop::Io)?;
+            let reader = Reader::new(alloc, options, file)?;
+            read_trace(
+                rt,
+                options,
+                &mut player,
+                &mut rows,
+                reader,
+                progress,
+                errors,
+            )?
         }
         None => {
             let progress = Progress::start(rt, length(rt, "/dev/stdin"))?;
-            let lines = Lines::new(alloc, input)?;
-            read_trace(rt, alloc, options, &mut runs, lines, progress, errors)?
+            let reader = Reader::new(alloc, options, input)?;
+            read_trace(
+                rt,
+                options,
+                &mut player,
+                &mut rows,
+                reader,
+                progress,
+                errors,
+            )?
         }
     };
     read.check()?;
+    if player.until().is_ok_and(|lines| lines <= options.warmup) {
+        return Err(Stop::NoneCounted);
+    }
     read.warn(options, errors)?;
-    report(rt, alloc, options, &runs, read.all, output)?;
+    take_rows(&mut player, &mut rows)?;
+    report(rt, alloc, options, rows.as_slice(), output)?;
     match read.stopped {
         Some(lines) => Err(Stop::BadLines(lines)),
         None => Ok(()),
@@ -82,9 +98,9 @@ pub fn simulate<C: Clock + Files, R: Read + Drop, W: Write + Drop, E: Write>(
 // What was read of a trace.
 #[derive(Clone, Copy)]
 struct Taken {
-    // The requests and their bytes, and how many of them are in the sample.
-    all: Counts,
-    sampled: u64,
+    // Whether there was a request at all, and one of the sample.
+    is_some: bool,
+    is_sampled: bool,
     // The sizes of the smallest and the largest body.
     least: usize,
     largest: usize,
@@ -95,28 +111,27 @@ struct Taken {
 impl Taken {
     fn none() -> Taken {
         Taken {
-            all: Counts::none(),
-            sampled: 0,
+            is_some: false,
+            is_sampled: false,
             least: usize::MAX,
             largest: 0,
             stopped: None,
         }
     }
 
-    // Counts a request of this size.
-    fn note(&mut self, size: usize) {
-        if !self.all.is_full() {
-            self.all.note(size, false);
-        }
+    // Notes a request for a body of this size.
+    fn note(&mut self, size: usize, is_sampled: bool) {
+        self.is_some = true;
+        self.is_sampled = self.is_sampled || is_sampled;
         self.least = self.least.min(size);
         self.largest = self.largest.max(size);
     }
 
     fn check(&self) -> Result<(), Stop> {
-        if self.all.requests == 0 {
+        if !self.is_some {
             return Err(Stop::NoRequests);
         }
-        if self.sampled == 0 {
+        if !self.is_sampled {
             return Err(Stop::NoneSampled);
         }
         Ok(())
@@ -152,121 +167,85 @@ fn length<C: Files>(rt: &C, path: &str) -> Option<u64> {
 
 fn read_trace<C: Clock, R: Read + Drop, E: Write>(
     rt: &C,
-    alloc: Global,
     options: &Options,
-    runs: &mut Runs,
-    mut lines: Lines<R>,
+    player: &mut Player,
+    rows: &mut Vec<Row>,
+    mut reader: Reader<R>,
     mut progress: Progress,
     errors: &mut E,
 ) -> Result<Taken, Stop> {
-    let mut layout = Layout::new(options.columns);
     let mut taken = Taken::none();
-    let mut batch = Vec::new(alloc);
-    for number in 1..u64::MAX {
-        if !lines.advance()? {
+    for _ in 0..u64::MAX {
+        if !reader.advance(errors)? {
             break;
         }
-        progress.lines = number;
-        if number == 1 && is_header(&mut layout, &lines, errors)? {
-            continue;
-        }
-        match asked(layout, &lines) {
-            Ok(asked) => take(alloc, options, asked, &mut taken, &mut batch)?,
+        progress.lines = reader.number();
+        match reader.asked() {
+            Ok(Some(asked)) => {
+                take(options, player, asked, &mut taken)?;
+                count_anew(options, player, rows)?;
+            }
+            Ok(None) => progress.passed(),
             Err(why) => {
-                if progress.bad_line(why, lines.line(), options.bad_lines, errors)? {
-                    taken.stopped = Some(number);
+                if progress.bad_line(why, reader.line(), options.bad_lines, errors)? {
+                    taken.stopped = Some(progress.lines);
                     break;
                 }
             }
         }
-        if batch.len() >= BATCH {
-            play(runs, &mut batch)?;
-        }
-        if number % LINES_BETWEEN == 0 {
-            progress.say(rt, lines.bytes_read(), errors)?;
+        if progress.lines % LINES_BETWEEN == 0 {
+            progress.say(rt, reader.bytes_read(), errors)?;
         }
     }
-    play(runs, &mut batch)?;
     progress.say_bad(errors)?;
     Ok(taken)
 }
 
-fn play(runs: &mut Runs, batch: &mut Vec<Request>) -> Result<(), Stop> {
-    if runs.play(batch.as_slice()).is_err() {
-        return Err(Stop::Memory);
+// Hands a request to the caches.
+fn take(
+    options: &Options,
+    player: &mut Player,
+    asked: Asked<'_>,
+    taken: &mut Taken,
+) -> Result<(), Stop> {
+    let size = options.counted(asked.size);
+    match player.take(asked.key.as_bytes(), size, asked.second) {
+        Ok(is_sampled) => {
+            taken.note(size, is_sampled);
+            Ok(())
+        }
+        Err(_failed) => Err(Stop::Memory),
     }
-    batch.clear();
+}
+
+// Counts anew after the last request that is not counted, and after each interval, whose results it takes.
+fn count_anew(options: &Options, player: &mut Player, rows: &mut Vec<Row>) -> Result<(), Stop> {
+    let Ok(lines) = player.until() else {
+        return Err(Stop::Memory);
+    };
+    let ends = match (lines.checked_sub(options.warmup), options.interval) {
+        (Some(counted), Some(every)) => counted > 0 && counted.checked_rem(every) == Some(0),
+        _ => false,
+    };
+    if ends {
+        take_rows(player, rows)?;
+    }
+    if ends || lines == options.warmup {
+        player.mark().map_err(|_| Stop::Memory)?;
+    }
     Ok(())
 }
 
-// Whether the first line, which was just read, is a header. It is shown if its names are not used.
-fn is_header<R: Read + Drop, E: Write>(
-    layout: &mut Layout,
-    lines: &Lines<R>,
-    errors: &mut E,
-) -> Result<bool, Stop> {
-    match layout.first(lines.line()) {
-        Ok(First::Line) => Ok(false),
-        Ok(First::Header) => Ok(true),
-        Ok(First::Passed) => {
-            say_line(
-                1,
-                "a header, in place of which --columns stands",
-                lines.line(),
-                errors,
-            )?;
-            Ok(true)
-        }
-        Err(refused) => {
-            if !matches!(refused, Refused::Packed(_)) {
-                say_line(1, "a header", lines.line(), errors)?;
-            }
-            Err(Stop::First(refused))
-        }
-    }
-}
-
-// The request of the line that was read last.
-fn asked<'a, R: Read + Drop>(layout: Layout, lines: &'a Lines<R>) -> Result<Asked<'a>, BadLine> {
-    if lines.is_too_long() {
-        return Err(BadLine::TooLong);
-    }
-    layout.read(lines.line())
-}
-
-// Whether the key of this hash is in the sample.
-fn is_sampled(options: &Options, primary: HashBinary) -> bool {
-    let [a, b, c, d, e, f, g, h, ..] = primary;
-    options
-        .sample
-        .has(u64::from_be_bytes([a, b, c, d, e, f, g, h]))
-}
-
-// Counts a request, and adds it to the batch if its key is in the sample.
-fn take(
-    alloc: Global,
-    options: &Options,
-    asked: Asked<'_>,
-    taken: &mut Taken,
-    batch: &mut Vec<Request>,
-) -> Result<(), Stop> {
-    taken.note(asked.size);
-    let primary = hash_key(asked.key.as_bytes());
-    if !is_sampled(options, primary) {
+// Takes the results since the caches began to count, if there are any or none before.
+fn take_rows(player: &mut Player, rows: &mut Vec<Row>) -> Result<(), Stop> {
+    if player.counts().requests == 0 && !rows.is_empty() {
         return Ok(());
     }
-    taken.sampled = taken.sampled.saturating_add(1);
-    let item = CacheEntryKey::key_only(CompactCacheKey {
-        primary,
-        variance: None,
-        user_tag: Text::new(String::new(alloc)),
-    });
-    let request = Request {
-        item,
-        size: asked.size,
-        time: Moment::from_secs(asked.second),
+    let Ok(taken) = player.rows() else {
+        return Err(Stop::Memory);
     };
-    batch.push(request).map_err(|_| Stop::Memory)
+    rows.extend_from_slice(taken.as_slice())
+        .map_err(|_| Stop::Memory)
 }
 
 // The total bytes of all bodies of the trace, each counted once, if a size is a share of them. They are given, or the
@@ -287,39 +266,35 @@ fn distinct<C: Files, E: Write>(
         return Err(Stop::NoDistinct);
     };
     let file = fs::open(rt, path.as_str()).map_err(Stop::Io)?;
-    let sampled = distinct_of(alloc, options, Lines::new(alloc, file)?, errors)?;
-    Ok(options.sample.whole(sampled))
+    let sampled = distinct_of(alloc, options, Reader::new(alloc, options, file)?, errors)?;
+    Ok(options.setting.sample.whole(sampled))
 }
 
 // The total bytes of the bodies of the sample's keys, each counted once with its first size.
 fn distinct_of<R: Read + Drop, E: Write>(
     alloc: Global,
     options: &Options,
-    mut lines: Lines<R>,
+    mut reader: Reader<R>,
     errors: &mut E,
 ) -> Result<u64, Stop> {
-    let mut layout = Layout::new(options.columns);
     let mut keys = HashSet::new(alloc);
     let mut bytes = 0u64;
-    for number in 1..u64::MAX {
-        if !lines.advance()? {
+    for _ in 0..u64::MAX {
+        if !reader.advance(errors)? {
             break;
         }
-        if number == 1 && is_header(&mut layout, &lines, errors)? {
-            continue;
-        }
-        let Ok(asked) = asked(layout, &lines) else {
+        let Ok(Some(asked)) = reader.asked() else {
             continue;
         };
         let primary = hash_key(asked.key.as_bytes());
-        if !is_sampled(options, primary) {
+        if !options.setting.sample.has(front(primary)) {
             continue;
         }
         if keys
             .insert(u128::from_be_bytes(primary))
             .map_err(|_| Stop::Memory)?
         {
-            bytes = bytes.saturating_add(asked.size as u64);
+            bytes = bytes.saturating_add(options.counted(asked.size) as u64);
         }
     }
     Ok(bytes)
@@ -329,19 +304,15 @@ fn report<C: Files, W: Write + Drop>(
     rt: &C,
     alloc: Global,
     options: &Options,
-    runs: &Runs,
-    all: Counts,
+    rows: &[Row],
     output: W,
 ) -> Result<(), Stop> {
-    let Ok(rows) = runs.rows(all) else {
-        return Err(Stop::Memory);
-    };
     let mut writer = BufWriter::new(alloc, output).map_err(Stop::Io)?;
-    write_rows(&mut writer, options.output, rows.as_slice()).map_err(Stop::Io)?;
+    write_rows(&mut writer, options.output, rows).map_err(Stop::Io)?;
     writer.flush().map_err(Stop::Io)?;
     if let Some(path) = &options.plot {
         let mut drawing = Vec::new(alloc);
-        draw(&mut drawing, rows.as_slice(), options.sizes.len()).map_err(Stop::Io)?;
+        draw(&mut drawing, rows, options.sizes.len()).map_err(Stop::Io)?;
         fs::write(rt, path.as_str(), drawing.as_slice()).map_err(Stop::Io)?;
     }
     Ok(())

@@ -13,6 +13,33 @@ pub struct Asked<'a> {
     pub second: u64,
 }
 
+/// How a trace is written.
+#[derive(Clone, Copy, Debug, PartialEq, Eq)]
+pub enum TraceType {
+    /// Lines with commas have columns; another line is a key and a size.
+    Csv,
+    /// Lines of a second, a key and a size, with spaces, as traces of CDNs have them.
+    Cdn,
+    /// The lines of Twitter's traces: a second, a key, its size, that of the value, a client, an operation and a
+    /// time to live, with commas.
+    Twitter,
+    /// The records of libCacheSim's `oracleGeneral`, each of 24 bytes.
+    OracleGeneral,
+}
+
+impl TraceType {
+    /// The one of this name.
+    pub fn named(name: &str) -> Option<TraceType> {
+        match name {
+            "csv" => Some(TraceType::Csv),
+            "cdn" => Some(TraceType::Cdn),
+            "twitter" => Some(TraceType::Twitter),
+            "oracleGeneral" => Some(TraceType::OracleGeneral),
+            _ => None,
+        }
+    }
+}
+
 /// In which column of a line with commas each value is, counted from 0.
 #[derive(Clone, Copy, Debug, PartialEq, Eq)]
 pub struct Columns {
@@ -74,6 +101,10 @@ pub enum BadLine {
     Time,
     /// It has no commas, and more words than a key and a size.
     Words,
+    /// It has not the seven fields of Twitter's traces.
+    Fields,
+    /// It is the last record, and shorter than one is.
+    Cut,
 }
 
 impl BadLine {
@@ -87,6 +118,8 @@ impl BadLine {
             BadLine::Size => "its size is no number of bytes",
             BadLine::Time => "its time is no number of seconds",
             BadLine::Words => "it has no commas, and more words than a key and a size",
+            BadLine::Fields => "it has not the seven fields of Twitter's traces",
+            BadLine::Cut => "it is shorter than a record of 24 bytes",
         }
     }
 }
@@ -134,6 +167,80 @@ fn read_columns(line: &str, columns: Columns) -> Result<Asked<'_>, BadLine> {
         key: key.ok_or(BadLine::NoKey)?,
         size: size_of(size)?,
         second: second_of(columns, time)?,
+    })
+}
+
+/// Reads a line of a second, a key and a size, with spaces. What else it has is passed over.
+pub fn read_cdn(line: &str) -> Result<Asked<'_>, BadLine> {
+    let mut words = line.split_ascii_whitespace();
+    let second = words.next().and_then(seconds).ok_or(BadLine::Time)?;
+    let key = words.next().ok_or(BadLine::NoKey)?;
+    Ok(Asked {
+        key,
+        size: size_of(words.next())?,
+        second,
+    })
+}
+
+/// Reads a line of Twitter's traces: a request of the sizes of key and value together, and nothing if it is
+/// another operation than `get` or `gets`.
+pub fn read_twitter(line: &str) -> Result<Option<Asked<'_>>, BadLine> {
+    let mut fields = line.split(',');
+    let second = seconds(fields.next().unwrap_or("").trim()).ok_or(BadLine::Time)?;
+    let key = fields.next().unwrap_or("").trim();
+    if key.is_empty() {
+        return Err(BadLine::NoKey);
+    }
+    let key_size = size_of(fields.next())?;
+    let size = size_of(fields.next())?
+        .checked_add(key_size)
+        .ok_or(BadLine::Size)?;
+    let _client = fields.next().ok_or(BadLine::Fields)?;
+    let operation = fields.next().ok_or(BadLine::Fields)?.trim();
+    if fields.next().is_none() || fields.next().is_some() {
+        return Err(BadLine::Fields);
+    }
+    if operation != "get" && operation != "gets" {
+        return Ok(None);
+    }
+    Ok(Some(Asked { key, size, second }))
+}
+
+/// How many bytes a record of `oracleGeneral` has.
+pub const RECORD: usize = 24;
+
+/// A record of `oracleGeneral`.
+#[derive(Clone, Copy, Debug, PartialEq, Eq)]
+pub struct Record {
+    /// The second of the request.
+    pub second: u32,
+    /// The number of the body.
+    pub id: u64,
+    /// Its size, in bytes.
+    pub size: u32,
+    /// The number of the next request for it, and -1 if there is none.
+    pub next: i64,
+}
+
+/// Reads a record, whose numbers have their lowest bytes first.
+pub fn read_record(bytes: &[u8]) -> Result<Record, BadLine> {
+    let [a, b, c, d, rest @ ..] = bytes else {
+        return Err(BadLine::Cut);
+    };
+    let [e, f, g, h, i, j, k, l, rest @ ..] = rest else {
+        return Err(BadLine::Cut);
+    };
+    let [m, n, o, p, rest @ ..] = rest else {
+        return Err(BadLine::Cut);
+    };
+    let [q, r, s, t, u, v, w, x] = rest else {
+        return Err(BadLine::Cut);
+    };
+    Ok(Record {
+        second: u32::from_le_bytes([*a, *b, *c, *d]),
+        id: u64::from_le_bytes([*e, *f, *g, *h, *i, *j, *k, *l]),
+        size: u32::from_le_bytes([*m, *n, *o, *p]),
+        next: i64::from_le_bytes([*q, *r, *s, *t, *u, *v, *w, *x]),
     })
 }
 

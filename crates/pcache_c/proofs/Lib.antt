@@ -1,6 +1,5 @@
 pub mod Changed
 pub mod Copies
-pub mod Decisions
 pub mod Given
 pub mod ObjectSteps
 pub mod LooseValues
@@ -8,3 +7,5 @@ pub mod MetaBytes
 pub mod Numbered
 pub mod Outcomes
 pub mod Places
+pub mod Storable
+pub mod Told

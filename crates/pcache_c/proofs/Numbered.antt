@@ -37,6 +37,7 @@ opened_then (Some o) n s b k l D E f bad h = (h.0, h.1, h.2, h.3, f s.cache h.0.
 pub numbered_then : (n : ℕ) (a b : Object) (k l : ℕ) (D E : Does) → ((c d : Parts) (o p : Open) → D c d o p → E c d o p) → (k ≡ bad_handle → l ≡ bad_handle) → (k ≡ wrong_kind → l ≡ wrong_kind) → OnNumber n a b k D → OnNumber n a b l E
 numbered_then n (object.Cache s) b k l D E f bad kind h = opened_then (request_at s.seats n) n s b k l D E f bad h
 numbered_then n (object.Variance v) b k l D E f bad kind h = (kind h.0, h.1)
+numbered_then n (object.Asked v) b k l D E f bad kind h = (kind h.0, h.1)
 numbered_then n (object.Head v) b k l D E f bad kind h = (kind h.0, h.1)
 numbered_then n (object.Control v) b k l D E f bad kind h = (kind h.0, h.1)
 numbered_then n (object.Meta v) b k l D E f bad kind h = (kind h.0, h.1)

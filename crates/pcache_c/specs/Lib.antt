@@ -1,5 +1,6 @@
 pub mod Caches
 pub mod Codes
+pub mod Decisions
 pub mod Handle
 pub mod Handles
 pub mod Managers
@@ -9,4 +10,5 @@ pub mod Opening
 pub mod Reached
 pub mod Requests
 pub mod Seats
+pub mod Taken
 pub mod Values

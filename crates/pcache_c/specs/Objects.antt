@@ -3,6 +3,7 @@ use Rattle.std.specs.Prelude.{Option, None, Some}
 use Rattle.pcache_base.specs.Variance.{Varied}
 use Rattle.pcache_control.specs.declared.cache_control.CacheControl.{CacheControl}
 use Rattle.pcache_meta.specs.Meta.{Meta}
+use Rattle.pcache_meta.specs.declared.header.RequestHeader.{RequestHeader}
 use Rattle.pcache_meta.specs.declared.header.ResponseHeader.{ResponseHeader}
 use Rattle.pcache_c.specs.declared.object.Object.{Object}
 use Rattle.pcache_c.specs.declared.object.Object.TheVariants as object
@@ -11,6 +12,10 @@ use Rattle.pcache_c.specs.declared.served.Served.{Served}
 abbrev pub as_variance : Object → Option Varied
 as_variance (object.Variance v) = Some v
 as_variance _ = None
+
+abbrev pub as_asked : Object → Option RequestHeader
+as_asked (object.Asked r) = Some r
+as_asked _ = None
 
 abbrev pub as_head : Object → Option ResponseHeader
 as_head (object.Head h) = Some h

@@ -4,8 +4,8 @@ use Rattle.std.specs.FinMap.{empty, insert, len}
 use Rattle.std.specs.Int.{from_bool}
 use Rattle.http.specs.StatusCode.{IsStatusCode}
 use Rattle.http_header.specs.FieldName.{IsFieldName}
-use Rattle.http_header.specs.FieldValue.{IsFieldValue, plain_value}
-use Rattle.http_header.specs.HeaderMap.{append}
+use Rattle.http_header.specs.FieldValue.{FieldValue, IsFieldValue, plain_value}
+use Rattle.http_header.specs.HeaderMap.{Entries, append}
 use Rattle.http_header.specs.Token.{lowercase}
 use Rattle.pcache_base.specs.Blake2b.{blake2b_128}
 use Rattle.pcache_base.specs.Key.{combined_of}
@@ -78,13 +78,17 @@ pub record MakesHead (status : ℕ) (old new : PcacheHandle) (code : ℕ) : Type
   pub bad : (¬ IsStatusCode status) → (code ≡ bad_value) × IsSame old new
   pub good : IsStatusCode status → Fills (new_head status) old new code
 
--- a field is added beside those of the same name; without room or memory, and for a name or value that is none, nothing changes
-pub record AddsField (name value : List ℕ) (old new : ResponseHeader) (code : ℕ) : Type 0 where
-  pub done : code ≡ ok → new ≡ record old { headers = append old.headers (lowercase name) (plain_value value) }
+-- a line is added beside those of the same name; without room or memory, and for a name or value that is none, nothing changes
+pub record AddsLine (name value : List ℕ) (old new : Entries FieldValue) (code : ℕ) : Type 0 where
+  pub done : code ≡ ok → new ≡ append old (lowercase name) (plain_value value)
   pub may : code ≡ ok → IsFieldName name × IsFieldValue value
   pub name_is : (¬ IsFieldName name) → code ≡ bad_value
   pub bad : code ≡ bad_value → ¬ (IsFieldName name × IsFieldValue value)
   pub how : (code ≡ ok) ⊎ (((code ≡ bad_value) ⊎ (code ≡ no_memory)) × (new ≡ old))
+
+-- the head of a response with a line more
+abbrev pub AddsField : List ℕ → List ℕ → ResponseHeader → ResponseHeader → ℕ → Type 0
+AddsField name value old new code = (new ≡ record old { headers = new.headers }) × AddsLine name value old.headers new.headers code
 
 -- what a head's Cache-Control says, if it has one
 abbrev pub IsControlOf : ResponseHeader → Option CacheControl → Type 0

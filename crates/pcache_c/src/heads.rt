@@ -7,14 +7,14 @@ ghost use Rattle.pcache_control.specs.Responses.{IsDecision};
 ghost use Rattle.pcache_c.specs.Codes.{OnGood, is_flag, moment_at};
 ghost use Rattle.pcache_c.specs.Handles.{AsksOf, ChangesOf, IsSame, OnKind, Turns};
 ghost use Rattle.pcache_c.specs.Objects.{as_control, as_head};
-ghost use Rattle.pcache_c.specs.Values.{AddsField, Decides, IsSeconds, MakesHead, ReadsControl, SaysControl};
+ghost use Rattle.pcache_c.specs.Values.{AddsField, AddsLine, Decides, IsSeconds, MakesHead, ReadsControl, SaysControl};
 
 use crate::codes::{BAD_HANDLE, BAD_VALUE, NO_MEMORY, NONE, OK, WRONG_KIND, code_of};
 use crate::handle::PcacheHandle;
 use crate::metas::moment_of;
 use crate::object::Object;
 use http::StatusCode;
-use http_header::{HeaderName, HeaderNameError, HeaderValue, HeaderValueError};
+use http_header::{HeaderMap, HeaderName, HeaderNameError, HeaderValue, HeaderValueError};
 use pcache_base::moment::Moment;
 use pcache_control::cache_control::{CacheControl, Cacheable};
 use pcache_control::defaults::{CacheMetaDefaults, FreshDurationByStatusFn};
@@ -36,8 +36,9 @@ pub extern "C" fn pcache_head_new(alloc: Global, handle: &mut PcacheHandle, stat
     }
 }
 
-fn add_field(alloc: Global, head: &mut ResponseHeader, name: &[u8], value: &[u8]) -> u32
-    ensures { AddsField name.now value.now head.old head.new result }
+/// Adds a line to the fields of a head, beside those of the same name.
+pub(crate) fn add_line(alloc: Global, headers: &mut HeaderMap, name: &[u8], value: &[u8]) -> u32
+    ensures { AddsLine name.now value.now headers.old headers.new result }
 {
     let name = match HeaderName::from_bytes(alloc, name) {
         Ok(name) => name,
@@ -49,10 +50,16 @@ fn add_field(alloc: Global, head: &mut ResponseHeader, name: &[u8], value: &[u8]
         Err(HeaderValueError::Invalid) => return BAD_VALUE,
         Err(_) => return NO_MEMORY,
     };
-    match head.headers.append(name, value) {
+    match headers.append(name, value) {
         Ok(_) => OK,
         Err(_) => NO_MEMORY,
     }
+}
+
+fn add_field(alloc: Global, head: &mut ResponseHeader, name: &[u8], value: &[u8]) -> u32
+    ensures { AddsField name.now value.now head.old head.new result }
+{
+    add_line(alloc, &mut head.headers, name, value)
 }
 
 fn add(alloc: Global, object: &mut Object, name: &[u8], value: &[u8]) -> u32

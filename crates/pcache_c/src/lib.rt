@@ -9,15 +9,21 @@
 //! - `hashes`: the hashes of keys, and variances
 //! - `heads`: heads of responses, and what Cache-Control says of them
 //! - `metas`: metas of stored responses, and their bytes
+//! - `asked`: heads of requests
+//! - `decisions`: what HTTP's rules decide of a request and of a response; `decided`: how it is told
+//! - `taken`: which URIs a response to an unsafe method takes away
 //! - `entries`: the keys of entries of eviction managers
 //! - `managers`: the eviction managers
 //! - `caches`: a cache, and its requests opened and ended; `calls`: what its requests do
 //! - `seats`: the numbers of open requests; `served`: a cache with its requests as one object
 //! - `reached`: the way from a number to its request; `requests`: the calls themselves
 
+mod asked;
 mod caches;
 mod calls;
 mod codes;
+mod decided;
+mod decisions;
 mod entries;
 mod handle;
 mod hashes;
@@ -30,3 +36,4 @@ mod reached;
 mod requests;
 mod seats;
 mod served;
+mod taken;

@@ -236,8 +236,8 @@ pub extern "C" fn pcache_meta_servable(
     code
 }
 
-// Writes two byte strings to two buffers, if both have room.
-fn write_both(first: &[u8], second: &[u8], internal: &mut [u8], header: &mut [u8]) -> u32
+/// Writes two byte strings to two buffers, if both have room.
+pub(crate) fn write_both(first: &[u8], second: &[u8], internal: &mut [u8], header: &mut [u8]) -> u32
     ensures { AreWritten first.now second.now internal.old internal.new header.old header.new
         result }
 {

@@ -6,7 +6,7 @@ use bytes::Bytes;
 use pcache_base::variance::VarianceBuilder;
 use pcache_control::cache_control::CacheControl;
 use pcache_evict::eviction::{sharded_lru, simple_lru};
-use pcache_meta::header::ResponseHeader;
+use pcache_meta::header::{RequestHeader, ResponseHeader};
 use pcache_meta::meta::CacheMeta;
 
 /// The object of a handle.
@@ -14,6 +14,8 @@ use pcache_meta::meta::CacheMeta;
 pub enum Object {
     /// A variance in progress.
     Variance(VarianceBuilder<'static>),
+    /// The head of a request.
+    Asked(RequestHeader),
     /// The head of a response.
     Head(ResponseHeader),
     /// What Cache-Control says.

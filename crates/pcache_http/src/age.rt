@@ -7,7 +7,7 @@ ghost use Rattle.pcache_http.specs.Age.{second, age_value, apparent_age, correct
 use crate::lifetime::date_value;
 use crate::lists::Members;
 use crate::seconds::delta_seconds;
-use http_header::HeaderMap;
+use http_header::{AGE, HeaderMap};
 use pcache_base::moment::Moment;
 
 const SECOND: u128 = 1_000_000_000;
@@ -17,7 +17,7 @@ const SECOND: u128 = 1_000_000_000;
 pub fn age_value(headers: &HeaderMap) -> u32
     ensures { result ≡ age_value headers.now }
 {
-    let Some(member) = Members::of(&headers.get_all("age")).next() else {
+    let Some(member) = Members::of(&headers.get_all(&AGE)).next() else {
         return 0;
     };
     delta_seconds(member).unwrap_or(0)

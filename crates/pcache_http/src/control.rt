@@ -10,7 +10,7 @@ ghost use Rattle.pcache_http.specs.Control.{with_fields, reach_of, response_cont
 
 use crate::said::{Listens, hear_lines, is_called};
 use crate::seconds::{Amount, Number, amount_of};
-use http_header::HeaderMap;
+use http_header::{CACHE_CONTROL, HeaderMap, PRAGMA};
 
 /// For what a directive holds that may list fields.
 #[derive(Clone, Copy, Debug, PartialEq, Eq)]
@@ -187,7 +187,7 @@ impl ResponseControl {
         ensures { SaysOfResponse headers.now result }
     {
         let mut control = ResponseControl::silent();
-        hear_lines(&mut control, headers.get_all("cache-control"));
+        hear_lines(&mut control, headers.get_all(&CACHE_CONTROL));
         control
     }
 }
@@ -256,7 +256,7 @@ impl RequestControl {
         ensures { IsMeaning request_control (lines_at headers.now (codes "cache-control")) result }
     {
         let mut control = RequestControl::silent(false);
-        hear_lines(&mut control, headers.get_all("cache-control"));
+        hear_lines(&mut control, headers.get_all(&CACHE_CONTROL));
         control
     }
 
@@ -265,7 +265,7 @@ impl RequestControl {
         ensures { IsMeaning pragma_control (lines_at headers.now (codes "pragma")) result }
     {
         let mut pragma = Pragma { no_cache: false };
-        hear_lines(&mut pragma, headers.get_all("pragma"));
+        hear_lines(&mut pragma, headers.get_all(&PRAGMA));
         RequestControl::silent(pragma.no_cache)
     }
 
@@ -274,7 +274,7 @@ impl RequestControl {
     pub fn of(headers: &HeaderMap) -> RequestControl
         ensures { SaysOfRequest headers.now result }
     {
-        if headers.contains_key("cache-control") {
+        if headers.contains_key(&CACHE_CONTROL) {
             RequestControl::of_cache_control(headers)
         } else {
             RequestControl::of_pragma(headers)

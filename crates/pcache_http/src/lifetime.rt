@@ -3,7 +3,6 @@
 ghost use Rattle.std.specs.Prelude.{◌≡◌, ◌/◌, ◌<◌, ◌^◌, ℕ, IfSome, codes, ◌-◌, ◌≤◌};
 ghost use Rattle.std.specs.Option.{option_copied};
 ghost use Rattle.http_header.specs.HeaderMap.{get, get_all};
-ghost use Rattle.http_header.specs.Token.{lowercase};
 ghost use Rattle.pcache_http.specs.Age.{second};
 ghost use Rattle.pcache_http.specs.Seconds.{counted};
 ghost use Rattle.pcache_http.specs.Lifetime.{date_shown, date_in, date_value, amount_until, expiry_of, or_else, explicit_lifetime, allows_heuristics, tenth_since, heuristic_lifetime, lifetime_of, lifetime_seconds};
@@ -13,7 +12,7 @@ use crate::lists::trim_ows;
 use crate::rules::{Heuristic, Rules};
 use crate::seconds::{Amount, Number};
 use crate::storing::{is_heuristically_cacheable, is_shared};
-use http_header::{HeaderMap, HeaderValue};
+use http_header::{DATE, EXPIRES, HeaderMap, HeaderName, HeaderValue, LAST_MODIFIED};
 use httpdate::HttpDate;
 use pcache_base::moment::Moment;
 use pcache_meta::header::ResponseHeader;
@@ -55,8 +54,8 @@ fn date_shown(value: &HeaderValue) -> Option<u64>
     }
 }
 
-fn date_in(headers: &HeaderMap, name: &str) -> Option<u64>
-    ensures { result ≡ date_in (get headers.now (lowercase name.now)) }
+fn date_in(headers: &HeaderMap, name: &HeaderName) -> Option<u64>
+    ensures { result ≡ date_in (get headers.now name.now) }
 {
     date_shown(headers.get(name)?)
 }
@@ -67,7 +66,7 @@ fn date_in(headers: &HeaderMap, name: &str) -> Option<u64>
 pub fn date_value(headers: &HeaderMap, received: Moment) -> u64
     ensures { result ≡ date_value headers.now (received / second) }
 {
-    date_in(headers, "date").unwrap_or(received.secs())
+    date_in(headers, &DATE).unwrap_or(received.secs())
 }
 
 // The time from a date to an Expires.
@@ -84,7 +83,7 @@ fn expiry(date: u64, value: &HeaderValue) -> Amount
 fn expiries(date: u64, headers: &HeaderMap) -> Number
     ensures { result ≡ counted (expiry_of date) (get_all headers.now (codes "expires")) }
 {
-    let mut values = headers.get_all("expires").iter();
+    let mut values = headers.get_all(&EXPIRES).iter();
     let Some(first) = values.next() else {
         return Number::Absent;
     };
@@ -140,7 +139,7 @@ fn heuristic_lifetime(
     if !allows_heuristics(said, response) {
         return None;
     }
-    let modified = date_in(&response.headers, "last-modified")?;
+    let modified = date_in(&response.headers, &LAST_MODIFIED)?;
     Some((date.saturating_sub(modified) / 10).min(u64::from(most)) as u32)
 }
 

@@ -4,7 +4,7 @@ ghost use Rattle.std.specs.Prelude.{◌≡◌, ◌↔◌, IsTrue, codes};
 ghost use Rattle.pcache_http.specs.Vary.{IsMatched, IsAnswered, Selects};
 
 use crate::lists::{Members, same_members};
-use http_header::HeaderMap;
+use http_header::{HeaderMap, VARY};
 
 // Whether the fields of a name match.
 fn is_matched(first: &HeaderMap, second: &HeaderMap, name: &[u8]) -> bool
@@ -28,7 +28,7 @@ fn is_answered(original: &HeaderMap, presented: &HeaderMap, name: &[u8]) -> bool
 pub fn selects(stored: &HeaderMap, original: &HeaderMap, presented: &HeaderMap) -> bool
     ensures { IsTrue result ↔ Selects stored.now original.now presented.now }
 {
-    'names: for name in Members::of(&stored.get_all("vary")) {
+    'names: for name in Members::of(&stored.get_all(&VARY)) {
         if !is_answered(original, presented, name) {
             return false;
         }

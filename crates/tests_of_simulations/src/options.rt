@@ -15,7 +15,13 @@ const USUAL: Words<'static> = Words {
     trace: None,
     distinct: None,
     ttl: None,
+    expired: "use",
     large: "pass",
+    watermark: None,
+    ignores_size: false,
+    warmup: "0",
+    interval: None,
+    trace_type: None,
     columns: None,
     sample: "1",
     part: "0",
@@ -41,7 +47,13 @@ fn give(words: &mut Words<'static>, name: &str, value: &'static str) {
         "trace" => words.trace = Some(value),
         "distinct" => words.distinct = Some(value),
         "ttl" => words.ttl = Some(value),
+        "expired" => words.expired = value,
         "large" => words.large = value,
+        "watermark" => words.watermark = Some(value),
+        "ignore-size" => words.ignores_size = true,
+        "warmup" => words.warmup = value,
+        "interval" => words.interval = Some(value),
+        "trace-type" => words.trace_type = Some(value),
         "columns" => words.columns = Some(value),
         "sample" => words.sample = value,
         "part" => words.part = value,
@@ -67,11 +79,17 @@ fn tell_option(options: &Options, name: &str, told: &mut Told) {
         "size" => tell_sizes(options, told),
         "trace" => told.named(&options.trace),
         "distinct" => told.named(&options.distinct),
-        "ttl" => told.named(&options.ttl),
-        "large" => told.named(&options.passes_by),
+        "ttl" => told.named(&options.setting.ttl),
+        "expired" => told.named(&options.setting.replaces),
+        "large" => told.named(&options.setting.passes_by),
+        "watermark" => told.named(&options.setting.watermark),
+        "ignore-size" => told.shown(&options.counted(7)),
+        "warmup" => told.number(options.warmup),
+        "interval" => told.named(&options.interval),
+        "trace-type" => told.named(&options.trace_type),
         "columns" => told.named(&options.columns),
-        "sample" => told.number(options.sample.rate),
-        "part" => told.number(options.sample.part),
+        "sample" => told.number(options.setting.sample.rate),
+        "part" => told.number(options.setting.sample.part),
         "format" => told.named(&options.output),
         "plot" => told.named(&options.plot),
         _ => told.named(&options.bad_lines),
@@ -96,9 +114,23 @@ const READ: &str = "
     distinct 3KB -> Some(3000)
     ttl 60 -> Some(60)
     ttl 1h -> --ttl cannot be \"1h\"; it is a whole number below 2^64
+    expired use -> false
+    expired replace -> true
+    expired drop -> --expired cannot be \"drop\"; it is use or replace
     large pass -> true
     large evict -> false
     large drop -> --large cannot be \"drop\"; it is pass or evict
+    watermark 5 -> Some(5)
+    watermark -1 -> --watermark cannot be \"-1\"; it is a whole number below 2^64
+    ignore-size -> 1
+    warmup 1000 -> 1000
+    warmup x -> --warmup cannot be \"x\"; it is a whole number below 2^64
+    interval 100 -> Some(100)
+    interval 0 -> --interval cannot be \"0\"; it is a whole number from 1 and below 2^64, without --plot, which draws the whole trace
+    interval 100; plot a.svg -> --interval cannot be \"100\"; it is a whole number from 1 and below 2^64, without --plot, which draws the whole trace
+    trace-type cdn -> Some(Cdn)
+    trace-type oracleGeneral -> Some(OracleGeneral)
+    trace-type lcs -> --trace-type cannot be \"lcs\"; it is csv, cdn, twitter or oracleGeneral
     columns key,node,size -> Some(Columns { time: None, key: 0, size: 2 })
     columns time,key -> --columns cannot be \"time,key\"; it is names with commas, with key and size among them once and time at most once
     sample 0.25 -> 250000

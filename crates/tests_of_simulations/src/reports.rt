@@ -1,6 +1,7 @@
 //! What is written at the end of a simulation.
+use cache_simulation::cache::Told;
 use cache_simulation::counts::Counts;
-use cache_simulation::options::Output;
+use cache_simulation::options::{Output, Policy, Setting};
 use cache_simulation::report::{Row, draw, write_rows};
 use cache_simulation::sample::Sample;
 use std::alloc::Global;
@@ -18,16 +19,25 @@ fn row() -> Row {
         counts.note(4, false);
     }
     Row {
-        policy: "sieve",
         size: 5,
-        counts,
-        evicted: 1,
-        tracked: 4,
+        told: Told {
+            policy: Policy::Sieve,
+            counts,
+            evicted: 1,
+            tracked: 4,
+        },
+        from: 0,
+        until: 3,
         expected: 3,
         expected_bytes: 12,
-        sample: Sample::ALL,
-        ttl: None,
-        passes_by: true,
+        setting: Setting {
+            sample: Sample::ALL,
+            ttl: None,
+            replaces: false,
+            passes_by: true,
+            ignores_size: false,
+            watermark: None,
+        },
     }
 }
 
@@ -37,9 +47,12 @@ fn of_sample(sample: Sample) -> Row {
     let mut row = row();
     row.expected = 4;
     row.expected_bytes = 16;
-    row.sample = sample;
-    row.ttl = Some(60);
-    row.passes_by = false;
+    row.setting.sample = sample;
+    row.setting.ttl = Some(60);
+    row.setting.replaces = true;
+    row.setting.ignores_size = true;
+    row.setting.watermark = Some(7);
+    row.setting.passes_by = false;
     row
 }
 
@@ -49,8 +62,8 @@ fn is_written(alloc: Global, row: Row, output: Output, wanted: &str) -> bool {
 }
 
 const CSV: &str = "policy,size,requests,hits,bytes,hit_bytes,evicted,tracked,\
-    expected_requests,corrected_hits,expected_bytes,corrected_hit_bytes,sample,part,ttl,large\n\
-    sieve,5,3,1,12,4,1,4,3,1,12,4,1.000000,0,,pass\n";
+    expected_requests,corrected_hits,expected_bytes,corrected_hit_bytes,sample,part,ttl,large,expired,ignore_size,watermark,from,until\n\
+    sieve,5,3,1,12,4,1,4,3,1,12,4,1.000000,0,,pass,use,false,,0,3\n";
 
 const TABLE: &str =
     "sieve of 5 bytes: 3 requests, 1 hits (33.33%), 33.33% of the bytes, 1 evicted, 4 bytes tracked\n";
@@ -58,7 +71,7 @@ const TABLE: &str =
 const JSON: &str =
     "{\"policy\":\"sieve\",\"size\":5,\"requests\":3,\"hits\":1,\"bytes\":12,\"hit_bytes\":4,\
     \"evicted\":1,\"tracked\":4,\"expected_requests\":3,\"corrected_hits\":1,\"expected_bytes\":12,\
-    \"corrected_hit_bytes\":4,\"sample\":1.000000,\"part\":0,\"ttl\":null,\"large\":\"pass\"}\n";
+    \"corrected_hit_bytes\":4,\"sample\":1.000000,\"part\":0,\"ttl\":null,\"large\":\"pass\",\"expired\":\"use\",\"ignore_size\":false,\"watermark\":null,\"from\":0,\"until\":3}\n";
 
 #[test]
 fn rows_are_written(rt: HostRuntime) {
@@ -68,8 +81,8 @@ fn rows_are_written(rt: HostRuntime) {
 }
 
 const SAMPLED_CSV: &str = "policy,size,requests,hits,bytes,hit_bytes,evicted,tracked,\
-    expected_requests,corrected_hits,expected_bytes,corrected_hit_bytes,sample,part,ttl,large\n\
-    sieve,5,3,1,12,4,1,4,4,2,16,8,0.250000,3,60,evict\n";
+    expected_requests,corrected_hits,expected_bytes,corrected_hit_bytes,sample,part,ttl,large,expired,ignore_size,watermark,from,until\n\
+    sieve,5,3,1,12,4,1,4,4,2,16,8,0.250000,3,60,evict,replace,true,7,0,3\n";
 
 const SAMPLED_TABLE: &str =
     "sieve of 5 bytes: 3 requests read and 4 to be expected, 1 hits and 2 corrected (50.00%), 50.00% of the bytes, \
@@ -93,9 +106,9 @@ fn a_sample_is_corrected(rt: HostRuntime) {
 // Fewer requests to be expected than read, by one and by more than the hits.
 #[test]
 fn a_correction_ends_at_no_hits(rt: HostRuntime) {
-    assert!(rt; row().counts.corrected_hits(2) == 0);
-    assert!(rt; row().counts.corrected_hits(1) == 0);
-    assert!(rt; row().counts.corrected_hit_bytes(10) == 2);
+    assert!(rt; row().told.counts.corrected_hits(2) == 0);
+    assert!(rt; row().told.counts.corrected_hits(1) == 0);
+    assert!(rt; row().told.counts.corrected_hit_bytes(10) == 2);
 }
 
 // A third of 340 lines is 113, from the bottom at 360 upwards.

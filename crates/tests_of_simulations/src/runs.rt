@@ -1,5 +1,5 @@
-//! Runs of each policy by rows: the policy, the limit, what becomes of larger bodies and for how many seconds a body is
-//! fresh, and then requests, each with a key, a size and a second.
+//! Runs of each policy by rows: the policy, the limit, what becomes of larger bodies, for how many seconds a body is fresh,
+//! and whether one past its time is replaced, and then requests, each with a key, a size and a second.
 //!
 //! The result is `+` for a hit and `-` for a miss, then the counts, what was evicted and what is
 //! tracked.
@@ -63,7 +63,7 @@ fn tell_run<M: OrderedManager>(
     let time = some_number(cache, 3).map(Duration::from_secs);
     match manager {
         Ok(manager) => {
-            let mut run = Run::new(alloc, manager, most, time);
+            let mut run = Run::new(alloc, manager, most, time, word(cache, 4) == "replace");
             tell_requests(alloc, &mut run, requests, told);
             tell_counts(&run, told);
         }
@@ -172,6 +172,27 @@ const FRESH: &str = "
     lru 2 pass 10: a 2 18446744073709551615, a 2 18446744073709551615 -> -+ | 2 of 4, 1 of 2 missed, 0 went, 2 tracked
     # no time is over at once
     lru 2 pass 0: a 2 7, a 2 7, a 2 8 -> -+- | 3 of 6, 2 of 4 missed, 0 went, 2 tracked";
+
+// Three bodies, of which `a` is past its time when it is asked for again: its entry is used where it is, or is the newest
+// then.
+const PAST: &str = "
+    lru 3 pass 10 use: a 1 0, b 1 0, c 1 0, a 1 11, d 1 11, e 1 11, f 1 11, a 1 11 -> -------- | 8 of 8, 8 of 8 missed, 4 went, 3 tracked
+    lru 3 pass 10 replace: a 1 0, b 1 0, c 1 0, a 1 11, d 1 11, e 1 11, f 1 11, a 1 11 -> -------- | 8 of 8, 8 of 8 missed, 4 went, 3 tracked
+    sharded 3 pass 10 replace: a 1 0, b 1 0, c 1 0, a 1 11, d 1 11, e 1 11, f 1 11, a 1 11 -> -------- | 8 of 8, 8 of 8 missed, 4 went, 3 tracked
+    # the hand passes `a`, which was used; or comes to `a`, which is new
+    sieve 3 pass 10 use: a 1 0, b 1 0, c 1 0, a 1 11, d 1 11, e 1 11, f 1 11, a 1 11 -> -------+ | 8 of 8, 7 of 7 missed, 3 went, 3 tracked
+    sieve 3 pass 10 replace: a 1 0, b 1 0, c 1 0, a 1 11, d 1 11, e 1 11, f 1 11, a 1 11 -> -------- | 8 of 8, 8 of 8 missed, 4 went, 3 tracked
+    s3-fifo 3 pass 10 use: b 1 0, e 1 3, a 1 6, e 1 9, b 1 12, c 1 15, e 1 18 -> ---+--- | 7 of 7, 6 of 6 missed, 1 went, 3 tracked
+    s3-fifo 3 pass 10 replace: b 1 0, e 1 3, a 1 6, e 1 9, b 1 12, c 1 15, e 1 18 -> ---+--- | 7 of 7, 6 of 6 missed, 2 went, 3 tracked
+    # a size that changed: a hit counts as it was asked for and leaves the weight, and what comes in anew has the new one
+    lru 9 pass 10 use: a 2 0, a 5 1, a 5 11 -> -+- | 3 of 12, 2 of 7 missed, 0 went, 5 tracked
+    lru 9 pass 10 use: a 2 0, a 5 1 -> -+ | 2 of 7, 1 of 2 missed, 0 went, 2 tracked
+    sieve 9 pass 10 replace: a 2 0, a 5 11 -> -- | 2 of 7, 2 of 7 missed, 0 went, 5 tracked";
+
+#[test]
+fn a_body_past_its_time_is_used_or_replaced(rt: HostRuntime) {
+    run(&rt, rt.alloc(), PAST);
+}
 
 #[test]
 fn a_body_past_its_time_comes_in_anew(rt: HostRuntime) {

@@ -1,6 +1,6 @@
 use Rattle.std.proofs.Common.{◌≡◌, Option, None}
 use Rattle.std.specs.declared.time.Duration.{Duration}
-use Rattle.pcache_c.proofs.Decisions.{decided}
+use Rattle.pcache_c.proofs.Storable.{decided}
 use Rattle.pcache_c.proofs.heads.decide.Goals as goal
 
 pub returns : goal.returns

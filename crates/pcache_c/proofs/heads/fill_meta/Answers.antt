@@ -3,7 +3,7 @@ use Rattle.std.specs.declared.time.Duration.{Duration}
 use Rattle.pcache_meta.specs.declared.header.ResponseHeader.{ResponseHeader}
 use Rattle.pcache_control.specs.Responses.{IsDecision}
 use Rattle.pcache_control.specs.declared.cache_control.CacheControl.{CacheControl}
-use Rattle.pcache_c.proofs.Decisions.{stored}
+use Rattle.pcache_c.proofs.Storable.{stored}
 use Rattle.pcache_c.proofs.heads.fill_meta.Goals as goal
 
 pub returns-in-Cacheable : goal.returns-in-Cacheable

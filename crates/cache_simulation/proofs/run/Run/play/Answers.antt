@@ -2,7 +2,7 @@ use Rattle.std.proofs.Common.{◌≡◌, ◌∙◌, ◌∷◌, [], ◌++◌, ◌
 use Rattle.std.proofs.lemmas.List.{take_more, take_all}
 use Rattle.cache_simulation.specs.declared.run.Request.{Request}
 use Rattle.cache_simulation.specs.Plays.{Rules, State, Plays, state, rules_of}
-use Rattle.cache_simulation.proofs.Standing.{plays-more, counted-more, same-rules}
+use Rattle.cache_simulation.proofs.Standing.{plays-more, counted-more, same-rules, rules-same}
 use Rattle.cache_simulation.specs.Replays.{Replays, count_after, place}
 use Rattle.cache_simulation.proofs.Replaying.{replays-more, same-answers, counts-more, same-served, served-more}
 use Rattle.cache_simulation.proofs.run.Run.play.Goals as goal
@@ -13,7 +13,9 @@ loop-asked-preserved g c =
     let so_far = c.loop-asked.invariant in
     let (es, all, plays, replays, count) = so_far.plays in
     let policy = g.M.OrderedManager.policy in
-    let rules : Rules = record { limits = g.M.EvictionManager.limits c.args.self.now.manager; most = c.args.self.now.most } in
+    let rules : Rules = rules_of (g.M.EvictionManager.limits c.args.self.now.manager) c.args.self.now.most c.args.self.now.replaces in
+    let rules_now : Rules = rules_of (g.M.EvictionManager.limits c.loop-asked.self.manager) c.loop-asked.self.most c.loop-asked.self.replaces in
+    let same : rules_now ≡ rules = rules-same _ _ _ _ _ _ so_far.limits so_far.most so_far.replaces in
     let before : State = state (g.M.EvictionManager.tracked c.args.self.now.manager) c.args.self.now.freshness in
     let now : State = state (g.M.EvictionManager.tracked c.loop-asked.self.manager) c.loop-asked.self.freshness in
     let after : State = state (g.M.EvictionManager.tracked c.request.new.self.manager) c.request.new.self.freshness in
@@ -21,26 +23,30 @@ loop-asked-preserved g c =
     record {
       limits = c.request.ensures.limits ∙ so_far.limits;
       most = c.request.ensures.most ∙ so_far.most;
+      replaces = c.request.ensures.replaces ∙ so_far.replaces;
       plays = (
         es ++ e ∷ [],
         counted-more c.args.self.now.counts c.loop-asked.self.counts c.request.new.self.counts es e all counted,
         subst (λ (requests : List Request). Plays rules before requests (es ++ e ∷ []) after) (sym more)
             (plays-more rules before now after (take c.loop-asked.asked-index c.args.requests.now) es c.asked-item.result e plays
-            (same-rules (g.M.EvictionManager.limits c.loop-asked.self.manager) (g.M.EvictionManager.limits c.args.self.now.manager) c.loop-asked.self.most c.args.self.now.most now after c.asked-item.result e so_far.limits so_far.most becomes)),
+            (same-rules rules_now rules now after c.asked-item.result e same becomes)),
         subst (λ (requests : List Request). Replays policy rules (place (g.M.OrderedManager.order c.args.self.now.manager) c.args.self.now.freshness) requests (es ++ e ∷ []) (place (g.M.OrderedManager.order c.request.new.self.manager) c.request.new.self.freshness)) (sym more)
             (replays-more policy rules (place (g.M.OrderedManager.order c.args.self.now.manager) c.args.self.now.freshness) (place (g.M.OrderedManager.order c.loop-asked.self.manager) c.loop-asked.self.freshness) (place (g.M.OrderedManager.order c.request.new.self.manager) c.request.new.self.freshness) (take c.loop-asked.asked-index c.args.requests.now) es c.asked-item.result e replays
-            (same-answers policy (g.M.EvictionManager.limits c.loop-asked.self.manager) (g.M.EvictionManager.limits c.args.self.now.manager) c.loop-asked.self.most c.args.self.now.most (place (g.M.OrderedManager.order c.loop-asked.self.manager) c.loop-asked.self.freshness) (place (g.M.OrderedManager.order c.request.new.self.manager) c.request.new.self.freshness) c.asked-item.result e so_far.limits so_far.most answers)),
+            (same-answers policy rules_now rules (place (g.M.OrderedManager.order c.loop-asked.self.manager) c.loop-asked.self.freshness) (place (g.M.OrderedManager.order c.request.new.self.manager) c.request.new.self.freshness) c.asked-item.result e same answers)),
         gone ∙ ap (λ n. count_after n e) count ∙ sym (counts-more (g.M.EvictionManager.evicted c.args.self.now.manager).count es e),
       );
     }
 
 pub returns-clause-served : goal.returns-clause-served
-returns-clause-served g c = λ before start served.
+returns-clause-served g c = λ s before gone served.
     let so_far = c.loop-asked.invariant in
     let (es, counted, plays, replays, count) = so_far.plays in
     let policy = g.M.OrderedManager.policy in
+    let old = place (g.M.OrderedManager.order c.args.self.now.manager) c.args.self.now.freshness in
     let now = place (g.M.OrderedManager.order c.loop-asked.self.manager) c.loop-asked.self.freshness in
     let whole : take c.loop-asked.asked-index c.args.requests.now ≡ c.args.requests.now = take_all c.loop-asked.asked-index c.args.requests.now (let end = c.loop-asked-test.false in omega arith) in
-    same-served policy (g.M.EvictionManager.limits c.args.self.now.manager) (g.M.EvictionManager.limits c.loop-asked.self.manager) c.args.self.now.most c.loop-asked.self.most start (before ++ take c.loop-asked.asked-index c.args.requests.now) (before ++ c.args.requests.now) c.loop-asked.self.counts (g.M.EvictionManager.evicted c.loop-asked.self.manager).count now
-    (sym so_far.limits) (sym so_far.most) (ap (λ r. before ++ r) whole)
-    (served-more policy (rules_of (g.M.EvictionManager.limits c.args.self.now.manager) c.args.self.now.most) start before (take c.loop-asked.asked-index c.args.requests.now) c.args.self.now.counts c.loop-asked.self.counts (g.M.EvictionManager.evicted c.args.self.now.manager).count (g.M.EvictionManager.evicted c.loop-asked.self.manager).count (place (g.M.OrderedManager.order c.args.self.now.manager) c.args.self.now.freshness) now es served counted replays count)
+    let rules : Rules = rules_of (g.M.EvictionManager.limits c.args.self.now.manager) c.args.self.now.most c.args.self.now.replaces in
+    let rules_now : Rules = rules_of (g.M.EvictionManager.limits c.loop-asked.self.manager) c.loop-asked.self.most c.loop-asked.self.replaces in
+    same-served policy rules rules_now s now (before ++ take c.loop-asked.asked-index c.args.requests.now) (before ++ c.args.requests.now) c.loop-asked.self.counts gone (g.M.EvictionManager.evicted c.loop-asked.self.manager).count
+    (rules-same _ _ _ _ _ _ (sym so_far.limits) (sym so_far.most) (sym so_far.replaces)) (ap (λ r. before ++ r) whole)
+    (served-more policy rules s old now before (take c.loop-asked.asked-index c.args.requests.now) c.args.self.now.counts c.loop-asked.self.counts gone (g.M.EvictionManager.evicted c.args.self.now.manager).count (g.M.EvictionManager.evicted c.loop-asked.self.manager).count es served counted replays count)

@@ -1,6 +1,6 @@
 use Rattle.std.proofs.Common.{◌≡◌, take, List}
 use Rattle.cache_simulation.specs.Events.{Event}
-use Rattle.cache_simulation.specs.Plays.{Plays, IsCounted, state}
+use Rattle.cache_simulation.specs.Plays.{Plays, IsCounted, rules_of, state}
 use Rattle.cache_simulation.specs.Replays.{Replays, counts_after, place}
 use Rattle.cache_simulation.proofs.run.Run.play.Given as goal
 
@@ -9,8 +9,9 @@ invariant-loop-asked g l =
     record {
       limits : g.M.EvictionManager.limits l.self.manager ≡ g.M.EvictionManager.limits l.fn.self.manager;
       most : l.self.most ≡ l.fn.self.most;
+      replaces : l.self.replaces ≡ l.fn.self.replaces;
       plays : (es : List Event) × IsCounted l.fn.self.counts es l.self.counts
-          × Plays (record { limits = g.M.EvictionManager.limits l.fn.self.manager; most = l.fn.self.most }) (state (g.M.EvictionManager.tracked l.fn.self.manager) l.fn.self.freshness) (take l.asked-index l.requests) es (state (g.M.EvictionManager.tracked l.self.manager) l.self.freshness)
-          × Replays g.M.OrderedManager.policy (record { limits = g.M.EvictionManager.limits l.fn.self.manager; most = l.fn.self.most }) (place (g.M.OrderedManager.order l.fn.self.manager) l.fn.self.freshness) (take l.asked-index l.requests) es (place (g.M.OrderedManager.order l.self.manager) l.self.freshness)
+          × Plays (rules_of (g.M.EvictionManager.limits l.fn.self.manager) l.fn.self.most l.fn.self.replaces) (state (g.M.EvictionManager.tracked l.fn.self.manager) l.fn.self.freshness) (take l.asked-index l.requests) es (state (g.M.EvictionManager.tracked l.self.manager) l.self.freshness)
+          × Replays g.M.OrderedManager.policy (rules_of (g.M.EvictionManager.limits l.fn.self.manager) l.fn.self.most l.fn.self.replaces) (place (g.M.OrderedManager.order l.fn.self.manager) l.fn.self.freshness) (take l.asked-index l.requests) es (place (g.M.OrderedManager.order l.self.manager) l.self.freshness)
           × ((g.M.EvictionManager.evicted l.self.manager).count ≡ counts_after (g.M.EvictionManager.evicted l.fn.self.manager).count es);
     }

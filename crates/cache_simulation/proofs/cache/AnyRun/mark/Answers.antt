@@ -1,0 +1,45 @@
+use Rattle.std.proofs.Common.{ap, subst}
+use Rattle.pcache_evict.specs.Policy.{lru, sharded}
+use Rattle.pcache_policies.specs.Sieve.{sieve_policy}
+use Rattle.pcache_policies.specs.S3Fifo.{s3_fifo_policy}
+use Rattle.cache_simulation.specs.declared.cache.AnyRun.{AnyRun}
+use Rattle.cache_simulation.specs.Caches.{Stands}
+use Rattle.cache_simulation.proofs.Marks.{marked}
+use Rattle.cache_simulation.proofs.Standing.{rules-same}
+use Rattle.cache_simulation.proofs.cache.AnyRun.mark.Goals as goal
+
+pub returns-in-Lru-clause-served : goal.returns-in-Lru-clause-served
+returns-in-Lru-clause-served c = λ before asked rules start base stands.
+    let old = c.in-Lru.run' in
+    let new = c.mark.new.self in
+    marked lru before asked rules _ _ start base c.mark.result _ _ _ _ _ _
+    (rules-same _ _ _ _ _ _ (ap (λ m. m.limits) c.mark.ensures.manager) c.mark.ensures.most c.mark.ensures.replaces)
+    c.mark.ensures.evicted c.mark.ensures.served
+    (subst (λ (r : AnyRun). Stands before asked rules start base r) c.in-Lru.is stands)
+
+pub returns-in-Sharded-clause-served : goal.returns-in-Sharded-clause-served
+returns-in-Sharded-clause-served c = λ before asked rules start base stands.
+    let old = c.in-Sharded.run' in
+    let new = c.mark-in-Sharded.new.self in
+    marked (sharded 16) before asked rules _ _ start base c.mark-in-Sharded.result _ _ _ _ _ _
+    (rules-same _ _ _ _ _ _ (ap (λ m. m.limits) c.mark-in-Sharded.ensures.manager) c.mark-in-Sharded.ensures.most c.mark-in-Sharded.ensures.replaces)
+    c.mark-in-Sharded.ensures.evicted c.mark-in-Sharded.ensures.served
+    (subst (λ (r : AnyRun). Stands before asked rules start base r) c.in-Sharded.is stands)
+
+pub returns-in-Sieve-clause-served : goal.returns-in-Sieve-clause-served
+returns-in-Sieve-clause-served c = λ before asked rules start base stands.
+    let old = c.in-Sieve.run' in
+    let new = c.mark-in-Sieve.new.self in
+    marked sieve_policy before asked rules _ _ start base c.mark-in-Sieve.result _ _ _ _ _ _
+    (rules-same _ _ _ _ _ _ (ap (λ m. m.limits) c.mark-in-Sieve.ensures.manager) c.mark-in-Sieve.ensures.most c.mark-in-Sieve.ensures.replaces)
+    c.mark-in-Sieve.ensures.evicted c.mark-in-Sieve.ensures.served
+    (subst (λ (r : AnyRun). Stands before asked rules start base r) c.in-Sieve.is stands)
+
+pub returns-in-S3Fifo-clause-served : goal.returns-in-S3Fifo-clause-served
+returns-in-S3Fifo-clause-served c = λ before asked rules start base stands.
+    let old = c.in-S3Fifo.run' in
+    let new = c.mark-in-S3Fifo.new.self in
+    marked s3_fifo_policy before asked rules _ _ start base c.mark-in-S3Fifo.result _ _ _ _ _ _
+    (rules-same _ _ _ _ _ _ (ap (λ m. m.limits) c.mark-in-S3Fifo.ensures.manager) c.mark-in-S3Fifo.ensures.most c.mark-in-S3Fifo.ensures.replaces)
+    c.mark-in-S3Fifo.ensures.evicted c.mark-in-S3Fifo.ensures.served
+    (subst (λ (r : AnyRun). Stands before asked rules start base r) c.in-S3Fifo.is stands)

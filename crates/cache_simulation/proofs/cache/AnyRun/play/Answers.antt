@@ -1,0 +1,14 @@
+use Rattle.std.proofs.Common.{subst}
+use Rattle.std.proofs.lemmas.Result.{on_ok_weaker}
+use Rattle.pcache_evict.specs.Policy.{sharded}
+use Rattle.cache_simulation.specs.declared.cache.AnyRun.{AnyRun}
+use Rattle.cache_simulation.specs.Caches.{Stands}
+use Rattle.cache_simulation.proofs.Marks.{played}
+use Rattle.cache_simulation.proofs.Standing.{rules-same}
+use Rattle.cache_simulation.proofs.cache.AnyRun.play.Goals as goal
+
+pub returns-in-Sharded-clause-served : goal.returns-in-Sharded-clause-served
+returns-in-Sharded-clause-served c = on_ok_weaker c.play-in-Sharded.result (λ serves. λ before asked rules start base stands.
+    played (sharded 16) before asked c.args.requests.now rules _ _ start base _ _ _ _ _ _
+    (rules-same _ _ _ _ _ _ c.play-in-Sharded.ensures.limits c.play-in-Sharded.ensures.most c.play-in-Sharded.ensures.replaces) serves
+    (subst (λ (r : AnyRun). Stands before asked rules start base r) c.in-Sharded.is stands)) c.play-in-Sharded.ensures.served

@@ -1,0 +1,36 @@
+use Rattle.std.proofs.Common.{◌≡◌, ◌∙◌, ◌++◌, ◌+◌, length, List, ap, sym, arith}
+use Rattle.std.proofs.lemmas.List.{append-nil}
+use Rattle.std.proofs.lemmas.List.Elements.{All-weaker}
+use Rattle.std.proofs.lemmas.Result.{IfOk-weaker}
+use Rattle.cache_simulation.specs.declared.cache.Span.{Span}
+use Rattle.cache_simulation.specs.declared.run.Request.{Request}
+use Rattle.cache_simulation.specs.Caches.{IsRow}
+use Rattle.cache_simulation.specs.Reading.{IsRowOf, requests_of, bytes_in}
+use Rattle.cache_simulation.proofs.ReadLines.{row-of, kept-on}
+use Rattle.cache_simulation.proofs.player.Player.rows.Goals as goal
+
+pub returns-clause-rows : goal.returns-clause-rows
+returns-clause-rows c = IfOk-weaker c.rows.result _ _ (λ rows says. λ before lines read.
+    let setting = c.args.self.now.runs.setting in
+    let other = c.play.new.self.runs.setting in
+    let span : Span = record { from = c.play.new.self.from; until = c.in_ok-until.field-0; all = c.play.new.self.all } in
+    let begins : c.play.new.self.from ≡ length before = c.play.ensures.from ∙ read.first in
+    let requests : c.play.new.self.all.requests ≡ length lines = ap (λ k. k.requests) c.play.ensures.all ∙ read.requests in
+    let bytes : c.play.new.self.all.bytes ≡ bytes_in lines = ap (λ k. k.bytes) c.play.ensures.all ∙ read.bytes in
+    let until = c.in_ok-until.ensures.ok in
+    let ends : c.in_ok-until.field-0 ≡ length before + length lines = omega arith in
+    All-weaker (IsRow other span (requests_of setting.sample before) (requests_of setting.sample lines)) (IsRowOf setting before lines)
+    (λ row is. row-of setting other span before lines row c.play.ensures.setting begins ends requests bytes is) rows.items
+    (says (requests_of setting.sample before) (requests_of setting.sample lines) (c.in_ok-play.ensures.asked (requests_of setting.sample before) (requests_of setting.sample lines) read.asked))) c.rows.ensures.rows
+
+pub returns-clause-read : goal.returns-clause-read
+returns-clause-read c = IfOk-weaker c.rows.result _ _ (λ rows says. λ before lines read.
+    let s = c.args.self.now.runs.setting.sample in
+    let asked : List Request = requests_of s lines in
+    record {
+      asked = kept-on s c.play.new.self.runs.setting.sample before lines c.play.new.self (ap (λ x. x.sample) c.play.ensures.setting)
+          (asked, c.in_ok-play.ensures.asked (requests_of s before) asked read.asked, sym (append-nil asked) ∙ ap (λ x. asked ++ x) (sym c.in_ok-play.ensures.none));
+      first = c.play.ensures.from ∙ read.first;
+      requests = ap (λ k. k.requests) c.play.ensures.all ∙ read.requests;
+      bytes = ap (λ k. k.bytes) c.play.ensures.all ∙ read.bytes;
+    }) c.rows.ensures.rows

@@ -1,0 +1,14 @@
+use Rattle.std.proofs.Common.{◌≡◌, List, [], ◌++◌, length}
+use Rattle.std.specs.List.{All, AllWithin}
+use Rattle.cache_simulation.specs.declared.run.Request.{Request}
+use Rattle.cache_simulation.specs.Caches.{StandsIn}
+use Rattle.cache_simulation.proofs.runs.Runs.play.Given as goal
+
+-- the caches so far have them, and the others stand as before
+abbrev pub invariant-loop-cache : goal.invariant-loop-cache
+invariant-loop-cache l =
+    record {
+      long : length l.cache-items ≡ length l.fn.self.caches.items;
+      each : (before asked : List Request) → All (StandsIn l.fn.self.setting before asked) l.fn.self.caches.items
+          → AllWithin (StandsIn l.fn.self.setting before (asked ++ l.requests)) l.cache-items 0 l.cache-index × AllWithin (StandsIn l.fn.self.setting before asked) l.cache-items l.cache-index (length l.fn.self.caches.items);
+    }

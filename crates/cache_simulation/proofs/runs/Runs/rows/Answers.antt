@@ -1,0 +1,13 @@
+use Rattle.std.proofs.Common.{sym, subst}
+use Rattle.std.specs.List.{All}
+use Rattle.std.proofs.lemmas.List.Elements.{All-same, All-push}
+use Rattle.cache_simulation.specs.Caches.{IsRow, StandsIn}
+use Rattle.cache_simulation.proofs.runs.Runs.rows.Goals as goal
+
+pub loop-cache-preserved : goal.loop-cache-preserved
+loop-cache-preserved c = λ before asked held.
+    let setting = c.args.self.now.setting in
+    let all : All (StandsIn setting before asked) c.as_slice-cache-items.result.now = All-same (StandsIn setting before asked) _ _ c.as_slice-cache-items.ensures.value held in
+    All-same (IsRow setting c.args.span before asked) _ _ c.in_ok-push.ensures.items
+    (All-push (IsRow setting c.args.span before asked) c.loop-cache.rows.items c.row.result (c.loop-cache.invariant before asked held)
+    (c.row.ensures.row before asked (subst (StandsIn setting before asked) (sym c.cache-item.is) (all c.loop-cache.cache-index c.cache-item.result c.loop-cache-test.true))))
