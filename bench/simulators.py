@@ -1,18 +1,20 @@
 #!/usr/bin/env python3
-"""Caches that let entries go, written from the papers' text, and a comparison with `cache_sim`.
+"""Caches that let entries go, written from the papers' text, and a comparison with `cache_sim`. Beside them the most hits by Belady's rule.
 
     bench/simulators.py PROGRAM           # hand-made and Zipf traces, hit for hit
     bench/simulators.py --trace SEED REQUESTS KEYS > FILE
 
-LRU; SIEVE (Zhang, Yang, Yue, Vigfusson, Rashmi, NSDI 2024); S3-FIFO (Yang, Zhang, Qiu, Yue, Vigfusson, SOSP 2023). Each takes requests of (key, size) and tells hits.
+LRU; FIFO; CLOCK (Corbató, A paging experiment with the Multics system, 1968), as a circle with a hand; SIEVE (Zhang, Yang, Yue, Vigfusson, Rashmi, NSDI 2024); S3-FIFO (Yang, Zhang, Qiu, Yue, Vigfusson, SOSP 2023). Each takes requests of (key, size) and tells hits.
 With a time to live, a body past its time is a miss: its entry is used, or removed and admitted anew. Nothing here is shared with the crates of this repository.
 """
 import bisect
 import collections
+import heapq
 import itertools
 import random
 import subprocess
 import sys
+import tempfile
 
 
 class Lru:
@@ -106,6 +108,76 @@ class Sieve:
         self.used -= node.size
 
 
+class Fifo:
+    """The entries that came in first go until the new one fits."""
+
+    def __init__(self, limit):
+        self.limit, self.used, self.sizes, self.evicted = limit, 0, {}, 0
+
+    def request(self, key, size):
+        if key in self.sizes:
+            return True
+        while self.sizes and self.used + size > self.limit:
+            self.remove(next(iter(self.sizes)))
+            self.evicted += 1
+        if size > self.limit:
+            self.evicted += 1
+            return False
+        self.sizes[key] = size
+        self.used += size
+        return False
+
+    def has(self, key):
+        return key in self.sizes
+
+    def remove(self, key):
+        self.used -= self.sizes.pop(key)
+
+
+class Clock:
+    """Entries on a circle, and a hand that goes round: it clears the bits that are set, and evicts at one that is not. A
+    new entry comes in where the hand has just been."""
+
+    def __init__(self, limit):
+        self.limit, self.used, self.nodes, self.evicted, self.hand = limit, 0, {}, 0, None
+
+    def request(self, key, size):
+        node = self.nodes.get(key)
+        if node:
+            node.visited = True
+            return True
+        while self.nodes and self.used + size > self.limit:
+            while self.hand.visited:
+                self.hand.visited = False
+                self.hand = self.hand.newer
+            self.remove(self.hand.key)
+            self.evicted += 1
+        if size > self.limit:
+            self.evicted += 1
+            return False
+        self.add(Node(key, size))
+        return False
+
+    def add(self, node):
+        if self.hand is None:
+            self.hand = node.newer = node.older = node
+        else:
+            node.newer, node.older = self.hand, self.hand.older
+            node.older.newer = node.newer.older = node
+        self.nodes[node.key] = node
+        self.used += node.size
+
+    def has(self, key):
+        return key in self.nodes
+
+    def remove(self, key):
+        node = self.nodes.pop(key)
+        if node is self.hand:
+            self.hand = node.newer if self.nodes else None
+        node.newer.older, node.older.newer = node.older, node.newer
+        self.used -= node.size
+
+
 class S3Fifo:
     """Three queues of keys, the oldest on the left, as in the paper's Algorithm 1. What the paper leaves open: the
     small queue has a tenth of the bytes; room is looked for before each step; there are as many ghosts as nine tenths
@@ -178,7 +250,39 @@ class S3Fifo:
         del self.freq[key]
 
 
-POLICIES = {"lru": Lru, "sieve": Sieve, "s3-fifo": S3Fifo}
+def most_hits(keys, limit):
+    """Belady (1966): of one body too many, the one goes that is asked for last; what is not asked for again is not kept."""
+    places = collections.defaultdict(collections.deque)
+    for place, key in enumerate(keys):
+        places[key].append(place)
+    kept, last, hits = {}, [], 0
+    for key in keys:
+        places[key].popleft()
+        hits += kept.pop(key, None) is not None
+        if places[key]:
+            kept[key] = places[key][0]
+            heapq.heappush(last, (-kept[key], key))
+        while len(kept) > limit:
+            place, other = heapq.heappop(last)
+            if kept.get(other) == -place:
+                del kept[other]
+    return hits
+
+
+def most_hits_of_all(keys, limit):
+    """The most hits of all ways to keep at most so many bodies, by trying them."""
+    best = {frozenset(): 0}
+    for key in keys:
+        after = collections.defaultdict(int)
+        for kept, hits in best.items():
+            held = kept | {key}
+            for left in [held] if len(held) <= limit else [held - {gone} for gone in held]:
+                after[left] = max(after[left], hits + (key in kept))
+        best = after
+    return max(best.values())
+
+
+POLICIES = {"lru": Lru, "sieve": Sieve, "s3-fifo": S3Fifo, "fifo": Fifo, "clock": Clock}
 
 
 def simulate(policy, limit, trace, passes_by, ttl=None, replaces=False):
@@ -244,6 +348,22 @@ def compare(program, name, trace, sizes, ttl):
     print(f"{name}: {len(trace)} requests, {len(rows)} caches, large bodies passed by and not, bodies past their time used and replaced: equal")
 
 
+def compare_bounds(program, name, trace, sizes):
+    """The most hits of bodies of one size; of short traces also beside all ways to keep bodies."""
+    keys = [key for key, _ in trace]
+    with tempfile.NamedTemporaryFile("w", suffix=".csv") as file:
+        file.writelines(f"{second},{key},{size}\n" for second, (key, size) in enumerate(trace))
+        file.flush()
+        words = [program, "--policy", "belady,lru", "--ignore-size", "--trace", file.name, "--size", ",".join(map(str, sizes)), "--format", "csv"]
+        output = subprocess.run(words, capture_output=True, text=True, check=True).stdout.split()
+    hits = {tuple(line.split(",")[:2]): int(line.split(",")[3]) for line in output[1:]}
+    for size in sizes:
+        wanted = most_hits(keys, size)
+        assert hits["belady", str(size)] == wanted >= hits["lru", str(size)], (name, size, hits, wanted)
+        assert len(keys) > 50 or wanted == most_hits_of_all(keys, size), (name, size, wanted)
+    print(f"{name}: the most hits of {len(sizes)} sizes: equal")
+
+
 def each_prefix(program, name, trace, sizes):
     """Equal counts after each request say that each is a hit in both or in none."""
     for length in range(1, len(trace) + 1):
@@ -261,9 +381,11 @@ def main():
     program = sys.argv[1]
     for name, trace in HAND_MADE.items():
         each_prefix(program, name, trace, [1, 2, 3, 5, 8, 13])
+        compare_bounds(program, name, trace, [1, 2, 3, 5, 8])
     for seed, requests, keys in [(1, 100_000, 5_000), (2, 100_000, 50_000), (3, 1_000_000, 100_000)]:
         trace = list(zipf(seed, requests, keys))
         total = sum({key: size for key, size in trace}.values())
+        compare_bounds(program, f"Zipf {seed}", trace, [max(1, keys * part // 1000) for part in (1, 10, 100, 500)])
         compare(program, f"Zipf {seed}", trace, [max(1, total * part // 1000) for part in (1, 10, 100, 500)], requests // 10)
 
 

@@ -17,9 +17,9 @@ pub fn command<'a>(alloc: Global) -> Result<Command<'a>, AllocError> {
 fn caches<'a>(alloc: Global, command: Command<'a>) -> Result<Command<'a>, AllocError> {
     command
         .arg(
-            option(alloc, "policy", "NAMES")
-                .default_value("lru")
-                .help("lru, sharded:16, sieve or s3-fifo, with commas"),
+            option(alloc, "policy", "NAMES").default_value("lru").help(
+                "lru, sharded:16, sieve, s3-fifo, fifo or clock, with commas; and belady, the most hits that any can have, of bodies of one size",
+            ),
         )?
         .arg(
             option(alloc, "size", "SIZES").default_value("100MB").help(

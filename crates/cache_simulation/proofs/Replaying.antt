@@ -112,10 +112,6 @@ served-more p rules s t u requests more old new b c d es before counted after go
       evicted = omega arith;
     }
 
--- nothing was served yet
-pub served-none : {O : Type 0} (p : Policy O) (rules : Rules) (s : Place O) (counts : Counts) (c : ℕ) → counts.requests ≡ 0 → counts.hits ≡ 0 → counts.bytes ≡ 0 → counts.hit_bytes ≡ 0 → c ≤ 2 ^ 64 - 1 → Served p rules s [] counts c c s
-served-none p rules s counts c a b d e small = record { events = []; replays = refl; requests = a; hits = b; bytes = d; hit_bytes = e; evicted = omega arith }
-
 -- what was served does not change with the names of its parts
 pub same-served : {O : Type 0} (p : Policy O) (x y : Rules) (s t : Place O) (requests more : List Request) (counts : Counts) (b c : ℕ) → x ≡ y → requests ≡ more
     → Served p x s requests counts b c t → Served p y s more counts b c t

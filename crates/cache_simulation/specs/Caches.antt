@@ -1,11 +1,12 @@
 -- The caches of a simulation, and what their rows say (own).
-use Rattle.std.specs.Prelude.{◌≡◌, ℕ, ◌+◌, ◌*◌, ◌-◌, ◌^◌, min, Bool, Option, List, ◌++◌, option_map, map, if◌then◌else◌}
+use Rattle.std.specs.Prelude.{◌≡◌, ℕ, ◌+◌, ◌*◌, ◌-◌, ◌^◌, min, Bool, Option, List, ◌++◌, option_map, if◌then◌else◌}
 use Rattle.std.specs.List.{All}
 use Rattle.pcache_evict.specs.Tracked.{Limits, limits_of, weight}
 use Rattle.pcache_evict.specs.Listed.{map_of}
 use Rattle.pcache_evict.specs.Policy.{Policy, lru, sharded}
 use Rattle.pcache_policies.specs.Sieve.{sieve_policy}
 use Rattle.pcache_policies.specs.S3Fifo.{s3_fifo_policy}
+use Rattle.pcache_policies.specs.OneQueue.{fifo, clock}
 use Rattle.cache_simulation.specs.declared.cache.AnyRun.{AnyRun}
 use Rattle.cache_simulation.specs.declared.cache.AnyRun.TheVariants as run
 use Rattle.cache_simulation.specs.declared.cache.Cache.{Cache}
@@ -46,6 +47,8 @@ RanBy named.Lru = RanAs lru
 RanBy named.Sharded = RanAs (sharded 16)
 RanBy named.Sieve = RanAs sieve_policy
 RanBy named.S3Fifo = RanAs s3_fifo_policy
+RanBy named.Fifo = RanAs fifo
+RanBy named.Clock = RanAs clock
 
 abbrev pub Ran : List Request → List Request → Rules → Option Fresh → Told → Type 0
 Ran before asked rules start told = RanBy told.policy before asked rules start told
@@ -64,12 +67,16 @@ Stands before asked rules start base (run.Lru r) = StandsAs lru before asked rul
 Stands before asked rules start base (run.Sharded r) = StandsAs (sharded 16) before asked rules start base (rules_of r.manager.limits r.most r.replaces) r.counts r.manager.evicted.count (place r.manager.shards r.freshness)
 Stands before asked rules start base (run.Sieve r) = StandsAs sieve_policy before asked rules start base (rules_of r.manager.limits r.most r.replaces) r.counts r.manager.evicted.count (place r.manager.sieve r.freshness)
 Stands before asked rules start base (run.S3Fifo r) = StandsAs s3_fifo_policy before asked rules start base (rules_of r.manager.limits r.most r.replaces) r.counts r.manager.evicted.count (place r.manager.fifos r.freshness)
+Stands before asked rules start base (run.Fifo r) = StandsAs fifo before asked rules start base (rules_of r.manager.limits r.most r.replaces) r.counts r.manager.evicted.count (place r.manager.queue r.freshness)
+Stands before asked rules start base (run.Clock r) = StandsAs clock before asked rules start base (rules_of r.manager.limits r.most r.replaces) r.counts r.manager.evicted.count (place r.manager.queue r.freshness)
 
 abbrev pub policy_of : AnyRun → Named
 policy_of (run.Lru r) = named.Lru
 policy_of (run.Sharded r) = named.Sharded
 policy_of (run.Sieve r) = named.Sieve
 policy_of (run.S3Fifo r) = named.S3Fifo
+policy_of (run.Fifo r) = named.Fifo
+policy_of (run.Clock r) = named.Clock
 
 -- the size of the largest body that a cache with this limit stores
 abbrev pub most_in : Setting → ℕ → ℕ
@@ -94,9 +101,6 @@ shape_of c = (policy_of c.run, c.size)
 -- all caches have
 abbrev pub HasPlayed : List Request → List Request → Runs → Type 0
 HasPlayed before asked runs = All (StandsIn runs.setting before asked) runs.caches.items
-
-abbrev pub shapes_of : Runs → List (Named × ℕ)
-shapes_of runs = map shape_of runs.caches.items
 
 -- a row tells what the plain run of its policy gives of these requests after those before the mark, in this part of a trace
 pub record IsRow (setting : Setting) (span : Span) (before asked : List Request) (row : Row) : Type 0 where

@@ -17,7 +17,7 @@ use pcache_base::error::Result;
 use pcache_base::seed::Seed;
 use pcache_evict::eviction::ordered::OrderedManager;
 use pcache_evict::eviction::{sharded_lru, simple_lru};
-use pcache_policies::{s3_fifo, sieve};
+use pcache_policies::{clock, fifo, s3_fifo, sieve};
 use std::alloc::Global;
 use std::time::Duration;
 
@@ -32,6 +32,10 @@ pub enum AnyRun {
     Sieve(Run<sieve::Manager>),
     /// Over two queues with ghosts.
     S3Fifo(Run<s3_fifo::Manager>),
+    /// Over one queue.
+    Fifo(Run<fifo::Manager>),
+    /// Over one queue that spares what was used.
+    Clock(Run<clock::Manager>),
 }
 
 /// What a run tells.
@@ -90,6 +94,14 @@ impl AnyRun {
                 let manager = s3_fifo::Manager::new_with_watermark(alloc, seed, limit, watermark)?;
                 Ok(AnyRun::S3Fifo(Run::new(alloc, manager, most, time, replaces)))
             }
+            Policy::Fifo => {
+                let manager = fifo::Manager::new_with_watermark(alloc, seed, limit, watermark)?;
+                Ok(AnyRun::Fifo(Run::new(alloc, manager, most, time, replaces)))
+            }
+            Policy::Clock => {
+                let manager = clock::Manager::new_with_watermark(alloc, seed, limit, watermark)?;
+                Ok(AnyRun::Clock(Run::new(alloc, manager, most, time, replaces)))
+            }
         }
     }
 
@@ -108,6 +120,8 @@ impl AnyRun {
             AnyRun::Sharded(run) => run.play(requests),
             AnyRun::Sieve(run) => run.play(requests),
             AnyRun::S3Fifo(run) => run.play(requests),
+            AnyRun::Fifo(run) => run.play(requests),
+            AnyRun::Clock(run) => run.play(requests),
         }
     }
 
@@ -123,6 +137,8 @@ impl AnyRun {
             AnyRun::Sharded(run) => run.mark(),
             AnyRun::Sieve(run) => run.mark(),
             AnyRun::S3Fifo(run) => run.mark(),
+            AnyRun::Fifo(run) => run.mark(),
+            AnyRun::Clock(run) => run.mark(),
         }
     }
 
@@ -139,6 +155,8 @@ impl AnyRun {
             AnyRun::Sharded(run) => told_of(Policy::Sharded, run, gone),
             AnyRun::Sieve(run) => told_of(Policy::Sieve, run, gone),
             AnyRun::S3Fifo(run) => told_of(Policy::S3Fifo, run, gone),
+            AnyRun::Fifo(run) => told_of(Policy::Fifo, run, gone),
+            AnyRun::Clock(run) => told_of(Policy::Clock, run, gone),
         }
     }
 }

@@ -1,6 +1,7 @@
 #![tactic(auto)]
 //! What caches of some sizes and policies would have served of a trace of requests.
 //!
+//! - `bounds`: the most hits that a cache of bodies of one size can have
 //! - `cache`: one cache, of any policy
 //! - `counts`: the counts over a trace
 //! - `freshness`: until when bodies are fresh
@@ -18,6 +19,7 @@
 //! - `simulation`: a trace from its first line to the report
 //! - `trace`: the lines of a trace
 
+pub mod bounds;
 pub mod cache;
 pub mod counts;
 pub mod freshness;

@@ -22,6 +22,10 @@ pub enum Policy {
     Sieve,
     /// New ones that were not used soon, then others that were not used.
     S3Fifo,
+    /// Those that came in first.
+    Fifo,
+    /// Those that came in first, or were not used since they were spared.
+    Clock,
 }
 
 impl Policy {
@@ -32,6 +36,8 @@ impl Policy {
             "sharded:16" => Some(Policy::Sharded),
             "sieve" => Some(Policy::Sieve),
             "s3-fifo" => Some(Policy::S3Fifo),
+            "fifo" => Some(Policy::Fifo),
+            "clock" => Some(Policy::Clock),
             _ => None,
         }
     }
@@ -43,6 +49,8 @@ impl Policy {
             Policy::Sharded => "sharded:16",
             Policy::Sieve => "sieve",
             Policy::S3Fifo => "s3-fifo",
+            Policy::Fifo => "fifo",
+            Policy::Clock => "clock",
         }
     }
 }
@@ -174,6 +182,8 @@ impl Setting {
 pub struct Options {
     /// The policies.
     pub policies: Vec<Policy>,
+    /// Whether the most hits that a cache can have are wanted besides.
+    pub is_bounded: bool,
     /// The sizes of the caches.
     pub sizes: Vec<Size>,
     /// The file of the trace; standard input if there is none.
@@ -243,6 +253,7 @@ impl fmt::Display for Unusable<'_> {
 pub fn read<'a>(alloc: Global, words: &Words<'a>) -> Result<Options, Unusable<'a>> {
     Ok(Options {
         policies: policies(alloc, words.policy)?,
+        is_bounded: is_bounded(words)?,
         sizes: sizes(alloc, words.size)?,
         trace: owned(alloc, words.trace)?,
         distinct: distinct(words.distinct)?,
@@ -283,7 +294,14 @@ fn read_setting<'a>(words: &Words<'a>) -> Result<Setting, Unusable<'a>> {
     })
 }
 
-const POLICIES: &str = "lru, sharded:16, sieve or s3-fifo, or several of them with commas";
+const POLICIES: &str =
+    "lru, sharded:16, sieve, s3-fifo, fifo, clock or belady, or several of them with commas";
+
+// The name of what is no policy, but the most hits that one can have.
+const BELADY: &str = "belady";
+
+const BOUNDED: &str =
+    "belady only with --trace and --ignore-size, and without --ttl, --watermark and --interval";
 
 const NUMBER: &str = "a whole number below 2^64";
 
@@ -422,12 +440,35 @@ fn owned(alloc: Global, text: Option<&str>) -> Result<Option<String>, Unusable<'
 fn policies(alloc: Global, names: &str) -> Result<Vec<Policy>, Unusable<'_>> {
     let mut policies = Vec::new(alloc);
     for name in names.split(',') {
+        if name.trim() == BELADY {
+            continue;
+        }
         let policy = value("policy", name, POLICIES, Policy::named(name.trim()))?;
         if policies.push(policy).is_err() {
             return Err(Unusable::Memory);
         }
     }
     Ok(policies)
+}
+
+// Whether the most hits are wanted, which are told of a file whose bodies have one size and no end.
+fn is_bounded<'a>(words: &Words<'a>) -> Result<bool, Unusable<'a>> {
+    if !words.policy.split(',').any(|name| name.trim() == BELADY) {
+        return Ok(false);
+    }
+    let is_told = words.ignores_size
+        && words.trace.is_some()
+        && words.ttl.is_none()
+        && words.watermark.is_none()
+        && words.interval.is_none();
+    if !is_told {
+        return Err(Unusable::Value {
+            option: "policy",
+            value: words.policy,
+            choices: BOUNDED,
+        });
+    }
+    Ok(true)
 }
 
 fn sizes(alloc: Global, texts: &str) -> Result<Vec<Size>, Unusable<'_>> {

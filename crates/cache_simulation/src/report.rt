@@ -39,28 +39,20 @@ impl Row {
         let bytes = self.told.counts.corrected_hit_bytes(self.expected_bytes);
         ratio(bytes, self.expected_bytes)
     }
+}
 
-    // What is done with a body larger than the cache.
-    fn large(&self) -> &'static str {
-        if self.setting.passes_by {
-            "pass"
-        } else {
-            "evict"
-        }
-    }
+// What is done with a body larger than the cache.
+fn large(setting: &Setting) -> &'static str {
+    if setting.passes_by { "pass" } else { "evict" }
+}
 
-    // What the refill of a body past its time is.
-    fn expired(&self) -> &'static str {
-        if self.setting.replaces {
-            "replace"
-        } else {
-            "use"
-        }
-    }
+// What the refill of a body past its time is.
+fn expired(setting: &Setting) -> &'static str {
+    if setting.replaces { "replace" } else { "use" }
 }
 
 // The share of a part in a whole, in hundredths of a percent.
-fn ratio(part: u128, whole: u128) -> u128 {
+pub(crate) fn ratio(part: u128, whole: u128) -> u128 {
     part.saturating_mul(10_000).checked_div(whole).unwrap_or(0)
 }
 
@@ -117,22 +109,28 @@ fn write_values<W: Write>(out: &mut W, row: &Row) -> io::Result<()> {
         "{},",
         row.told.counts.corrected_hit_bytes(row.expected_bytes)
     )?;
-    write_sample(out, row)?;
-    write!(out, ",{},", row.setting.sample.part)?;
-    if let Some(ttl) = row.setting.ttl {
-        write!(out, "{ttl}")?;
-    }
-    write!(out, ",{},{},", row.large(), row.expired())?;
-    write!(out, "{},", row.setting.ignores_size)?;
-    if let Some(watermark) = row.setting.watermark {
-        write!(out, "{watermark}")?;
-    }
+    write_settings(out, &row.setting)?;
     writeln!(out, ",{},{}", row.from, row.until)
 }
 
+// The options that all caches have in common, as values with commas between them.
+pub(crate) fn write_settings<W: Write>(out: &mut W, setting: &Setting) -> io::Result<()> {
+    write_sample(out, setting)?;
+    write!(out, ",{},", setting.sample.part)?;
+    if let Some(ttl) = setting.ttl {
+        write!(out, "{ttl}")?;
+    }
+    write!(out, ",{},{},", large(setting), expired(setting))?;
+    write!(out, "{},", setting.ignores_size)?;
+    if let Some(watermark) = setting.watermark {
+        write!(out, "{watermark}")?;
+    }
+    Ok(())
+}
+
 // The rate of the sample, as a part of 1.
-fn write_sample<W: Write>(out: &mut W, row: &Row) -> io::Result<()> {
-    let rate = row.setting.sample.rate;
+fn write_sample<W: Write>(out: &mut W, setting: &Setting) -> io::Result<()> {
+    let rate = setting.sample.rate;
     write!(out, "{}.{:06}", rate / WHOLE, rate % WHOLE)
 }
 
@@ -177,37 +175,42 @@ fn write_object<W: Write>(out: &mut W, row: &Row) -> io::Result<()> {
         "\"corrected_hit_bytes\":{},",
         row.told.counts.corrected_hit_bytes(row.expected_bytes)
     )?;
+    write_setting(out, &row.setting)?;
+    writeln!(out, ",\"from\":{},\"until\":{}}}", row.from, row.until)
+}
+
+// The options that all caches have in common, as members of an object.
+pub(crate) fn write_setting<W: Write>(out: &mut W, setting: &Setting) -> io::Result<()> {
     write!(out, "\"sample\":")?;
-    write_sample(out, row)?;
-    write!(out, ",\"part\":{},\"ttl\":", row.setting.sample.part)?;
-    match row.setting.ttl {
+    write_sample(out, setting)?;
+    write!(out, ",\"part\":{},\"ttl\":", setting.sample.part)?;
+    match setting.ttl {
         Some(ttl) => write!(out, "{ttl}")?,
         None => write!(out, "null")?,
     }
-    write!(out, ",\"large\":\"{}\"", row.large())?;
-    write!(out, ",\"expired\":\"{}\"", row.expired())?;
-    write!(out, ",\"ignore_size\":{}", row.setting.ignores_size)?;
-    match row.setting.watermark {
-        Some(watermark) => write!(out, ",\"watermark\":{watermark}")?,
-        None => write!(out, ",\"watermark\":null")?,
+    write!(out, ",\"large\":\"{}\"", large(setting))?;
+    write!(out, ",\"expired\":\"{}\"", expired(setting))?;
+    write!(out, ",\"ignore_size\":{}", setting.ignores_size)?;
+    match setting.watermark {
+        Some(watermark) => write!(out, ",\"watermark\":{watermark}"),
+        None => write!(out, ",\"watermark\":null"),
     }
-    writeln!(out, ",\"from\":{},\"until\":{}}}", row.from, row.until)
 }
 
 fn write_table<W: Write>(out: &mut W, rows: &[Row]) -> io::Result<()> {
     let is_part = rows.iter().any(|row| row.from > 0);
     for row in rows {
         if is_part {
-            write!(
-                out,
-                "requests {} to {}: ",
-                row.from.saturating_add(1),
-                row.until
-            )?;
+            write_part(out, row.from, row.until)?;
         }
         write_line(out, row)?;
     }
     Ok(())
+}
+
+// Which requests of the trace a line is of.
+pub(crate) fn write_part<W: Write>(out: &mut W, from: u64, until: u64) -> io::Result<()> {
+    write!(out, "requests {} to {until}: ", from.saturating_add(1))
 }
 
 fn write_line<W: Write>(out: &mut W, row: &Row) -> io::Result<()> {
@@ -254,7 +257,9 @@ pub fn draw<W: Write>(out: &mut W, rows: &[Row], sizes: usize) -> io::Result<()>
     writeln!(out, "</svg>")
 }
 
-const COLOURS: [&str; 4] = ["#1b6ca8", "#c0392b", "#27864d", "#8e44ad"];
+const COLOURS: [&str; 6] = [
+    "#1b6ca8", "#c0392b", "#27864d", "#8e44ad", "#b7791f", "#4a5568",
+];
 
 fn draw_point<W: Write>(
     out: &mut W,
@@ -265,7 +270,7 @@ fn draw_point<W: Write>(
 ) -> io::Result<()>
     requires { 0 < places }
 {
-    let colour = COLOURS[policy % 4];
+    let colour = COLOURS[policy % 6];
     let x = 60 + (place as u128 * 540) / (places as u128);
     let y = 360 - (row.hit_ratio().min(10_000) * 340) / 10_000;
     writeln!(

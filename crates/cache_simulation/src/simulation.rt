@@ -1,5 +1,6 @@
 //! A trace from its first line to the report.
 
+use crate::bounds::{Bound, find_bounds, write_bounds};
 use crate::layout::Refused;
 use crate::options::{Options, Policy};
 use crate::player::{Player, front};
@@ -88,7 +89,16 @@ pub fn simulate<C: Clock + Files, R: Read + Drop, W: Write + Drop, E: Write>(
     }
     read.warn(options, errors)?;
     take_rows(&mut player, &mut rows)?;
-    report(rt, alloc, options, rows.as_slice(), output)?;
+    let until = player.until().map_err(|_| Stop::Memory)?;
+    let bounds = find_bounds(rt, alloc, options, distinct, until, errors)?;
+    report(
+        rt,
+        alloc,
+        options,
+        rows.as_slice(),
+        bounds.as_slice(),
+        output,
+    )?;
     match read.stopped {
         Some(lines) => Err(Stop::BadLines(lines)),
         None => Ok(()),
@@ -305,10 +315,12 @@ fn report<C: Files, W: Write + Drop>(
     alloc: Global,
     options: &Options,
     rows: &[Row],
+    bounds: &[Bound],
     output: W,
 ) -> Result<(), Stop> {
     let mut writer = BufWriter::new(alloc, output).map_err(Stop::Io)?;
     write_rows(&mut writer, options.output, rows).map_err(Stop::Io)?;
+    write_bounds(&mut writer, options.output, bounds).map_err(Stop::Io)?;
     writer.flush().map_err(Stop::Io)?;
     if let Some(path) = &options.plot {
         let mut drawing = Vec::new(alloc);

@@ -42,14 +42,14 @@ keys_forgot (e ∷ x) y k v w = ap (λ ks. e.0 ∷ ks) (keys_forgot x y k v w)
 plain_at : (x y : Queue) (k : CacheEntryKey) (v : Seen) → plain (x ++ (k, v) ∷ y) ≡ plain x ++ (k, v.weight) ∷ plain y
 plain_at x y k v = plain-append x ((k, v) ∷ y)
 
-over_whole : (limits : Limits) (coming q : Queue) (size count : ℕ) → Coming (plain coming) size count → ¬ HasRoom limits size count (plain q) → ¬ IsWithinAsList limits (plain (coming ++ q))
+pub over_whole : (limits : Limits) (coming q : Queue) (size count : ℕ) → Coming (plain coming) size count → ¬ HasRoom limits size count (plain q) → ¬ IsWithinAsList limits (plain (coming ++ q))
 over_whole limits coming q size count c over = λ w. over (room_of limits (plain coming) (plain q) size count c (subst (IsWithinAsList limits) (plain-append coming q) w))
 
-abbrev Runs : Limits → List CacheEntryKey → Queue → Recency → Type 0
+abbrev pub Runs : Limits → List CacheEntryKey → Queue → Recency → Type 0
 Runs limits out q left = Run limits out (plain q) left
 
 -- one entry goes, with what goes then
-drops : (limits : Limits) (out : List CacheEntryKey) (q x y : Queue) (k : CacheEntryKey) (v : Seen) (left : Recency) → IsOnce q → ¬ IsWithinAsList limits (plain q) → q ≡ x ++ (k, v) ∷ y → (IsOnce (x ++ y) → Runs limits out (x ++ y) left) → Runs limits (k ∷ out) q left
+pub drops : (limits : Limits) (out : List CacheEntryKey) (q x y : Queue) (k : CacheEntryKey) (v : Seen) (left : Recency) → IsOnce q → ¬ IsWithinAsList limits (plain q) → q ≡ x ++ (k, v) ∷ y → (IsOnce (x ++ y) → Runs limits out (x ++ y) left) → Runs limits (k ∷ out) q left
 drops limits out q x y k v left once over is rest =
     run-first limits out (plain q) left (plain x) (plain y) k v.weight (once-plain q once) over (ap plain is ∙ plain_at x y k v)
     (λ apart. subst (λ l. Run limits out l left) (plain-append x y) (rest (once_both apart)))

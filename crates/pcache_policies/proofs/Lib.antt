@@ -2,7 +2,10 @@ pub mod FifoMaps
 pub mod FifoRooms
 pub mod FifoSteps
 pub mod GhostKeys
+pub mod InTurn
 pub mod Leavings
+pub mod QueueMaps
+pub mod QueueRooms
 pub mod Queues
 pub mod Rings
 pub mod SieveMaps

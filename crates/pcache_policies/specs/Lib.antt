@@ -1,5 +1,6 @@
 pub mod Fifos
 pub mod Leaving
+pub mod OneQueue
 pub mod Queue
 pub mod Ring
 pub mod S3Fifo

@@ -30,6 +30,11 @@ shown r = sieve r.ahead (r.leaving ++ r.passed)
 abbrev pub left_of : Ring → Sieve
 left_of r = sieve r.ahead r.passed
 
+-- the list as a queue, for policies that add new entries behind the hand: the hand is at the oldest entry, and what it passed is
+-- newer than what is ahead of it
+abbrev pub in_turn : Sieve → Queue
+in_turn s = s.passed ++ s.ahead
+
 -- its entries are distinct, and fewer than 2 ^ 63
 pub record IsRing (ahead leaving passed : Queue) : Type 0 where
   pub once : IsOnce (ahead ++ (leaving ++ passed))

@@ -1,6 +1,7 @@
 //! The order in which these managers keep their entries, for callers that know no manager.
 
-use crate::{s3_fifo, sieve};
+use crate::one_queue::Uses;
+use crate::{one_queue, s3_fifo, sieve};
 use pcache_base::error::Result;
 use pcache_base::moment::Moment;
 use pcache_evict::eviction::CacheEntryKey;
@@ -96,6 +97,54 @@ impl OrderedManager for s3_fifo::Manager {
         fresh_until: Moment,
     ) -> Result<bool> {
         let was = s3_fifo::Manager::access(self, item, size, fresh_until)?;
+        Ok(was)
+    }
+}
+
+impl<U: Uses> OrderedManager for one_queue::Manager<U> {
+    ghost use Rattle.std.specs.Prelude.{refl};
+    ghost use Rattle.pcache_policies.specs.Queue.{Queue};
+    ghost use Rattle.pcache_policies.specs.OneQueue.{queue_policy};
+
+    ghost Order = { Queue };
+
+    ghost policy = { queue_policy U.used };
+
+    ghost order = { λ m. m.queue };
+
+    ghost listed = { λ m. refl };
+
+    fn admit_in_order(
+        &mut self,
+        item: CacheEntryKey,
+        size: usize,
+        fresh_until: Moment,
+    ) -> Result<Vec<CacheEntryKey>> {
+        let out = one_queue::Manager::admit(self, item, size, fresh_until)?;
+        Ok(out)
+    }
+
+    fn increment_in_order(
+        &mut self,
+        item: &CacheEntryKey,
+        delta: usize,
+        max_weight: Option<usize>,
+    ) -> Result<Vec<CacheEntryKey>> {
+        let out = one_queue::Manager::increment_weight(self, item, delta, max_weight)?;
+        Ok(out)
+    }
+
+    fn remove_in_order(&mut self, item: &CacheEntryKey) {
+        one_queue::Manager::remove(self, item);
+    }
+
+    fn access_in_order(
+        &mut self,
+        item: &CacheEntryKey,
+        size: usize,
+        fresh_until: Moment,
+    ) -> Result<bool> {
+        let was = one_queue::Manager::access(self, item, size, fresh_until)?;
         Ok(was)
     }
 }

@@ -10,7 +10,7 @@ ghost use Rattle.pcache_policies.specs.declared.queue.Seen.{Seen};
 ghost use Rattle.pcache_policies.specs.Queue.{Queue, IsOnce, plain, seen_of, rest_of, reseen, unused};
 ghost use Rattle.pcache_policies.specs.Leaving.{HasRoom};
 ghost use Rattle.pcache_policies.specs.Sieve.{entered, entries, turned, MakesRoom};
-ghost use Rattle.pcache_policies.specs.Ring.{Ring, ring, all, shown, left_of, Steps, Chooses, SameEntries, chosen};
+ghost use Rattle.pcache_policies.specs.Ring.{Ring, ring, all, shown, in_turn, left_of, Steps, Chooses, SameEntries, chosen};
 
 use crate::queue::{Queue, Seen};
 use pcache_base::error::{Error, ErrorType, Result};
@@ -457,6 +457,17 @@ impl Ring {
     {
         let (key, _) = self.leaving.pop()?;
         Some(key)
+    }
+
+    /// Adds copies of the entries with their weights, those first that were passed.
+    pub(crate) fn copy_in_turn(&self, list: &mut Vec<(CacheEntryKey, usize)>) -> Result<()>
+        ensures ok { OnOk result
+            (list.new.items ≡ list.old.items ++ plain (in_turn (shown self.now))) }
+        ensures kind { IfErr result (λ e. e ≡ OutOfMemory) }
+    {
+        self.leaving.copy_into(list)?;
+        self.passed.copy_into(list)?;
+        self.ahead.copy_into(list)
     }
 
     /// Adds copies of the entries with their weights, the newest first.

@@ -4,6 +4,8 @@
 //! `bench/simulators.py`, which were written from the papers; the other expected values are hand-computed.
 
 #[cfg(test)]
+mod bounds;
+#[cfg(test)]
 mod managers;
 #[cfg(test)]
 mod options;

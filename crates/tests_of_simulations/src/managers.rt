@@ -5,7 +5,7 @@ use pcache_base::moment::Moment;
 use pcache_base::seed::Seed;
 use pcache_base::text::Text;
 use pcache_evict::eviction::{CacheEntryKey, EvictionManager};
-use pcache_policies::{s3_fifo, sieve};
+use pcache_policies::{clock, fifo, s3_fifo, sieve};
 use std::alloc::Global;
 
 const NEVER_READ: Moment = Moment::EPOCH;
@@ -77,5 +77,19 @@ fn sieve_is_a_manager(rt: HostRuntime) {
 fn s3_fifo_is_a_manager(rt: HostRuntime) {
     let alloc = rt.alloc();
     let manager = s3_fifo::Manager::new_with_watermark(alloc, Seed::fixed(), 4, Some(2));
+    assert!(rt; is_one(alloc, manager));
+}
+
+#[test]
+fn fifo_is_a_manager(rt: HostRuntime) {
+    let alloc = rt.alloc();
+    let manager = fifo::Manager::new_with_watermark(alloc, Seed::fixed(), 4, Some(2));
+    assert!(rt; is_one(alloc, manager));
+}
+
+#[test]
+fn clock_is_a_manager(rt: HostRuntime) {
+    let alloc = rt.alloc();
+    let manager = clock::Manager::new_with_watermark(alloc, Seed::fixed(), 4, Some(2));
     assert!(rt; is_one(alloc, manager));
 }

@@ -75,7 +75,7 @@ impl Desk for CommandLine {
 
 fn tell_option(options: &Options, name: &str, told: &mut Told) {
     match name {
-        "policy" => told.named(&options.policies),
+        "policy" => tell_policies(options, told),
         "size" => tell_sizes(options, told),
         "trace" => told.named(&options.trace),
         "distinct" => told.named(&options.distinct),
@@ -96,6 +96,13 @@ fn tell_option(options: &Options, name: &str, told: &mut Told) {
     }
 }
 
+fn tell_policies(options: &Options, told: &mut Told) {
+    told.named(&options.policies);
+    if options.is_bounded {
+        told.say(" and at most");
+    }
+}
+
 fn tell_sizes(options: &Options, told: &mut Told) {
     told.named(&options.sizes);
     if options.have_share() {
@@ -104,9 +111,15 @@ fn tell_sizes(options: &Options, told: &mut Told) {
 }
 
 const READ: &str = "
-    policy lru,sharded:16,sieve,s3-fifo -> [Lru, Sharded, Sieve, S3Fifo]
+    policy lru,sharded:16,sieve,s3-fifo,fifo,clock -> [Lru, Sharded, Sieve, S3Fifo, Fifo, Clock]
     policy lru, sieve -> [Lru, Sieve]
-    policy lru,arc -> --policy cannot be \"arc\"; it is lru, sharded:16, sieve or s3-fifo, or several of them with commas
+    policy lru,arc -> --policy cannot be \"arc\"; it is lru, sharded:16, sieve, s3-fifo, fifo, clock or belady, or several of them with commas
+    policy lru,belady; trace a.csv; ignore-size -> [Lru] and at most
+    policy belady; trace a.csv -> --policy cannot be \"belady\"; it is belady only with --trace and --ignore-size, and without --ttl, --watermark and --interval
+    policy belady; ignore-size -> --policy cannot be \"belady\"; it is belady only with --trace and --ignore-size, and without --ttl, --watermark and --interval
+    policy belady; trace a.csv; ignore-size; ttl 60 -> --policy cannot be \"belady\"; it is belady only with --trace and --ignore-size, and without --ttl, --watermark and --interval
+    policy belady; trace a.csv; ignore-size; watermark 5 -> --policy cannot be \"belady\"; it is belady only with --trace and --ignore-size, and without --ttl, --watermark and --interval
+    policy belady; trace a.csv; ignore-size; interval 5 -> --policy cannot be \"belady\"; it is belady only with --trace and --ignore-size, and without --ttl, --watermark and --interval
     size 7,10MB,1KiB,2GB -> [Bytes(7), Bytes(10000000), Bytes(1024), Bytes(2000000000)]
     size 1G, 1.5MB, 0.5KiB -> [Bytes(1000000000), Bytes(1500000), Bytes(512)]
     size 1%,0.5% -> [Share(1000000), Share(500000)] of all

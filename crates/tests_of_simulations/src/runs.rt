@@ -12,7 +12,7 @@ use pcache_base::seed::Seed;
 use pcache_base::text::Text;
 use pcache_evict::eviction::ordered::OrderedManager;
 use pcache_evict::eviction::{CacheEntryKey, EvictionManager, sharded_lru, simple_lru};
-use pcache_policies::{s3_fifo, sieve};
+use pcache_policies::{clock, fifo, s3_fifo, sieve};
 use std::alloc::Global;
 use std::process::Abort;
 use std::time::Duration;
@@ -39,6 +39,14 @@ impl Desk for Made {
             }
             "sieve" => {
                 let manager = sieve::Manager::new(alloc, seed, limit);
+                tell_run(alloc, manager, cache, requests, told);
+            }
+            "fifo" => {
+                let manager = fifo::Manager::new(alloc, seed, limit);
+                tell_run(alloc, manager, cache, requests, told);
+            }
+            "clock" => {
+                let manager = clock::Manager::new(alloc, seed, limit);
                 tell_run(alloc, manager, cache, requests, told);
             }
             _ => {
@@ -138,7 +146,12 @@ const USED: &str = "
     lru 3 pass: a 1, b 1, c 1, a 1, a 1, d 1, b 1, e 1, a 1, c 1, f 1, b 1, a 1, g 1, d 1, a 1, a 1, b 1 -> ---++----------++- | 18 of 18, 14 of 14 missed, 11 went, 3 tracked
     sharded 3 pass: a 1, b 1, c 1, a 1, a 1, d 1, b 1, e 1, a 1, c 1, f 1, b 1, a 1, g 1, d 1, a 1, a 1, b 1 -> ---++----------++- | 18 of 18, 14 of 14 missed, 11 went, 3 tracked
     sieve 3 pass: a 1, b 1, c 1, a 1, a 1, d 1, b 1, e 1, a 1, c 1, f 1, b 1, a 1, g 1, d 1, a 1, a 1, b 1 -> ---++---+---+--++- | 18 of 18, 12 of 12 missed, 9 went, 3 tracked
-    s3-fifo 3 pass: a 1, b 1, c 1, a 1, a 1, d 1, b 1, e 1, a 1, c 1, f 1, b 1, a 1, g 1, d 1, a 1, a 1, b 1 -> ---++---+---+--++- | 18 of 18, 12 of 12 missed, 9 went, 3 tracked";
+    s3-fifo 3 pass: a 1, b 1, c 1, a 1, a 1, d 1, b 1, e 1, a 1, c 1, f 1, b 1, a 1, g 1, d 1, a 1, a 1, b 1 -> ---++---+---+--++- | 18 of 18, 12 of 12 missed, 9 went, 3 tracked
+    fifo 3 pass: a 1, b 1, c 1, a 1, a 1, d 1, b 1, e 1, a 1, c 1, f 1, b 1, a 1, g 1, d 1, a 1, a 1, b 1 -> ---++-+--------++- | 18 of 18, 13 of 13 missed, 10 went, 3 tracked
+    clock 3 pass: a 1, b 1, c 1, a 1, a 1, d 1, b 1, e 1, a 1, c 1, f 1, b 1, a 1, g 1, d 1, a 1, a 1, b 1 -> ---++----------++- | 18 of 18, 14 of 14 missed, 11 went, 3 tracked
+    # an entry that was used is spared once, or not at all
+    fifo 3 pass: a 1, b 1, c 1, a 1, b 1, d 1, a 1, b 1, e 1, f 1, b 1 -> ---++-----+ | 11 of 11, 8 of 8 missed, 5 went, 3 tracked
+    clock 3 pass: a 1, b 1, c 1, a 1, b 1, d 1, a 1, b 1, e 1, f 1, b 1 -> ---++-++--+ | 11 of 11, 6 of 6 missed, 3 went, 3 tracked";
 
 #[test]
 fn each_policy_keeps_its_own(rt: HostRuntime) {
@@ -149,13 +162,17 @@ const WEIGHED: &str = "
     lru 8 pass: a 5, b 3, a 5, c 4, a 5, b 3, a 5, d 2, b 3, c 4, b 3, d 2, c 4, a 5, e 9, d 2 -> --+---+---+----- | 16 of 64, 13 of 51 missed, 10 went, 7 tracked
     sieve 8 pass: a 5, b 3, a 5, c 4, a 5, b 3, a 5, d 2, b 3, c 4, b 3, d 2, c 4, a 5, e 9, d 2 -> --+---+---+----- | 16 of 64, 13 of 51 missed, 10 went, 7 tracked
     s3-fifo 8 pass: a 5, b 3, a 5, c 4, a 5, b 3, a 5, d 2, b 3, c 4, b 3, d 2, c 4, a 5, e 9, d 2 -> --+---+-+------- | 16 of 64, 13 of 51 missed, 10 went, 7 tracked
+    fifo 8 pass: a 5, b 3, a 5, c 4, a 5, b 3, a 5, d 2, b 3, c 4, b 3, d 2, c 4, a 5, e 9, d 2 -> --+---+-+------- | 16 of 64, 13 of 51 missed, 10 went, 7 tracked
+    clock 8 pass: a 5, b 3, a 5, c 4, a 5, b 3, a 5, d 2, b 3, c 4, b 3, d 2, c 4, a 5, e 9, d 2 -> --+---+---+----- | 16 of 64, 13 of 51 missed, 10 went, 7 tracked
     # bodies above the limit
     lru 8 pass: a 2, b 3, z 50, a 2, b 3, z 50, c 4, a 2 -> ---++--- | 8 of 116, 6 of 111 missed, 2 went, 6 tracked
     lru 8 evict: a 2, b 3, z 50, a 2, b 3, z 50, c 4, a 2 -> -------- | 8 of 116, 8 of 116 missed, 6 went, 6 tracked
     sieve 8 pass: a 2, b 3, z 50, a 2, b 3, z 50, c 4, a 2 -> ---++--- | 8 of 116, 6 of 111 missed, 2 went, 6 tracked
     sieve 8 evict: a 2, b 3, z 50, a 2, b 3, z 50, c 4, a 2 -> -------- | 8 of 116, 8 of 116 missed, 6 went, 6 tracked
     s3-fifo 8 pass: a 2, b 3, z 50, a 2, b 3, z 50, c 4, a 2 -> ---++--- | 8 of 116, 6 of 111 missed, 2 went, 6 tracked
-    s3-fifo 8 evict: a 2, b 3, z 50, a 2, b 3, z 50, c 4, a 2 -> -------- | 8 of 116, 8 of 116 missed, 6 went, 6 tracked";
+    s3-fifo 8 evict: a 2, b 3, z 50, a 2, b 3, z 50, c 4, a 2 -> -------- | 8 of 116, 8 of 116 missed, 6 went, 6 tracked
+    fifo 8 evict: a 2, b 3, z 50, a 2, b 3, z 50, c 4, a 2 -> -------- | 8 of 116, 8 of 116 missed, 6 went, 6 tracked
+    clock 8 evict: a 2, b 3, z 50, a 2, b 3, z 50, c 4, a 2 -> -------- | 8 of 116, 8 of 116 missed, 6 went, 6 tracked";
 
 #[test]
 fn bodies_have_weights(rt: HostRuntime) {
@@ -184,6 +201,10 @@ const PAST: &str = "
     sieve 3 pass 10 replace: a 1 0, b 1 0, c 1 0, a 1 11, d 1 11, e 1 11, f 1 11, a 1 11 -> -------- | 8 of 8, 8 of 8 missed, 4 went, 3 tracked
     s3-fifo 3 pass 10 use: b 1 0, e 1 3, a 1 6, e 1 9, b 1 12, c 1 15, e 1 18 -> ---+--- | 7 of 7, 6 of 6 missed, 1 went, 3 tracked
     s3-fifo 3 pass 10 replace: b 1 0, e 1 3, a 1 6, e 1 9, b 1 12, c 1 15, e 1 18 -> ---+--- | 7 of 7, 6 of 6 missed, 2 went, 3 tracked
+    # `a` stays the oldest of a queue, or comes in anew
+    fifo 3 pass 10 use: a 1 0, b 1 0, c 1 0, a 1 11, d 1 11, a 1 11 -> ------ | 6 of 6, 6 of 6 missed, 2 went, 3 tracked
+    fifo 3 pass 10 replace: a 1 0, b 1 0, c 1 0, a 1 11, d 1 11, a 1 11 -> -----+ | 6 of 6, 5 of 5 missed, 1 went, 3 tracked
+    clock 3 pass 10 use: a 1 0, b 1 0, c 1 0, a 1 11, d 1 11, a 1 11 -> -----+ | 6 of 6, 5 of 5 missed, 1 went, 3 tracked
     # a size that changed: a hit counts as it was asked for and leaves the weight, and what comes in anew has the new one
     lru 9 pass 10 use: a 2 0, a 5 1, a 5 11 -> -+- | 3 of 12, 2 of 7 missed, 0 went, 5 tracked
     lru 9 pass 10 use: a 2 0, a 5 1 -> -+ | 2 of 7, 1 of 2 missed, 0 went, 2 tracked

@@ -2,6 +2,7 @@ use Rattle.std.proofs.Common.{ap, subst}
 use Rattle.pcache_evict.specs.Policy.{lru, sharded}
 use Rattle.pcache_policies.specs.Sieve.{sieve_policy}
 use Rattle.pcache_policies.specs.S3Fifo.{s3_fifo_policy}
+use Rattle.pcache_policies.specs.OneQueue.{fifo, clock}
 use Rattle.cache_simulation.specs.declared.cache.AnyRun.{AnyRun}
 use Rattle.cache_simulation.specs.Caches.{Stands}
 use Rattle.cache_simulation.proofs.Marks.{marked}
@@ -43,3 +44,21 @@ returns-in-S3Fifo-clause-served c = λ before asked rules start base stands.
     (rules-same _ _ _ _ _ _ (ap (λ m. m.limits) c.mark-in-S3Fifo.ensures.manager) c.mark-in-S3Fifo.ensures.most c.mark-in-S3Fifo.ensures.replaces)
     c.mark-in-S3Fifo.ensures.evicted c.mark-in-S3Fifo.ensures.served
     (subst (λ (r : AnyRun). Stands before asked rules start base r) c.in-S3Fifo.is stands)
+
+pub returns-in-Fifo-clause-served : goal.returns-in-Fifo-clause-served
+returns-in-Fifo-clause-served c = λ before asked rules start base stands.
+    let old = c.in-Fifo.run' in
+    let new = c.mark-in-Fifo.new.self in
+    marked fifo before asked rules _ _ start base c.mark-in-Fifo.result _ _ _ _ _ _
+    (rules-same _ _ _ _ _ _ (ap (λ m. m.limits) c.mark-in-Fifo.ensures.manager) c.mark-in-Fifo.ensures.most c.mark-in-Fifo.ensures.replaces)
+    c.mark-in-Fifo.ensures.evicted c.mark-in-Fifo.ensures.served
+    (subst (λ (r : AnyRun). Stands before asked rules start base r) c.in-Fifo.is stands)
+
+pub returns-in-Clock-clause-served : goal.returns-in-Clock-clause-served
+returns-in-Clock-clause-served c = λ before asked rules start base stands.
+    let old = c.in-Clock.run' in
+    let new = c.mark-in-Clock.new.self in
+    marked clock before asked rules _ _ start base c.mark-in-Clock.result _ _ _ _ _ _
+    (rules-same _ _ _ _ _ _ (ap (λ m. m.limits) c.mark-in-Clock.ensures.manager) c.mark-in-Clock.ensures.most c.mark-in-Clock.ensures.replaces)
+    c.mark-in-Clock.ensures.evicted c.mark-in-Clock.ensures.served
+    (subst (λ (r : AnyRun). Stands before asked rules start base r) c.in-Clock.is stands)

@@ -1,6 +1,7 @@
 use Rattle.std.proofs.Common.{subst}
 use Rattle.std.proofs.lemmas.Result.{on_ok_weaker}
 use Rattle.pcache_evict.specs.Policy.{sharded}
+use Rattle.pcache_policies.specs.OneQueue.{fifo}
 use Rattle.cache_simulation.specs.declared.cache.AnyRun.{AnyRun}
 use Rattle.cache_simulation.specs.Caches.{Stands}
 use Rattle.cache_simulation.proofs.Marks.{played}
@@ -12,3 +13,9 @@ returns-in-Sharded-clause-served c = on_ok_weaker c.play-in-Sharded.result (λ s
     played (sharded 16) before asked c.args.requests.now rules _ _ start base _ _ _ _ _ _
     (rules-same _ _ _ _ _ _ c.play-in-Sharded.ensures.limits c.play-in-Sharded.ensures.most c.play-in-Sharded.ensures.replaces) serves
     (subst (λ (r : AnyRun). Stands before asked rules start base r) c.in-Sharded.is stands)) c.play-in-Sharded.ensures.served
+
+pub returns-in-Fifo-clause-served : goal.returns-in-Fifo-clause-served
+returns-in-Fifo-clause-served c = on_ok_weaker c.play-in-Fifo.result (λ serves. λ before asked rules start base stands.
+    played fifo before asked c.args.requests.now rules _ _ start base _ _ _ _ _ _
+    (rules-same _ _ _ _ _ _ c.play-in-Fifo.ensures.limits c.play-in-Fifo.ensures.most c.play-in-Fifo.ensures.replaces) serves
+    (subst (λ (r : AnyRun). Stands before asked rules start base r) c.in-Fifo.is stands)) c.play-in-Fifo.ensures.served

@@ -2,6 +2,7 @@ use Rattle.std.proofs.Common.{sym, subst}
 use Rattle.pcache_evict.specs.Policy.{lru, sharded}
 use Rattle.pcache_policies.specs.Sieve.{sieve_policy}
 use Rattle.pcache_policies.specs.S3Fifo.{s3_fifo_policy}
+use Rattle.pcache_policies.specs.OneQueue.{fifo, clock}
 use Rattle.cache_simulation.specs.declared.cache.AnyRun.{AnyRun}
 use Rattle.cache_simulation.specs.declared.options.Policy.{Policy as Named}
 use Rattle.cache_simulation.specs.Caches.{RanBy, Stands}
@@ -35,3 +36,17 @@ returns-in-S3Fifo-clause-ran c = λ before asked rules start stands.
     subst (λ (q : Named). RanBy q before asked rules start told) (sym c.told_of-in-S3Fifo.ensures.policy)
     (told-as s3_fifo_policy before asked rules _ start c.args.gone _ _ _ told c.told_of-in-S3Fifo.ensures.counts c.told_of-in-S3Fifo.ensures.evicted c.told_of-in-S3Fifo.ensures.tracked
     (subst (λ (r : AnyRun). Stands before asked rules start c.args.gone r) c.in-S3Fifo.is stands))
+
+pub returns-in-Fifo-clause-ran : goal.returns-in-Fifo-clause-ran
+returns-in-Fifo-clause-ran c = λ before asked rules start stands.
+    let told = c.told_of-in-Fifo.result in
+    subst (λ (q : Named). RanBy q before asked rules start told) (sym c.told_of-in-Fifo.ensures.policy)
+    (told-as fifo before asked rules _ start c.args.gone _ _ _ told c.told_of-in-Fifo.ensures.counts c.told_of-in-Fifo.ensures.evicted c.told_of-in-Fifo.ensures.tracked
+    (subst (λ (r : AnyRun). Stands before asked rules start c.args.gone r) c.in-Fifo.is stands))
+
+pub returns-in-Clock-clause-ran : goal.returns-in-Clock-clause-ran
+returns-in-Clock-clause-ran c = λ before asked rules start stands.
+    let told = c.told_of-in-Clock.result in
+    subst (λ (q : Named). RanBy q before asked rules start told) (sym c.told_of-in-Clock.ensures.policy)
+    (told-as clock before asked rules _ start c.args.gone _ _ _ told c.told_of-in-Clock.ensures.counts c.told_of-in-Clock.ensures.evicted c.told_of-in-Clock.ensures.tracked
+    (subst (λ (r : AnyRun). Stands before asked rules start c.args.gone r) c.in-Clock.is stands))

@@ -1,0 +1,228 @@
+//! The most hits that caches can have if all bodies have one size, beside the rows of the policies.
+
+use crate::options::{Options, Output, Setting};
+use crate::player::front;
+use crate::reader::Reader;
+use crate::report::{ratio, write_part, write_setting, write_settings};
+use crate::simulation::Stop;
+use belady::kept::most_hits;
+use belady::requests::next_requests;
+use pcache_base::key::hash_key;
+use std::alloc::Global;
+use std::io::{Read, Write};
+use std::rt::Files;
+use std::{fs, io};
+
+/// The most hits of a cache of some size over a trace, and the options that they depend on.
+#[derive(Clone, Copy, Debug)]
+pub struct Bound {
+    /// Its size, in bodies.
+    pub size: usize,
+    /// How many requests were read and are counted: those of the sample.
+    pub requests: u64,
+    /// How many of these are hits.
+    pub hits: u64,
+    /// How many lines of the trace are before those that are counted.
+    pub from: u64,
+    /// How many there are with those.
+    pub until: u64,
+    /// How many requests were to be expected in the sample.
+    pub expected: u64,
+    /// What all caches have in common.
+    pub setting: Setting,
+}
+
+impl Bound {
+    /// The hits that these stand for, as in the rows of policies.
+    pub fn corrected_hits(&self) -> u64 {
+        self.expected
+            .saturating_sub(self.requests.saturating_sub(self.hits))
+    }
+}
+
+// The bodies that the sample's requests ask for.
+#[derive(Drop)]
+struct Bodies {
+    // By their keys' hashes, in the order of the requests.
+    asked: Vec<u128>,
+    // How many of these are before those that are counted.
+    uncounted: usize,
+}
+
+/// The bounds of each size, over the first `until` requests of the trace; none if they are not wanted.
+pub(crate) fn find_bounds<C: Files, E: Write>(
+    rt: &C,
+    alloc: Global,
+    options: &Options,
+    distinct: u64,
+    until: u64,
+    errors: &mut E,
+) -> Result<Vec<Bound>, Stop> {
+    let mut bounds = Vec::new(alloc);
+    let Some(path) = &options.trace else {
+        return Ok(bounds);
+    };
+    if !options.is_bounded {
+        return Ok(bounds);
+    }
+    let file = fs::open(rt, path.as_str()).map_err(Stop::Io)?;
+    let reader = Reader::new(alloc, options, file)?;
+    let bodies = read_bodies(alloc, options, reader, until, errors)?;
+    let Ok(nexts) = next_requests(alloc, bodies.asked.as_slice()) else {
+        return Err(Stop::Memory);
+    };
+    for size in options.sizes.as_slice() {
+        let size = size.in_bytes(distinct);
+        let bound = bound_of(
+            alloc,
+            options,
+            nexts.as_slice(),
+            size,
+            bodies.uncounted,
+            until,
+        )?;
+        bounds.push(bound).map_err(|_| Stop::Memory)?;
+    }
+    Ok(bounds)
+}
+
+fn bound_of(
+    alloc: Global,
+    options: &Options,
+    nexts: &[Option<usize>],
+    size: usize,
+    uncounted: usize,
+    until: u64,
+) -> Result<Bound, Stop> {
+    let setting = options.setting;
+    let limit = setting.sample.scaled(size);
+    let Ok(hits) = most_hits(alloc, nexts, limit, uncounted) else {
+        return Err(Stop::Memory);
+    };
+    let from = options.warmup.min(until);
+    Ok(Bound {
+        size,
+        requests: nexts.len().saturating_sub(uncounted) as u64,
+        hits: hits as u64,
+        from,
+        until,
+        expected: setting.sample.expected(until - from),
+        setting,
+    })
+}
+
+fn read_bodies<R: Read + Drop, E: Write>(
+    alloc: Global,
+    options: &Options,
+    mut reader: Reader<R>,
+    until: u64,
+    errors: &mut E,
+) -> Result<Bodies, Stop> {
+    let mut bodies = Bodies {
+        asked: Vec::new(alloc),
+        uncounted: 0,
+    };
+    let mut number = 0;
+    while number < until && reader.advance(errors)? {
+        let Ok(Some(asked)) = reader.asked() else {
+            continue;
+        };
+        let primary = hash_key(asked.key.as_bytes());
+        if options.setting.sample.has(front(primary)) {
+            bodies
+                .asked
+                .push(u128::from_be_bytes(primary))
+                .map_err(|_| Stop::Memory)?;
+        }
+        number += 1;
+        if number <= options.warmup {
+            bodies.uncounted = bodies.asked.len();
+        }
+    }
+    Ok(bodies)
+}
+
+/// Writes the bounds, as rows of a policy `belady` that tells no evictions.
+pub(crate) fn write_bounds<W: Write>(
+    out: &mut W,
+    output: Output,
+    bounds: &[Bound],
+) -> io::Result<()> {
+    for bound in bounds {
+        match output {
+            Output::Csv => write_values(out, bound)?,
+            Output::Json => write_object(out, bound)?,
+            Output::Table => write_line(out, bound)?,
+        }
+    }
+    Ok(())
+}
+
+fn write_values<W: Write>(out: &mut W, bound: &Bound) -> io::Result<()> {
+    let Bound {
+        size,
+        requests,
+        hits,
+        expected,
+        ..
+    } = *bound;
+    let corrected = bound.corrected_hits();
+    write!(out, "belady,{size},{requests},{hits},{requests},{hits},,,")?;
+    write!(out, "{expected},{corrected},{expected},{corrected},")?;
+    write_settings(out, &bound.setting)?;
+    writeln!(out, ",{},{}", bound.from, bound.until)
+}
+
+fn write_object<W: Write>(out: &mut W, bound: &Bound) -> io::Result<()> {
+    let Bound {
+        size,
+        requests,
+        hits,
+        expected,
+        ..
+    } = *bound;
+    let corrected = bound.corrected_hits();
+    write!(out, "{{\"policy\":\"belady\",\"size\":{size},")?;
+    write!(
+        out,
+        "\"requests\":{requests},\"hits\":{hits},\"bytes\":{requests},\"hit_bytes\":{hits},"
+    )?;
+    write!(out, "\"evicted\":null,\"tracked\":null,")?;
+    write!(
+        out,
+        "\"expected_requests\":{expected},\"corrected_hits\":{corrected},"
+    )?;
+    write!(
+        out,
+        "\"expected_bytes\":{expected},\"corrected_hit_bytes\":{corrected},"
+    )?;
+    write_setting(out, &bound.setting)?;
+    writeln!(out, ",\"from\":{},\"until\":{}}}", bound.from, bound.until)
+}
+
+fn write_line<W: Write>(out: &mut W, bound: &Bound) -> io::Result<()> {
+    if bound.from > 0 {
+        write_part(out, bound.from, bound.until)?;
+    }
+    let share = ratio(
+        u128::from(bound.corrected_hits()),
+        u128::from(bound.expected),
+    );
+    write!(
+        out,
+        "belady of {} bytes: {} requests",
+        bound.size, bound.requests
+    )?;
+    if bound.setting.sample.is_all() {
+        write!(out, ", at most {} hits ", bound.hits)?;
+    } else {
+        let corrected = bound.corrected_hits();
+        write!(out, " read and {} to be expected, ", bound.expected)?;
+        write!(
+            out,
+            "at most {} hits and {corrected} corrected ",
+            bound.hits
+        )?;
+    }
+    writeln!(out, "({}.{:02}%)", share / 100, share % 100)
+}

@@ -1,0 +1,117 @@
+-- A list with a hand as a queue.
+use Rattle.std.proofs.Common.{◌≡◌, ℕ, ◌+◌, ◌≤◌, Bool, true, false, cond, Option, None, Some, List, [], ◌∷◌, ◌++◌, refl, ap, sym, subst, ◌∙◌, arith, inl, inr, length, length-append, append_assoc, append-nil}
+use Rattle.std.specs.Prelude.{◌≢◌, IfSome, ◌⊎◌}
+use Rattle.std.proofs.lemmas.List.Sums.{sum_by-append}
+use Rattle.std.proofs.lemmas.Map.Keys.{IsDistinct-head, IsDistinct-tail}
+use Rattle.std.specs.Map.{keys_of}
+use Rattle.pcache_evict.specs.declared.eviction.entry_key.CacheEntryKey.{CacheEntryKey}
+use Rattle.pcache_evict.specs.Entry.{entry_eq}
+use Rattle.pcache_evict.specs.Tracked.{Limits}
+use Rattle.pcache_evict.specs.Recency.{weight, IsWithinAsList}
+use Rattle.pcache_evict.specs.Listed.{map_of}
+use Rattle.pcache_evict.proofs.Recency.{same_key, laws}
+use Rattle.pcache_policies.specs.declared.queue.Seen.{Seen}
+use Rattle.pcache_policies.specs.Queue.{Queue, plain, IsOnce, seen_of, rest_of, reseen, unused}
+use Rattle.pcache_policies.specs.Leaving.{HasRoom}
+use Rattle.pcache_policies.specs.Sieve as hand
+use Rattle.pcache_policies.specs.Sieve.{Sieve, sieve, whole, entries}
+use Rattle.pcache_policies.specs.OneQueue.{MakesRoom, rests, spares, goes}
+use Rattle.pcache_policies.specs.Ring.{Ring, ring, all, shown, left_of, chosen, in_turn, SameEntries}
+use Rattle.pcache_policies.proofs.Queues.{E, plain-append, length-plain}
+use Rattle.pcache_policies.proofs.Rings.{Apart, none_apart, apart_none, apart_front, apart_back, apart_both, once_swap, map-swap, reseen-append, rest-append}
+use Rattle.pcache_policies.proofs.SieveRooms.{absent_same, whole_weight}
+
+-- ---- two parts of a queue in the other order
+
+pub weight_swap : (a p : Queue) → weight (plain (a ++ p)) ≡ weight (plain (p ++ a))
+weight_swap a p =
+    let one : weight (plain (a ++ p)) ≡ weight (plain a ++ plain p) = ap weight (plain-append a p) in
+    let two = sum_by-append (λ (e : CacheEntryKey × ℕ). e.1) (plain a) (plain p) in
+    let three : weight (plain (p ++ a)) ≡ weight (plain p ++ plain a) = ap weight (plain-append p a) in
+    let four = sum_by-append (λ (e : CacheEntryKey × ℕ). e.1) (plain p) (plain a) in
+    omega arith
+
+pub length_swap : (a p : Queue) → length (a ++ p) ≡ length (p ++ a)
+length_swap a p = let one = length-append a p in let two = length-append p a in omega arith
+
+plain_length_swap : (a p : Queue) → length (plain (a ++ p)) ≡ length (plain (p ++ a))
+plain_length_swap a p = length-plain (a ++ p) ∙ length_swap a p ∙ sym (length-plain (p ++ a))
+
+pub room_swap : (limits : Limits) (size count : ℕ) (a p : Queue) → HasRoom limits size count (plain (a ++ p)) → HasRoom limits size count (plain (p ++ a))
+room_swap limits size count a p r =
+    record { heavy = subst (λ n. size + n ≤ limits.weight) (weight_swap a p) r.heavy; many = subst (λ n. IfSome limits.watermark (λ most. count + n ≤ most)) (plain_length_swap a p) r.many }
+
+empty_swap : (a p : Queue) → a ++ p ≡ [] → p ++ a ≡ []
+empty_swap [] p e = append-nil p ∙ e
+empty_swap (x ∷ a) p e = cc
+
+pub absent_swap : (k : CacheEntryKey) (a p : Queue) → seen_of k (a ++ p) ≡ None → seen_of k (p ++ a) ≡ None
+absent_swap k a p h = none_apart k (p ++ a) (apart_both k p a (apart_back k a p (apart_none k (a ++ p) h)) (apart_front k a p (apart_none k (a ++ p) h)))
+
+-- an entry is found wherever it is
+found_mid : (k : CacheEntryKey) (e : E) (b a : Queue) → Apart e.0 b → seen_of k (b ++ e ∷ a) ≡ cond (entry_eq k e.0) (Some e.1) (seen_of k (b ++ a))
+found_mid k e [] a h = refl
+found_mid k e (x ∷ b) a h =
+    elim (entry_eq k x.0) as (λ t. entry_eq k x.0 ≡ t → cond t (Some x.1) (seen_of k (b ++ e ∷ a)) ≡ cond (entry_eq k e.0) (Some e.1) (cond t (Some x.1) (seen_of k (b ++ a)))) [
+      | true ↦ λ t.
+          let off : entry_eq k e.0 ≡ false = ap (λ y. entry_eq y e.0) (same_key k x.0 t) ∙ laws.symm x.0 e.0 ∙ h.0 in
+          sym (ap (λ b. cond b (Some e.1) (Some x.1)) off)
+      | false ↦ λ t. found_mid k e b a h.1
+    ] refl
+
+pub found_swap : (k : CacheEntryKey) (a b : Queue) → IsOnce (a ++ b) → seen_of k (a ++ b) ≡ seen_of k (b ++ a)
+found_swap k [] b d = ap (seen_of k) (sym (append-nil b))
+found_swap k (e ∷ a) b d =
+    ap (cond (entry_eq k e.0) (Some e.1)) (found_swap k a b (IsDistinct-tail entry_eq e.0 (keys_of (a ++ b)) d))
+    ∙ sym (found_mid k e b a (apart_back e.0 a b (IsDistinct-head entry_eq e.0 (keys_of (a ++ b)) d)))
+
+-- ---- what the hand does is what the queue does
+
+pub rooms : (limits : Limits) (size count : ℕ) (s t : Sieve) (out : List CacheEntryKey) → hand.MakesRoom limits size count s out t → MakesRoom limits size count (in_turn s) out (in_turn t)
+rooms limits size count s t out (hand.rests s2 h) = rests (in_turn s) (at_rest h)
+  where
+    at_rest : HasRoom limits size count (entries s) ⊎ (whole s ≡ []) → HasRoom limits size count (plain (in_turn s)) ⊎ (in_turn s ≡ [])
+    at_rest (inl r) = inl (room_swap limits size count s.ahead s.passed r)
+    at_rest (inr e) = inr (empty_swap s.ahead s.passed e)
+rooms limits size count s t out (hand.clears s2 m t2 k v out2 over a used p more) =
+    spares (in_turn s) (s.passed ++ m.ahead) (in_turn t) k v out (λ r. over (room_swap limits size count s.passed s.ahead r))
+    (ap (λ a. s.passed ++ a) a ∙ sym (append_assoc s.passed m.ahead ((k, v) ∷ []))) used
+    (subst (λ q. MakesRoom limits size count q out (in_turn t)) (ap (λ p. p ++ m.ahead) p) (rooms limits size count m t out more))
+rooms limits size count s t out (hand.goes s2 m t2 k v out2 over a idle p more) =
+    goes (in_turn s) (s.passed ++ m.ahead) (in_turn t) k v out2 (λ r. over (room_swap limits size count s.passed s.ahead r))
+    (ap (λ a. s.passed ++ a) a ∙ sym (append_assoc s.passed m.ahead ((k, v) ∷ []))) idle
+    (subst (λ q. MakesRoom limits size count q out2 (in_turn t)) (ap (λ p. p ++ m.ahead) p) (rooms limits size count m t out2 more))
+rooms limits size count s t out (hand.turns s2 t2 out2 over a more) =
+    subst (λ q. MakesRoom limits size count q out (in_turn t)) (sym (ap (λ a. s.passed ++ a) a ∙ append-nil s.passed)) (rooms limits size count (sieve s.passed []) t out more)
+
+-- ---- the ring as a queue
+
+pub once_turn : (r : Ring) → IsOnce (all r) → IsOnce (in_turn (shown r))
+once_turn r d = once_swap r.ahead (r.leaving ++ r.passed) d
+
+pub found_turn : (k : CacheEntryKey) (r : Ring) → IsOnce (all r) → seen_of k (all r) ≡ seen_of k (in_turn (shown r))
+found_turn k r d = found_swap k r.ahead (r.leaving ++ r.passed) d
+
+pub map_turn : (old new : Ring) → IsOnce (all old) → IsOnce (all new) → SameEntries old new → map_of (plain (in_turn (shown new))) ≡ map_of (plain (in_turn (shown old)))
+map_turn old new d e same = sym (map-swap new.ahead (new.leaving ++ new.passed) e) ∙ same ∙ map-swap old.ahead (old.leaving ++ old.passed) d
+
+pub absent_turn : (k : CacheEntryKey) (old new : Ring) → SameEntries old new → seen_of k (in_turn (shown old)) ≡ None → seen_of k (in_turn (shown new)) ≡ None
+absent_turn k old new same h = absent_swap k new.ahead (new.leaving ++ new.passed) (absent_same k old new same (absent_swap k (old.leaving ++ old.passed) old.ahead h))
+
+pub weight_turn : (old new : Ring) → IsOnce (all old) → IsOnce (all new) → SameEntries old new → weight (plain (in_turn (shown old))) ≡ weight (plain (in_turn (left_of new))) + weight (plain new.leaving)
+weight_turn old new d e same =
+    let parts = whole_weight old new d e same in
+    let were = weight_swap old.ahead (old.leaving ++ old.passed) in
+    let are = weight_swap new.ahead new.passed in
+    omega arith
+
+pub within_turn : (limits : Limits) (a p : Queue) → IsWithinAsList limits (plain (a ++ p)) → IsWithinAsList limits (plain (p ++ a))
+within_turn limits a p w =
+    record { weight = subst (λ n. n ≤ limits.weight) (weight_swap a p) w.weight; count = subst (λ n. IfSome limits.watermark (λ most. n ≤ most)) (plain_length_swap a p) w.count }
+
+-- a change of the parts is one of the queue
+pub reseen_turn : (k : CacheEntryKey) (v : Seen) (a g p : Queue) → in_turn (shown (ring (reseen k v a) (reseen k v g) (reseen k v p))) ≡ reseen k v (in_turn (shown (ring a g p)))
+reseen_turn k v a g p = ap (λ q. q ++ reseen k v a) (sym (reseen-append k v g p)) ∙ sym (reseen-append k v (g ++ p) a)
+
+pub rest_turn : (k : CacheEntryKey) (a g p : Queue) → in_turn (shown (ring (rest_of k a) (rest_of k g) (rest_of k p))) ≡ rest_of k (in_turn (shown (ring a g p)))
+rest_turn k a g p = ap (λ q. q ++ rest_of k a) (sym (rest-append k g p)) ∙ sym (rest-append k (g ++ p) a)

@@ -1,0 +1,22 @@
+use Rattle.std.proofs.Common.{◌≡◌, ◌∙◌, None, sym, subst, ap, refl}
+use Rattle.pcache_evict.specs.Tracked.{limits_of}
+use Rattle.pcache_policies.specs.Queue.{seen_of}
+use Rattle.pcache_policies.specs.OneQueue.{Admits, Queued}
+use Rattle.pcache_policies.specs.Ring.{in_turn, shown}
+use Rattle.pcache_policies.proofs.QueueRooms.{admits-in, admits-out, state}
+use Rattle.pcache_policies.proofs.one_queue.Manager.admit_new.Goals as goal
+
+pub enter-requires : goal.enter-requires
+enter-requires g c = c.choose.ensures.absent c.args.item (ap (λ (s : Queued). seen_of c.args.item s.queue) c.self.view_is ∙ c.requires)
+
+pub returns-then-has_room-clause-ok : goal.returns-then-has_room-clause-ok
+returns-then-has_room-clause-ok g c =
+    subst (λ (s : Queued). Admits s c.args.item c.args.size (state (in_turn (shown c.let_go.new.ring)) (limits_of c.self.inside.limit c.self.inside.watermark) c.let_go.new.evicted.weight c.let_go.new.evicted.count) c.let_go.result.items) c.self.view_is
+    (admits-in (limits_of c.self.inside.limit c.self.inside.watermark) c.self.inside.evicted.weight c.self.inside.evicted.count c.let_go.new.evicted.weight c.let_go.new.evicted.count (in_turn (shown c.self.inside.ring)) c.choose.new.ring c.enter.new.ring c.let_go.new.ring c.args.item c.args.size c.let_go.result.items
+    c.in_ok-out.ensures.room c.choose.ensures.heavy (c.if-has_room.ensures.room refl) c.in_ok-enter.ensures.ok c.enter.ensures.leaving c.let_go.ensures.ring c.let_go.ensures.out c.let_go.ensures.long c.let_go.ensures.weight c.let_go.ensures.count)
+
+pub returns-clause-ok : goal.returns-clause-ok
+returns-clause-ok g c =
+    subst (λ (s : Queued). Admits s c.args.item c.args.size (state (in_turn (shown c.let_go-out.new.ring)) (limits_of c.self.inside.limit c.self.inside.watermark) c.add.new.self.weight c.add.new.self.count) c.push_reserved.new.self.items) c.self.view_is
+    (admits-out (limits_of c.self.inside.limit c.self.inside.watermark) c.self.inside.evicted.weight c.self.inside.evicted.count c.let_go-out.new.evicted.weight c.let_go-out.new.evicted.count c.add.new.self.weight c.add.new.self.count (in_turn (shown c.self.inside.ring)) c.choose.new.ring c.let_go-out.new.ring c.args.item c.args.size c.let_go-out.result.items c.push_reserved.new.self.items
+    c.in_ok-out.ensures.room c.choose.ensures.heavy (c.if-has_room.ensures.none refl) c.let_go-out.ensures.ring c.let_go-out.ensures.out c.let_go-out.ensures.long c.push_reserved.ensures.items c.let_go-out.ensures.weight c.let_go-out.ensures.count c.add.ensures.weight c.add.ensures.count)

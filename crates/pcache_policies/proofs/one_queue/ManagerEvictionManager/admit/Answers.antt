@@ -1,0 +1,16 @@
+use Rattle.std.proofs.Common.{refl}
+use Rattle.pcache_policies.specs.Queue.{seen_of}
+use Rattle.pcache_policies.proofs.QueueMaps.{admission}
+use Rattle.pcache_policies.proofs.one_queue.ManagerEvictionManager.admit.Goals as goal
+
+pub returns-clause-fair : goal.returns-clause-fair
+returns-clause-fair g c = (admission g.U.Uses.used g.met.U.Uses.weighs (seen_of c.args.item c.args.self.now.queue) c.args.self.now c.admit.new.self c.args.item c.args.size c.in_ok-out.out.items refl c.in_ok-out.ensures.ok c.admit.ensures.once).fair
+
+pub returns-clause-tracked : goal.returns-clause-tracked
+returns-clause-tracked g c = (admission g.U.Uses.used g.met.U.Uses.weighs (seen_of c.args.item c.args.self.now.queue) c.args.self.now c.admit.new.self c.args.item c.args.size c.in_ok-out.out.items refl c.in_ok-out.ensures.ok c.admit.ensures.once).tracked
+
+pub returns-clause-evicted : goal.returns-clause-evicted
+returns-clause-evicted g c = (admission g.U.Uses.used g.met.U.Uses.weighs (seen_of c.args.item c.args.self.now.queue) c.args.self.now c.admit.new.self c.args.item c.args.size c.in_ok-out.out.items refl c.in_ok-out.ensures.ok c.admit.ensures.once).evicted
+
+pub returns-clause-limits : goal.returns-clause-limits
+returns-clause-limits g c = (admission g.U.Uses.used g.met.U.Uses.weighs (seen_of c.args.item c.args.self.now.queue) c.args.self.now c.admit.new.self c.args.item c.args.size c.in_ok-out.out.items refl c.in_ok-out.ensures.ok c.admit.ensures.once).limits

@@ -1,0 +1,11 @@
+use Rattle.std.proofs.Common.{◌∙◌, ap}
+use Rattle.pcache_evict.specs.Listed.{map_of}
+use Rattle.pcache_policies.specs.Queue.{plain}
+use Rattle.pcache_policies.proofs.QueueMaps.{map-rest}
+use Rattle.pcache_policies.proofs.ordered.One_queueManagerOrderedManager.remove_in_order.Goals as goal
+
+pub returns-clause-tracked : goal.returns-clause-tracked
+returns-clause-tracked g c = ap (λ s. map_of (plain s.queue)) c.remove.ensures ∙ map-rest c.args.item.now c.args.self.now.queue
+
+pub returns-clause-order : goal.returns-clause-order
+returns-clause-order g c = ap (λ s. s.queue) c.remove.ensures

@@ -1,0 +1,25 @@
+//! An eviction manager that evicts entries in the order in which they came in, but spares those once
+//! that were used: CLOCK (Corbató, A paging experiment with the Multics system, 1968).
+
+use crate::one_queue::{self, Uses};
+use crate::queue::Seen;
+
+/// A use sets an entry's bit.
+#[derive(Drop)]
+pub struct Noticed;
+
+impl Uses for Noticed {
+    ghost use Rattle.std.specs.Prelude.{refl};
+    ghost use Rattle.pcache_policies.specs.OneQueue.{set_bit};
+
+    ghost used = { set_bit };
+
+    ghost weighs = { λ v. refl };
+
+    fn after_use(seen: Seen) -> Seen {
+        Seen::used(seen.weight)
+    }
+}
+
+/// A queue whose oldest entry goes; if it was used, its bit is cleared, and it becomes the newest.
+pub type Manager = one_queue::Manager<Noticed>;

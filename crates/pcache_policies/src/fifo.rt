@@ -1,0 +1,24 @@
+//! An eviction manager that evicts entries in the order in which they came in: FIFO, first in, first
+//! out.
+
+use crate::one_queue::{self, Uses};
+use crate::queue::Seen;
+
+/// A use changes nothing.
+#[derive(Drop)]
+pub struct Unnoticed;
+
+impl Uses for Unnoticed {
+    ghost use Rattle.std.specs.Prelude.{refl};
+
+    ghost used = { λ v. v };
+
+    ghost weighs = { λ v. refl };
+
+    fn after_use(seen: Seen) -> Seen {
+        seen
+    }
+}
+
+/// A queue whose oldest entry goes, used or not.
+pub type Manager = one_queue::Manager<Unnoticed>;
