@@ -155,10 +155,10 @@ pub fn read_request(from: &mut impl BufRead, client: &mut Client) -> io::Result<
     };
     client.stays = client.in_chunks && !members(&fields, "connection").iter().any(|it| it == "close");
     client.takes_body = method != "HEAD";
+    let (mut left, mut body) = (left_of(&fields, Left::Bytes(0))?, Vec::new());
     if field(&fields, "expect").is_some() {
         client.send(&[b"HTTP/1.1 100 Continue\r\n\r\n"]);
     }
-    let (mut left, mut body) = (left_of(&fields, Left::Bytes(0))?, Vec::new());
     while let Some(piece) = next_piece(from, &mut left)? {
         body.extend_from_slice(&piece);
         if body.len() > MOST_BODY {
