@@ -122,8 +122,11 @@ fn read_bodies<R: Read + Drop, E: Write>(
         asked: Vec::new(alloc),
         uncounted: 0,
     };
-    let mut number = 0;
-    while number < until && reader.advance(errors)? {
+    let mut number = 0u64;
+    for _ in 0..u64::MAX {
+        if number >= until || !reader.advance(errors)? {
+            break;
+        }
         let Ok(Some(asked)) = reader.asked() else {
             continue;
         };
@@ -134,7 +137,7 @@ fn read_bodies<R: Read + Drop, E: Write>(
                 .push(u128::from_be_bytes(primary))
                 .map_err(|_| Stop::Memory)?;
         }
-        number += 1;
+        number = number.saturating_add(1);
         if number <= options.warmup {
             bodies.uncounted = bodies.asked.len();
         }
