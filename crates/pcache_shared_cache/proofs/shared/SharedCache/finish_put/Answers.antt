@@ -18,4 +18,4 @@ returns-clause-ends g c =
     c.finish_put-outcome.ensures.limits (keeps_as c.deref-2.result.now q c.deref-2.ensures c.is_kept.ensures) (λ may. each_put_end c.finish_put-outcome.result (λ how is. is.0) c.finish_put-outcome.ensures.ended))
 
 pub returns-clause-tells : goal.returns-clause-tells
-returns-clause-tells g c pieces f taken = each_put_end c.finish_put-outcome.result (λ how is. is.4 pieces f (rw c.put.view_is at taken)) c.finish_put-outcome.ensures.ended
+returns-clause-tells g c = rw (← c.put.view_is) (λ pieces f taken. each_put_end c.finish_put-outcome.result (λ how is. is.4 pieces f taken) c.finish_put-outcome.ensures.ended)
