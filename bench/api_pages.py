@@ -222,7 +222,7 @@ def head_of(lines, at, kind):
                 conditions.append(clause[2])
         elif text == "{" or (in_contract and text.startswith("{")):
             break
-        elif not in_contract and not head_done(head):
+        elif not in_contract and not head_done(head) and not text.startswith("//"):  # words above the first clause
             head.append(text)
         # a clause may go on over several lines, so only the end of the item is one there
         if text.endswith("};") or (not in_contract and text.endswith(("{", ";", "}"))):

@@ -8,6 +8,7 @@ use Rattle.pcache_base.specs.declared.error.ErrorType.TheVariants.{NumbersExhaus
 use Rattle.pcache_base.specs.declared.poll.Poll.{Poll}
 use Rattle.pcache_base.specs.declared.poll.Poll.TheVariants.{Pending, Ready}
 use Rattle.pcache_base.specs.declared.reason.NoCacheReason.{NoCacheReason}
+use Rattle.pcache_cache.specs.Parts as cached
 use Rattle.pcache_cache.specs.Parts.{MayEnd, Parts, takes_bytes, tracked_at_end, written_by}
 use Rattle.pcache_lock.specs.Locks.{MayFailLock}
 use Rattle.pcache_lock.specs.declared.lock.status.LockStatus.TheVariants.{Done, GiveUp}
@@ -22,6 +23,8 @@ use Rattle.pcache_request.specs.Renewals.{has_body, renewed, renewed_by, with_me
 use Rattle.pcache_request.specs.Requests.{HoldsNothing, MayTakeMeta, MayWrite, Request, asks_for_hit, begin_followed, begun_for, dropped_by, found_for, found_row, is_removed_by, left_by, length_by, missed, settled, store_found, store_writing, table_found, tracked_found, tracked_gone_for, whole_by, with_meta, without_reader, writing}
 use Rattle.pcache_request.specs.Stale.{MayRevalidate}
 use Rattle.pcache_request.specs.Variants.{asks_unseen, hides_for, looked_for, searched, seen_for, table_looked_for, table_varied, varied}
+use Rattle.pcache_request.specs.LockPasts.{end_deeds}
+use Rattle.pcache_request.specs.StorePasts.{EndsRequestPast}
 use Rattle.pcache_request.specs.WriteEnds.{Ends, EndsAs, evicted_after, finishes_of}
 use Rattle.pcache_request.specs.declared.cache.finish.FinishReport.{FinishReport}
 use Rattle.pcache_request.specs.declared.phase.HitStatus.{HitStatus}
@@ -255,6 +258,8 @@ pub record EndsSo (result : Result (Option FinishReport) ErrorType) (c d : Parts
   pub request : p.request.cache ≡ after_finish o.request.cache
   pub ended : EndsAs result (λ e. Ends in_memory o.request.cache o.request.cache.key o.request.cache.write (finishes_of (created c.store) o.request.cache.write)
       c.limits e c.store d.store (tracked_at_end c o.request.cache e) d.tracked c.locks d.locks
+      × EndsRequestPast in_memory o.request.cache.key o.request.cache.write e (Some c.past) (Some d.past)
+      × cached.Adds (end_deeds o.request.cache.write o.request.cache.held e) c.deeds d.deeds
       × (d.evicted ≡ evicted_after o.request.cache o.request.cache.key (finishes_of (created c.store) o.request.cache.write) (tracked_at_end c o.request.cache e) c.evicted e))
   pub limits : d.limits ≡ c.limits
   pub rest : KeepsFound o p

@@ -63,7 +63,7 @@ still-moves s u x y events none now to limits m =
     subst (λ (z : Ongoing). Moves limits (Some x) s m events (Some z) u m) (sym now) (subst (λ (v : Store). Moves limits (Some x) s m events (Some x) v m) (sym to)
     (subst (λ es. Moves limits (Some x) s m es (Some x) s m) (sym none) ([], refl, record { count = λ w. refl; write = refl; owed = refl; store = refl; tracked = refl })))
 
-pub refused-moves : (s u : Store) (x y : Ongoing) (k : Key) (e f : ErrorType) (events : List Event) → x.request.key ≡ Some k → events ≡ [] → y ≡ x → ((e ≡ f) × (u ≡ s)) ⊎ ((e ≡ f) × (u ≡ passed_over s x.request.key)) → MovesStore (Some x) s events (Some y) u
+pub refused-moves : {A B : Type 0} (s u : Store) (x y : Ongoing) (k : Key) (e f : ErrorType) (events : List Event) → x.request.key ≡ Some k → events ≡ [] → y ≡ x → ((e ≡ f) × (u ≡ s) × A) ⊎ ((e ≡ f) × (u ≡ passed_over s x.request.key) × B) → MovesStore (Some x) s events (Some y) u
 refused-moves s u x y k e f events named none now (inl p) = still-moves s u x y events none now p.1
 refused-moves s u x y k e f events named none now (inr p) = by (found_for s x.request.key) refl
   where
