@@ -5,3 +5,4 @@ pub mod Ended
 pub mod Own
 pub mod Fed
 pub mod Unlocking
+pub mod Ways

@@ -1,5 +1,5 @@
 -- No call of a cache unlocks a permit that is held.
-use Rattle.std.proofs.Common.{◌≡◌, ◌⊎◌, inl, inr, ℕ, Bool, true, false, List, Option, None, Some, Result, Ok, Err, OnOk, OnErr, cond, sym, subst}
+use Rattle.std.proofs.Common.{◌≡◌, ◌⊎◌, inl, inr, ℕ, Bool, true, false, List, Option, None, Some, Result, Ok, Err, IfErr, OnOk, OnErr, cond, sym, subst}
 use Rattle.std.specs.FinMap.{get}
 use Rattle.pcache_base.specs.Key.{Key, slot}
 use Rattle.pcache_base.specs.declared.error.ErrorType.{ErrorType}
@@ -18,9 +18,11 @@ use Rattle.pcache_lock.specs.declared.lock.status.LockStatus.{LockStatus}
 use Rattle.pcache_lock.specs.declared.lock.status.LockStatus.TheVariants.{Done, TransientError}
 use Rattle.pcache_predict.specs.declared.admission.Decision.{Decision}
 use Rattle.pcache_request.specs.Admissions.{is_deferral}
+use Rattle.pcache_request.specs.Failures.{FailsToBegin}
 use Rattle.pcache_request.specs.LockPasts.{Deeds, asked_deeds, end_deeds, ended_deeds, found_deeds, given_deed, handed_deeds, key_locked_deeds, let_go_deed, let_go_deeds, looked_deeds, looked_with_deeds, polled_deeds, published_deeds, settled_deeds, varied_deeds, waited_deeds}
 use Rattle.pcache_request.specs.LockWaits.{unusable_in, wait_result}
 use Rattle.pcache_request.specs.Requests.{Request, asks_as_stale, asks_for_hit}
+use Rattle.pcache_request.specs.StorePasts.{Past}
 use Rattle.pcache_request.specs.Variants.{is_unseen_for, leaves_variant}
 use Rattle.pcache_request.specs.WriteEnds.{EndsAs, status_after}
 use Rattle.pcache_request.specs.declared.cache.finish.FinishReport.{FinishReport}
@@ -120,11 +122,11 @@ pub if_done : {A E : Type 0} (result : Result A E) (f : Deeds → Deeds) (p q : 
 if_done (Ok a) f p q keeps ok err none = once_done f p q keeps ok none
 if_done (Err e) f p q keeps ok err none = subst NoneIn (sym err) none
 
--- the same of a call that may have done it though it failed
-pub if_done_or : {A E : Type 0} (result : Result A E) (f : Deeds → Deeds) (p q : Deeds) → ((x : Deeds) → NoneIn x → NoneIn (f x)) → OnOk result (q ≡ f p) → OnErr result ((q ≡ p) ⊎ (q ≡ f p)) → NoneIn p → NoneIn q
-if_done_or (Ok a) f p q keeps ok err none = once_done f p q keeps ok none
-if_done_or (Err e) f p q keeps ok (inl same) none = subst NoneIn (sym same) none
-if_done_or (Err e) f p q keeps ok (inr done) none = once_done f p q keeps done none
+-- the same of the begin of a write, which may have released the permit though it failed
+pub if_begun : {A : Type 0} (result : Result A ErrorType) (s t : Store) (p q : Past) (x y : Locks) (d e : Deeds) (r r' : Request) → OnOk result (e ≡ settled_deeds Done r.held d) → IfErr result (λ why. FailsToBegin true s p x d r why t q y e r') → NoneIn d → NoneIn e
+if_begun (Ok a) s t p q x y d e r r' ok err none = once_done (settled_deeds Done r.held) d e (by_settled Done r.held) ok none
+if_begun (Err why) s t p q x y d e r r' ok (inl same) none = subst NoneIn (sym same.4) none
+if_begun (Err why) s t p q x y d e r r' ok (inr begun) none = once_done (settled_deeds Done r.held) d e (by_settled Done r.held) begun.4 none
 
 -- the same of the end of a write
 pub if_ended : (result : Result (Option FinishReport) ErrorType) (w : Option ℕ) (h : Option Locked) (p q : Deeds) → EndsAs result (λ how. q ≡ end_deeds w h how p) → NoneIn p → NoneIn q
