@@ -78,10 +78,9 @@ impl<E> Keeper<E> {
 
     /// Whatever was seen of its log is a beginning of it.
     pub fn meets(&mut self, seen: &Seen<E>)
-        requires { seen.now.name ≡ self.old.name }
         ensures { (self.new.name ≡ self.old.name)
             × (self.new.log ≡ self.old.log)
-            × IsPrefix seen.now.log self.old.log }
+            × (seen.now.name ≡ self.old.name → IsPrefix seen.now.log self.old.log) }
     {}
 
     /// One more note in the log, of the value `_noted`.
@@ -92,12 +91,11 @@ impl<E> Keeper<E> {
 }
 
 impl<E> Seen<E> {
-    /// Afterwards it has seen what both had: of two logs of one keeper one begins the other.
+    /// Afterwards it has seen what both had, if they saw the log of one keeper: of two beginnings of a log one begins the other.
     pub fn sees(&mut self, other: &Seen<E>)
-        requires { other.now.name ≡ self.old.name }
         ensures { (self.new.name ≡ self.old.name)
             × IsPrefix self.old.log self.new.log
-            × IsPrefix other.now.log self.new.log }
+            × (other.now.name ≡ self.old.name → IsPrefix other.now.log self.new.log) }
     {}
 
     /// A copy.

@@ -5,10 +5,10 @@ use mir.Val.{Val, vunit, vptr}
 use mir.MapTy.{inst_fn}
 use base.Logic.{SProp, emp}
 use base.Fml.{Fml, ftrue, fsep, flft, fhide}
-use types.Kit.{‵, raw, ◌⊛◌, given, ◌$◌, ◌∵◌, !, qed, by, move, keep, drop, split, fsplit, fsplit3, fjoin, fjoin3, learn, use1, use2, rewrite, feq_i}
+use types.Kit.{‵, raw, ◌⊛◌, given, ◌$◌, ◌∵◌, !, qed, by, move, keep, drop, split, fsplit, fsplit3, fjoin, fjoin3, learn, use1, use2, feq_i}
 use types.Run.{unit_lit, of_opd, returns, enter}
 use types.ByLocal.{alloc_all, pass_all, free_all, look_at, sets}
-use contract.Monad.{fact, fact_i}
+use contract.Monad.{fact_i}
 use contract.Running.{tables}
 use denote.Exit.{yes}
 use denote.RattleType.{RattleType, owns}
@@ -23,11 +23,7 @@ use denote.Struct.Lending.{lent_out}
 use denote.Triple.Walked.{Stays, stay_dropped, stay_ref, walk_of, Goes-dropped, Goes-ref}
 use Rattle.atomic_table.proofs.Walks.{proved}
 use Rattle.logbook.proofs.Fields.{Token, ends}
-use base.Fraction.{full_share}
-use types.Growing.{latest_bounds}
-use Rattle.std.specs.Prelude.{map}
-use Rattle.logbook.specs.Kept.{logs}
-use Rattle.logbook.proofs.Roster.{prefix_out}
+use Rattle.pcache_keeper.proofs.Meets.{known}
 use Rattle.pcache_keeper.specs.Kept.{top, had}
 use Rattle.pcache_keeper.specs.contracts.tokens.Keeper.meets.{ended, clauses}
 use Rattle.pcache_keeper.proofs.tokens.Keeper.meets.Statement.{statement}
@@ -47,13 +43,12 @@ meets_spec 𝓤 𝓛 𝓜 𝓡 wired E _ =
     (λ κs. (mut_vals, (shr_vals, tt))) (λ κs. (mut_Tells (named 0) κs.0 Ps, (shr_Tells (named 1) κs.1.0 (Seen.the_row E'), tt))) (λ κs qs bounds a gh are.
     let b : ℕ = a.0.ref_ptr.0 in let o : ℕ = a.0.ref_ptr.1 in let h : Ps.Denot = a.0.now in let s : (Seen.the_row E').Denot = a.1.0.now in
     let q : Val = vptr a.1.0.ref_ptr.0 a.1.0.ref_ptr.1 in
-    let gs = map cv.code h.log in let gs' = map cv.code s.log in
     let y : (walk_of 𝓛 En hs c).Ghost = ((κs, qs, bounds, a, (vptr b o ∷ [], (q ∷ [], tt))), gh) in let Post : Val → SProp 𝓤 = (walk_of 𝓛 En hs c).post y in
     let toks : Fml = fsep (flft κs.0 qs.0) (fsep (flft κs.1.0 qs.1.0) (fsep (flft κs.1.1.0 qs.1.1.0) ftrue)) in
-    qed 𝓛 ((‵ toks ⊛ ‵ (owns (types_at En.signature.params κs) a y.0.4)) ∷ raw (fact 𝓤 _) ∷ given (s.name ≡ h.name) (‵ ftrue) ∷ []) ∵ keep ! (2 ∷ 0 ∷ []) $ learn ! (λ asked. drop ! $ split ! $
+    qed 𝓛 ((‵ toks ⊛ ‵ (owns (types_at En.signature.params κs) a y.0.4)) ∷ raw ((c κs a).requires gh) ∷ []) ∵ keep ! (0 ∷ []) $ split ! $
     fsplit ! $ move ! (1 ∷ []) $ fsplit ! $ move ! (3 ∷ []) $ fsplit ! $ fsplit3 ! $ move ! (3 ∷ []) $ fsplit ! $ fsplit ! $ keep ! (1 ∷ 4 ∷ 5 ∷ 6 ∷ 7 ∷ 8 ∷ []) $
     enter ! 𝓣.C 𝓣.Λ fn (vptr b o ∷ q ∷ []) Post $ alloc_all ! (λ l. pass_all ! refl ((tt, tt), ((tt, tt), tt)) $
-    use1 𝓛 (‵ (hidden_shr (Token E') κs.1.0 (record {}, tt) a.1.0.ref_ptr.0 a.1.0.ref_ptr.1) ⊛ ‵ (fhide (had cv.code s.name s.log))) (lent_out 𝓛 (Seen.struct E') (Seen.the_codes E'.Denot E'.coded (marker.the_row E').coded) (Seen.the_heap E') (Seen.the_lent E') κs.1.0 s a.1.0.ref_ptr.0 a.1.0.ref_ptr.1) $ split ! $ drop ! $ unhide ! $ rewrite ! 0 (λ (z : ℕ). ‵ (had cv.code z s.log)) asked refl $ move ! (1 ∷ 2 ∷ 5 ∷ []) $ opens ! tt Ps b o (λ ts. move ! (1 ∷ []) $ fsplit ! $
-    move ! (1 ∷ 6 ∷ []) $ use2 𝓛 (given (IsPrefix gs' gs) (‵ (top cv.code h.name h.log) ⊛ ‵ (had cv.code h.name s.log))) (latest_bounds logs 𝓛 full_share h.name gs gs') $ learn ! (λ p. split ! $ move ! (2 ∷ 0 ∷ []) $ fjoin ! $ move ! (2 ∷ 0 ∷ 3 ∷ 4 ∷ 5 ∷ []) $
+    use1 𝓛 (‵ (hidden_shr (Token E') κs.1.0 (record {}, tt) a.1.0.ref_ptr.0 a.1.0.ref_ptr.1) ⊛ ‵ (fhide (had cv.code s.name s.log))) (lent_out 𝓛 (Seen.struct E') (Seen.the_codes E'.Denot E'.coded (marker.the_row E').coded) (Seen.the_heap E') (Seen.the_lent E') κs.1.0 s a.1.0.ref_ptr.0 a.1.0.ref_ptr.1) $ split ! $ drop ! $ unhide ! $ move ! (1 ∷ 2 ∷ 5 ∷ []) $ opens ! tt Ps b o (λ ts. move ! (1 ∷ []) $ fsplit ! $
+    move ! (1 ∷ 6 ∷ []) $ use2 𝓛 (given (s.name ≡ h.name → IsPrefix s.log h.log) (‵ (top cv.code h.name h.log) ⊛ ‵ (had cv.code s.name s.log))) (known 𝓛 cv h.name s.name h.log s.log) $ learn ! (λ p. split ! $ move ! (2 ∷ 0 ∷ []) $ fjoin ! $ move ! (2 ∷ 0 ∷ 3 ∷ 4 ∷ 5 ∷ []) $
     closes ! tt Ps h ts b o $ sets ! (of_opd ! (unit_lit !)) refl (tt, tt) $ feq_i ! (List Val) (vunit ∷ []) (vunit ∷ []) refl $ move ! (4 ∷ []) $ drop ! $ move ! (4 ∷ 5 ∷ []) $ fjoin ! $ move ! (4 ∷ 0 ∷ []) $ fjoin ! $ nothing ! $ nothing ! $ fjoin ! $ feq_i ! (List Val) (vptr b o ∷ []) (vptr b o ∷ []) refl $ move ! (0 ∷ 4 ∷ 5 ∷ []) $ fjoin3 ! $ fjoin ! $
-    returns ! (look_at ! 0 refl) $ free_all ! refl $ keep ! (1 ∷ 0 ∷ 2 ∷ []) $ by ! (ends 𝓛 En hs c y (vunit) (tt) (h, (tt, tt)) (tt, (tt, tt)) (fact_i 𝓤 _ (emp 𝓤) (refl, refl, prefix_out cv s.log h.log p))))))))
+    returns ! (look_at ! 0 refl) $ free_all ! refl $ keep ! (1 ∷ 0 ∷ 2 ∷ []) $ by ! (ends 𝓛 En hs c y (vunit) (tt) (h, (tt, tt)) (tt, (tt, tt)) (fact_i 𝓤 _ (emp 𝓤) (refl, refl, p)))))))

@@ -5,10 +5,10 @@ use mir.Val.{Val, vunit, vptr}
 use mir.MapTy.{inst_fn}
 use base.Logic.{SProp, emp}
 use base.Fml.{Fml, ftrue, fsep, flft, fhide}
-use types.Kit.{‵, raw, ◌⊛◌, some, given, ◌$◌, ◌∵◌, !, qed, by, move, keep, drop, split, fsplit, fsplit3, fjoin, fjoin3, pick, learn, use1, use2, rewrite, feq_i}
+use types.Kit.{‵, raw, ◌⊛◌, some, given, ◌$◌, ◌∵◌, !, qed, by, move, keep, drop, split, fsplit, fsplit3, fjoin, fjoin3, pick, learn, use1, use2, feq_i}
 use types.Run.{unit_lit, of_opd, returns, enter}
 use types.ByLocal.{alloc_all, pass_all, free_all, look_at, sets}
-use contract.Monad.{fact, fact_i}
+use contract.Monad.{fact_i}
 use contract.Running.{tables}
 use denote.Exit.{yes}
 use denote.RattleType.{RattleType, owns}
@@ -23,7 +23,7 @@ use denote.Struct.Lending.{lent_out}
 use denote.Triple.Walked.{Stays, stay_dropped, stay_ref, walk_of, Goes-dropped, Goes-ref}
 use Rattle.atomic_table.proofs.Walks.{proved}
 use Rattle.logbook.proofs.Fields.{Token, ends}
-use Rattle.pcache_keeper.proofs.Joined.{joined}
+use Rattle.pcache_keeper.proofs.Meets.{longer}
 use Rattle.pcache_keeper.specs.Kept.{had}
 use Rattle.pcache_keeper.specs.contracts.tokens.Seen.sees.{ended, clauses}
 use Rattle.pcache_keeper.proofs.tokens.Seen.sees.Statement.{statement}
@@ -44,10 +44,10 @@ sees_spec 𝓤 𝓛 𝓜 𝓡 wired E _ =
     let q : Val = vptr a.1.0.ref_ptr.0 a.1.0.ref_ptr.1 in
     let y : (walk_of 𝓛 En hs c).Ghost = ((κs, qs, bounds, a, (vptr b o ∷ [], (q ∷ [], tt))), gh) in let Post : Val → SProp 𝓤 = (walk_of 𝓛 En hs c).post y in
     let toks : Fml = fsep (flft κs.0 qs.0) (fsep (flft κs.1.0 qs.1.0) (fsep (flft κs.1.1.0 qs.1.1.0) ftrue)) in
-    qed 𝓛 ((‵ toks ⊛ ‵ (owns (types_at En.signature.params κs) a y.0.4)) ∷ raw (fact 𝓤 _) ∷ given (s.name ≡ h.name) (‵ ftrue) ∷ []) ∵ keep ! (2 ∷ 0 ∷ []) $ learn ! (λ asked. drop ! $ split ! $
+    qed 𝓛 ((‵ toks ⊛ ‵ (owns (types_at En.signature.params κs) a y.0.4)) ∷ raw ((c κs a).requires gh) ∷ []) ∵ keep ! (0 ∷ []) $ split ! $
     fsplit ! $ move ! (1 ∷ []) $ fsplit ! $ move ! (3 ∷ []) $ fsplit ! $ fsplit3 ! $ move ! (3 ∷ []) $ fsplit ! $ fsplit ! $ keep ! (1 ∷ 4 ∷ 5 ∷ 6 ∷ 7 ∷ 8 ∷ []) $
     enter ! 𝓣.C 𝓣.Λ fn (vptr b o ∷ q ∷ []) Post $ alloc_all ! (λ l. pass_all ! refl ((tt, tt), ((tt, tt), tt)) $
-    use1 𝓛 (‵ (hidden_shr (Token E') κs.1.0 (record {}, tt) a.1.0.ref_ptr.0 a.1.0.ref_ptr.1) ⊛ ‵ (fhide (had cv.code s.name s.log))) (lent_out 𝓛 (Seen.struct E') (Seen.the_codes E'.Denot E'.coded (marker.the_row E').coded) (Seen.the_heap E') (Seen.the_lent E') κs.1.0 s a.1.0.ref_ptr.0 a.1.0.ref_ptr.1) $ split ! $ drop ! $ unhide ! $ rewrite ! 0 (λ (z : ℕ). ‵ (had cv.code z s.log)) asked refl $ move ! (1 ∷ 2 ∷ 5 ∷ []) $ opens ! tt Ps b o (λ ts. move ! (1 ∷ []) $ fsplit ! $
-    move ! (1 ∷ 6 ∷ []) $ use2 𝓛 (some (λ (log : List E'.Denot). given (IsPrefix h.log log × IsPrefix s.log log) (‵ (had cv.code h.name log)))) (joined 𝓛 cv h.name h.log s.log) $ pick ! (λ log. learn ! (λ p. move ! (1 ∷ 0 ∷ []) $ fjoin ! $ move ! (1 ∷ 0 ∷ 2 ∷ 3 ∷ 4 ∷ []) $
+    use1 𝓛 (‵ (hidden_shr (Token E') κs.1.0 (record {}, tt) a.1.0.ref_ptr.0 a.1.0.ref_ptr.1) ⊛ ‵ (fhide (had cv.code s.name s.log))) (lent_out 𝓛 (Seen.struct E') (Seen.the_codes E'.Denot E'.coded (marker.the_row E').coded) (Seen.the_heap E') (Seen.the_lent E') κs.1.0 s a.1.0.ref_ptr.0 a.1.0.ref_ptr.1) $ split ! $ drop ! $ unhide ! $ move ! (1 ∷ 2 ∷ 5 ∷ []) $ opens ! tt Ps b o (λ ts. move ! (1 ∷ []) $ fsplit ! $
+    move ! (1 ∷ 6 ∷ []) $ use2 𝓛 (some (λ (log : List E'.Denot). given (IsPrefix h.log log × (s.name ≡ h.name → IsPrefix s.log log)) (‵ (had cv.code h.name log)))) (longer 𝓛 cv h.name s.name h.log s.log) $ pick ! (λ log. learn ! (λ p. move ! (1 ∷ 0 ∷ []) $ fjoin ! $ move ! (1 ∷ 0 ∷ 2 ∷ 3 ∷ 4 ∷ []) $
     closes ! tt Ps (record { marker = h.marker; name = h.name; log = log }) ts b o $ sets ! (of_opd ! (unit_lit !)) refl (tt, tt) $ feq_i ! (List Val) (vunit ∷ []) (vunit ∷ []) refl $ move ! (4 ∷ 5 ∷ []) $ fjoin ! $ move ! (4 ∷ 0 ∷ []) $ fjoin ! $ nothing ! $ nothing ! $ fjoin ! $ feq_i ! (List Val) (vptr b o ∷ []) (vptr b o ∷ []) refl $ move ! (0 ∷ 4 ∷ 5 ∷ []) $ fjoin3 ! $ fjoin ! $
-    returns ! (look_at ! 0 refl) $ free_all ! refl $ keep ! (1 ∷ 0 ∷ 2 ∷ []) $ by ! (ends 𝓛 En hs c y (vunit) (tt) (record { marker = h.marker; name = h.name; log = log }, (tt, tt)) (tt, (tt, tt)) (fact_i 𝓤 _ (emp 𝓤) (refl, p.0, p.1)))))))))
+    returns ! (look_at ! 0 refl) $ free_all ! refl $ keep ! (1 ∷ 0 ∷ 2 ∷ []) $ by ! (ends 𝓛 En hs c y (vunit) (tt) (record { marker = h.marker; name = h.name; log = log }, (tt, tt)) (tt, (tt, tt)) (fact_i 𝓤 _ (emp 𝓤) (refl, p.0, p.1))))))))
