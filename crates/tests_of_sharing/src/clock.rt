@@ -1,0 +1,54 @@
+//! Time that moves while others read. A permit ages out after ten seconds.
+use crate::play::play;
+use std::test::Fail;
+
+#[test]
+fn a_permit_ages_while_others_read(rt: HostRuntime) -> std::result::Result<(), Fail> {
+    let rows = "\
+        2 key f\n\
+        2 look 0 -> key permit\n\
+        2 fill body 60 -> okokokok\n\
+        3 key b\n\
+        3 look 0 -> key permit\n\
+        3 fill other 60 -> okokokok\n\
+        0 key a\n\
+        0 look 7 -> key permit\n\
+        1 key a\n\
+        1 look 8 -> key waits\n\
+        2 many f body\n\
+        3 many b other\n\
+        1 poll 8 -> pending\n\
+        1 poll 16 -> pending\n\
+        1 poll 17 -> AgeTimeout\n\
+        1 look 17 -> key permit\n\
+        0 key a\n\
+        0 look 18 -> key waits\n\
+        2 many f body\n\
+        3 many b other\n\
+        0 poll 26 -> pending\n\
+        0 wait 27 -> AgeTimeout";
+    play(&rt, rt.alloc(), 64, rows)
+}
+
+// A stale hit asks for the permit at its moment.
+#[test]
+fn a_body_gets_stale_while_others_read(rt: HostRuntime) -> std::result::Result<(), Fail> {
+    let rows = "\
+        0 key a\n\
+        0 look 0 -> key permit\n\
+        0 fill body 60 -> okokokok\n\
+        0 key a\n\
+        0 look 59 -> until 60 hit\n\
+        2 many a body\n\
+        3 many a body\n\
+        0 key a\n\
+        0 look 67 -> until 60 stale permit\n\
+        1 key a\n\
+        1 look 68 -> until 60 stale waits\n\
+        1 poll 76 -> pending\n\
+        1 poll 77 -> AgeTimeout\n\
+        1 key a\n\
+        1 look 77 -> until 60 stale permit\n\
+        2 many a body";
+    play(&rt, rt.alloc(), 64, rows)
+}
