@@ -11,19 +11,16 @@ use pcache_base::seed::Seed;
 use pcache_evict::eviction::simple_lru::Manager;
 use pcache_meta::header::ResponseHeader;
 use pcache_meta::meta::CacheMeta;
-use pcache_shared_cache::{SharedCache, SharedRequest};
+use pcache_shared_cache::{SharedCache, SharedRequest, Unnamed};
 use std::alloc::Global;
 use std::sync::Wait;
 use std::time::Duration;
 
-/// Names the cache of a test.
-pub struct OfTest;
-
 /// A cache in four parts.
-pub type Lists = SharedCache<Manager, OfTest, 4>;
+pub type Lists = SharedCache<Manager, Unnamed, 4>;
 
 /// A request of it.
-pub type Request = SharedRequest<OfTest, 4>;
+pub type Request = SharedRequest<Unnamed, 4>;
 
 /// What a thread has: a request, and one that it can put in its place.
 pub struct Seat {
