@@ -3,7 +3,7 @@ ghost use Rattle.std.specs.Prelude.{◌≡◌};
 ghost use Rattle.pcache_request.specs.Phases.{MayMiss};
 ghost use Rattle.pcache_request.specs.declared.phase.CachePhase.TheVariants.{CacheKey};
 
-use crate::seats::{Lists, OfTest, Request, lists_of, meta_until, request_for};
+use crate::seats::{Lists, Request, lists_of, meta_until, request_for};
 use bytes::Bytes;
 use pcache_base::error::Result;
 use pcache_base::key::CacheKey as Key;
@@ -15,7 +15,7 @@ use pcache_meta::meta::CacheMeta;
 use pcache_put_ctx::policy::CachePut;
 use pcache_put_ctx::report::PutOutcome;
 use pcache_request::phase::HitStatus;
-use pcache_shared_cache::SharedPut;
+use pcache_shared_cache::{SharedPut, Unnamed};
 use std::alloc::Global;
 use std::sync::Wait;
 use std::test::Fail;
@@ -50,7 +50,7 @@ impl CachePut for All {
     }
 }
 
-type Put = SharedPut<All, OfTest, 4>;
+type Put = SharedPut<All, Unnamed, 4>;
 
 fn put_of(cache: &Lists) -> Result<Put> {
     let primary = b"a".to_vec(cache.alloc())?;
