@@ -34,7 +34,7 @@ pub use pcache_request::{
 };
 pub use pcache_shared_cache::{
     Mark, NewPart, OverParts, Portion, SharedCache, SharedPermit, SharedPut, SharedRequest, Unnamed,
-    Unused, new_lists, over_parts, place_of, portion_of, portion_of_watermark,
+    Unused, new_lists, new_parts, over_parts, place_of, portion_of, portion_of_watermark,
 };
 pub use pcache_store::memory::MemCache;
 pub use pcache_store::storage::{

@@ -80,7 +80,13 @@ pub fn disable<R: Wait>(
 }
 
 /// Publishes a token.
-pub fn publish<R: Wait>(rt: &R, cache: &Lists, request: &Request, token: u64, told: &mut Told) {
+pub fn publish<R: Wait>(
+    rt: &R,
+    cache: &Lists,
+    request: &mut Request,
+    token: u64,
+    told: &mut Told,
+) {
     match cache.lock_publish_fill_tokens(rt, request, &[token]) {
         Ok(Some(_lock)) => told.say("ok"),
         Ok(None) => told.say("no permit"),
