@@ -1,7 +1,9 @@
 #!/usr/bin/env python3
 """Writes docs/RFC9111.md: what RFC 9111 demands of a cache, as the definitions of the crates that decide by it have it. Each row is
 one definition: its section, how strong the demand is, the definition's words, the functions whose contracts cite it, and the tests'
-rows of that section. What is left to a proxy stands below them. `--check` only says whether the page is due."""
+rows of that section. Below stand the wrong bodies that break each MUST, as the lines `breaks: DEFINITION SECTIONS` of the files
+of wrong bodies say, and what is left to a proxy. `--check` only says whether the page is due; `--unturned` lists the MUSTs that no
+wrong body breaks, and ends with 1 if there is one."""
 import pathlib, re, sys
 
 TOP = pathlib.Path(__file__).resolve().parent.parent
@@ -14,6 +16,15 @@ Made by `bench/rfc9111.py` from the definitions in `specs/` of {crates}; do not 
 
 | Section | Demand | Definition | In words | Decided by | Rows |
 |---|---|---|---|---|---|
+"""
+
+BROKEN = """
+## What breaks each MUST
+
+For each section that a MUST above names there is a body of the function that decides it which breaks this demand, and which the prover refuses (`wrong-bodies/` of the crate; `bench/edits_seen.py` tries them). `bench/rfc9111.py --unturned` lists those without one.
+
+| Section | Definition | Wrong bodies that break it |
+|---|---|---|
 """
 
 TAIL = """
@@ -122,6 +133,56 @@ def demand_of(words):
     return ""
 
 
+def told_of(rfc, section):
+    return (f"RFC {rfc}, " if rfc != "9111" else "") + section
+
+
+def broken(crates):
+    """The wrong bodies that break a definition's demand in a section: by the crate of the definition, its name and the section."""
+    found = {}
+    for crate in crates:
+        for path in sorted((TOP / "crates" / crate / "wrong-bodies").glob("*.edit")):
+            name = None
+            for line in path.read_text(encoding="utf-8").splitlines():
+                if line.startswith("edit: "):
+                    name = line[len("edit: ") :].strip()
+                elif line.startswith("breaks: "):
+                    definition, _, sections = line[len("breaks: ") :].partition(" ")
+                    for section in comment_sections(sections + " "):
+                        found.setdefault((definition, section), []).append(name)
+    return found
+
+
+def musts(crates):
+    """Each definition that has a MUST, with each section that it names."""
+    for crate in crates:
+        for module, name, words in definitions(crate):
+            if demand_of(words).startswith("MUST"):
+                for section in comment_sections(words + " "):
+                    yield crate, f"{module}.{name}", section
+
+
+def order_of(rfc, section):
+    return (rfc != "9111", rfc, [int(n) for n in section.split(".")])
+
+
+def broken_rows(crates):
+    """The rows of what breaks each MUST, in the order of the sections, and the MUSTs that nothing breaks."""
+    bodies, every = broken(crates), sorted(musts(crates), key=lambda it: (order_of(*it[2]), it[1]))
+    named = {(definition, section) for _, definition, section in every}
+    strange = [f"{definition} {told_of(*section)}: {', '.join(names)}" for (definition, section), names in bodies.items() if (definition, section) not in named]
+    if strange:
+        sys.exit("wrong bodies break what is no MUST:\n" + "\n".join(strange))
+    rows, without = [], []
+    for crate, definition, section in every:
+        names = bodies.get((definition, section))
+        if names:
+            rows.append(f"| {told_of(*section)} | `{crate}: {definition}` | {', '.join(f'`{name}`' for name in names)} |")
+        else:
+            without.append(f"{told_of(*section)}: {crate}: {definition}")
+    return rows, without
+
+
 def page():
     crates = [crate for crate in CRATES if (TOP / "crates" / crate / "specs").is_dir()]
     rows = []
@@ -133,15 +194,19 @@ def page():
                 continue
             deciders = deciders_of(name, functions, used)
             counts = sum(rows_of(section) for section in sections)
-            told = ", ".join((f"RFC {rfc}, " if rfc != "9111" else "") + section for rfc, section in sections)
+            told = ", ".join(told_of(*section) for section in sections)
             key = [(rfc != "9111", [int(n) for n in section.split(".")]) for rfc, section in sections][0]
             words = words.replace("|", "\\|")
             rows.append((key, f"| {told} | {demand_of(words)} | `{crate}: {module}.{name}` | {words} | {', '.join(deciders)} | {counts or ''} |"))
     rows.sort(key=lambda row: row[0])
-    return HEAD.format(crates=", ".join(f"`{crate}`" for crate in crates)) + "\n".join(row for _, row in rows) + "\n" + TAIL
+    return HEAD.format(crates=", ".join(f"`{crate}`" for crate in crates)) + "\n".join(row for _, row in rows) + "\n" + BROKEN + "\n".join(broken_rows(crates)[0]) + "\n" + TAIL
 
 
 def main():
+    if "--unturned" in sys.argv[1:]:
+        rows, without = broken_rows(CRATES)
+        print("\n".join([*without, f"{len(rows)} of {len(rows) + len(without)} sections of MUSTs have a wrong body"]))
+        sys.exit(1 if without else 0)
     path = TOP / "docs" / "RFC9111.md"
     made = page()
     if "--check" in sys.argv[1:]:

@@ -8,19 +8,30 @@
 
 mod http1;
 
-use http1::{answer_shortly, bad, field, left_of, members, next_piece, read_head, read_request, sent_on, Answer, Asked, Client, Fields, Left, Said};
-use pcache::{Answer as Gets, Asked as Rules, Cache, Decision, Head, Held, HitStatus, Looked, Meta, Moment, Options, Outcome, Read, Reason, Request, Reuse, Terms, View};
+use http1::*;
+use pcache::{Answer as Gets, Asked as Rules, Cache, Decision, Error, Head, Held, HitStatus, Looked, Meta, Moment, Options, Outcome};
+use pcache::{Read, Reason, Request, Reuse, Terms};
 use std::collections::HashMap;
 use std::io::{self, BufReader, ErrorKind, Write};
 use std::net::{TcpListener, TcpStream};
-use std::sync::atomic::{AtomicU64, AtomicUsize, Ordering};
-use std::sync::{Arc, Mutex, PoisonError};
-use std::time::{Duration, Instant, UNIX_EPOCH};
+use std::sync::atomic::{AtomicU64, Ordering};
+use std::sync::{Arc, Mutex};
+use std::time::{Duration, Instant};
 use std::{env, thread};
 
 const MOST_CONNECTIONS: usize = 1000;
 const MOST_KNOWN: usize = 100_000;
 const PATIENCE: Duration = Duration::from_secs(30);
+/// What asks for a part of a response, or for nothing of it.
+const CONDITIONS: [&str; 4] = ["range", "if-range", "if-none-match", "if-modified-since"];
+
+fn patient(stream: TcpStream) -> io::Result<TcpStream> {
+    stream.set_nodelay(true)?;
+    stream.set_read_timeout(Some(PATIENCE))?;
+    stream.set_write_timeout(Some(PATIENCE))?;
+    Ok(stream)
+}
+
 // ---- the origin ----
 
 struct Fetched {
@@ -30,58 +41,29 @@ struct Fetched {
     left: Left,
 }
 
-impl Fetched {
-    fn length(&self) -> Option<u64> {
-        match self.left {
-            Left::Nothing => Some(0),
-            Left::Bytes(count) => Some(count),
-            _ => None,
-        }
-    }
-
-    fn head(&self) -> Result<Head, pcache::Error> {
-        let mut head = Head::new(self.status)?;
-        for (name, value) in sent_on(&self.fields, &["content-length"]) {
-            head.add(&name, &value)?;
-        }
-        Ok(head)
-    }
-}
-
-/// The head of a request, of which the library decides what is served, validated, stored and purged (RFC 9111).
-fn rules_of(asked: &Asked) -> Result<Rules, pcache::Error> {
-    let mut head = Rules::new(&asked.method, asked.target.as_bytes())?;
-    for (name, value) in &asked.fields {
-        head.add(name, value)?;
-    }
+fn head_in(fetched: &Fetched) -> Result<Head, Error> {
+    let mut head = Head::new(fetched.status)?;
+    sent_on(&fetched.fields, &["content-length"]).iter().try_for_each(|(name, value)| head.add(name, value))?;
     Ok(head)
 }
 
-fn fetch(origin: &str, asked: &Asked, more: Fields) -> io::Result<Fetched> {
-    let mut stream = TcpStream::connect(origin)?;
-    stream.set_nodelay(true)?;
-    stream.set_read_timeout(Some(PATIENCE))?;
-    stream.set_write_timeout(Some(PATIENCE))?;
-    let mut head = format!("{} {} HTTP/1.1\r\nConnection: close\r\n", asked.method, asked.target).into_bytes();
-    let mut fields = sent_on(&asked.fields, &["content-length", "range", "if-range", "if-none-match", "if-modified-since", "expect"]);
-    fields.extend(more);
-    if !asked.body.is_empty() {
-        fields.push(("content-length".to_string(), asked.body.len().to_string().into_bytes()));
-    }
-    for (name, value) in fields {
-        head.extend_from_slice(&[name.as_bytes(), b": ", &value, b"\r\n"].concat());
-    }
-    head.extend_from_slice(b"\r\n");
-    head.extend_from_slice(&asked.body);
-    stream.write_all(&head)?;
+/// Asks the origin, without some of the fields that the client sent, and with others.
+fn fetch(origin: &str, asked: &Asked, but: &[&str], more: Fields) -> io::Result<Fetched> {
+    let mut fields = sent_on(&asked.fields, &[but, &["content-length", "expect"]].concat());
+    fields.extend(more.into_iter().filter(|(_, value)| !value.is_empty()));
+    fields.push(with("connection", "close"));
+    fields.extend((!asked.body.is_empty()).then(|| with("content-length", asked.body.len())));
+    let head = head_of(&format!("{} {} HTTP/1.1", asked.method, asked.target), &fields);
+    let mut stream = patient(TcpStream::connect(origin)?)?;
+    stream.write_all(&[&head[..], &asked.body].concat())?;
     let mut from = BufReader::with_capacity(64 << 10, stream);
     loop {
-        let (first, fields) = read_head(&mut from)?.ok_or(ErrorKind::UnexpectedEof)?;
-        let status = first.strip_prefix("HTTP/1.").and_then(|it| it.get(2..5)).and_then(|it| it.parse().ok());
-        let status: u16 = status.ok_or_else(|| bad("an answer without a status"))?;
+        let (first, fields) = read_head(&mut from)?;
+        let status = first.strip_prefix("HTTP/1.").and_then(|it| it.get(2..5)?.parse::<u16>().ok());
+        let status = status.ok_or_else(|| bad("an answer without a status"))?;
         if status >= 200 {
-            let has_none = asked.is_head() || status == 204 || status == 304;
-            let left = if has_none { Left::Nothing } else { left_of(&fields, Left::ToClose)? };
+            let has_none = asked.method == "HEAD" || status == 204 || status == 304;
+            let left = if has_none { Left::Bytes(0) } else { left_of(&fields, Left::ToClose)? };
             return Ok(Fetched { status, fields, from, left });
         }
     }
@@ -89,370 +71,277 @@ fn fetch(origin: &str, asked: &Asked, more: Fields) -> io::Result<Fetched> {
 
 // ---- the proxy ----
 
-/// On which fields of a request the responses of a target vary. The number is in their keys, so that what was purged is not found again.
-#[derive(Clone)]
-struct Known {
-    names: Vec<String>,
-    number: u64,
-}
-
 struct Proxy {
     cache: Cache,
     origin: String,
-    known: Mutex<HashMap<Vec<u8>, Known>>,
+    /// On which fields of a request the responses of a target vary. The number is in their keys, so that what was purged is not found again.
+    known: Mutex<HashMap<Vec<u8>, (u64, Vec<String>)>>,
     numbers: AtomicU64,
 }
 
-/// What a stored response is served with.
-struct Stored {
-    status: u16,
-    fields: Fields,
-    gets: Gets,
-}
-
 impl Proxy {
-    fn base_of(&self, asked: &Asked) -> Vec<u8> {
-        format!("{} {}", field(&asked.fields, "host").unwrap_or("").to_ascii_lowercase(), asked.target).into_bytes()
-    }
-
-    fn key_of(&self, asked: &Asked) -> Vec<u8> {
-        let mut key = self.base_of(asked);
-        if let Some(known) = self.known.lock().unwrap_or_else(PoisonError::into_inner).get(&key) {
-            key.extend_from_slice(format!("\n{}", known.number).as_bytes());
-            for name in &known.names {
+    fn request_for(&self, asked: &Asked) -> Result<Request, Error> {
+        let mut key = base_of(asked);
+        if let Some((number, names)) = self.known.lock().unwrap().get(&key) {
+            key.extend_from_slice(format!("\n{number}").as_bytes());
+            for name in names {
                 let values = asked.fields.iter().filter(|(it, _)| it == name).map(|(_, value)| &value[..]).collect::<Vec<_>>();
                 key.extend_from_slice(format!("\n{}:", values.len()).as_bytes());
                 key.extend_from_slice(&values.join(&b"\n"[..]));
             }
         }
-        key
+        self.cache.request(&key, "")
     }
 
     /// Notes on what the responses of a target vary, and says whether its key is another now.
     fn learn(&self, asked: &Asked, names: Vec<String>) -> bool {
-        let base = self.base_of(asked);
-        let mut known = self.known.lock().unwrap_or_else(PoisonError::into_inner);
-        if known.get(&base).map_or(names.is_empty(), |it| it.names == names) {
-            return false;
-        }
-        if names.is_empty() {
-            known.remove(&base);
-            return true;
-        }
-        if known.len() >= MOST_KNOWN {
+        let (base, mut known) = (base_of(asked), self.known.lock().unwrap());
+        let is_new = known.get(&base).map_or(!names.is_empty(), |it| it.1 != names);
+        if is_new && known.len() >= MOST_KNOWN {
             known.clear();
         }
-        known.insert(base, Known { names, number: self.numbers.fetch_add(1, Ordering::Relaxed) });
-        true
+        if is_new {
+            known.insert(base, (self.numbers.fetch_add(1, Ordering::Relaxed), names));
+        }
+        is_new
     }
 
-    fn purge(&self, asked: &Asked) -> Result<bool, pcache::Error> {
-        let base = self.base_of(asked);
-        let had_variants = self.known.lock().unwrap_or_else(PoisonError::into_inner).remove(&base).is_some();
+    fn purge(&self, asked: &Asked) -> Result<bool, Error> {
+        let base = base_of(asked);
+        let had_variants = self.known.lock().unwrap().remove(&base).is_some();
         Ok(self.cache.request(&base, "")?.purge()? || had_variants)
     }
 
     /// Answers from the cache, or from the origin where the cache refuses.
     fn serve(self: &Arc<Proxy>, client: &mut Client, asked: &Asked) {
-        let is_read = asked.method == "GET" || asked.is_head();
-        if !is_read || asked.controls("no-store") || !asked.body.is_empty() {
-            return self.pass(client, asked);
-        }
+        let is_read = ["GET", "HEAD"].contains(&&asked.method[..]) && asked.body.is_empty();
+        let is_stored = is_read && members(&asked.fields, "cache-control").iter().all(|it| it != "no-store");
         // (a key that is filled and purged again and again is passed in the end)
-        for _ in 0..5 {
-            match self.try_once(client, asked) {
-                Ok(true) => return,
-                Ok(false) => {}
-                Err(_) => break,
-            }
+        let ended = (0..if is_stored { 5 } else { 0 }).map(|_| self.try_once(client, asked)).find(|it| *it != Ok(false));
+        if ended != Some(Ok(true)) {
+            self.forward(client, asked, None);
         }
-        self.pass(client, asked);
     }
 
     /// One look-up and what follows. Says whether the client has its answer; if not, another look-up is worth while.
-    fn try_once(self: &Arc<Proxy>, client: &mut Client, asked: &Asked) -> Result<bool, pcache::Error> {
+    fn try_once(self: &Arc<Proxy>, client: &mut Client, asked: &Asked) -> Result<bool, Error> {
         let now = Moment::now();
-        let mut request = self.cache.request(&self.key_of(asked), "")?;
+        let mut request = self.request_for(asked)?;
         let looked = request.look(now)?;
-        if looked != Looked::Found && rules_of(asked)?.decide_missing()? == Decision::OnlyIfCached {
-            answer_shortly(client, asked, 504, "none");
-            return Ok(true);
-        }
-        match looked {
-            Looked::Found => self.found(client, asked, request, now),
-            Looked::Waits => wait(&mut request),
-            Looked::Permit if !asked.is_head() => {
-                match fetch(&self.origin, asked, Fields::new()) {
-                    Ok(fetched) => {
-                        let outcome = rules_of(asked)?.decide_fetched(&Terms::at(Moment::now()), &mut fetched.head()?)?;
-                        self.store(Some(client), asked, &mut request, fetched, outcome);
-                    }
-                    Err(_) => {
-                        let _ = request.disable(Reason::UpstreamError);
-                        answer_shortly(client, asked, 502, "none");
-                    }
+        let mut meta = if looked == Looked::Found { Some(request.meta()?) } else { None };
+        let decision = match &mut meta {
+            Some(meta) => rules_of(asked)?.decide_stored(&terms_of(meta, now)?, meta, None)?,
+            None => rules_of(asked)?.decide_missing()?,
+        };
+        match (decision, meta) {
+            (Decision::OnlyIfCached, _) => client.answer(504, "none"),
+            (Decision::Serve(reuse, gets, age), Some(mut meta)) => {
+                if reuse == Reuse::WhileRevalidating {
+                    let _ = self.renew(asked, now);
                 }
-                Ok(true)
+                request.take(HitStatus::Fresh, now)?;
+                let reply = reply_of(&mut meta, Some(age), if reuse == Reuse::Fresh { "hit" } else { "stale" })?;
+                send_stored(client, asked, &mut request, gets, reply);
             }
-            Looked::Permit | Looked::Nothing => {
-                drop(request);
-                self.pass(client, asked);
-                Ok(true)
+            (Decision::Validate, Some(meta)) if client.takes_body => {
+                request.take(HitStatus::Expired, now)?;
+                return if request.held()? == Held::Permit { self.validate(client, asked, &mut request, meta) } else { wait(&mut request) };
             }
+            _ if looked == Looked::Waits => return wait(&mut request),
+            _ if looked == Looked::Permit && client.takes_body => self.forward(client, asked, Some(&mut request)),
+            _ => return Err(Error::Nothing),
         }
+        Ok(true)
     }
 
-    fn found(self: &Arc<Proxy>, client: &mut Client, asked: &Asked, mut request: Request, now: Moment) -> Result<bool, pcache::Error> {
-        let mut meta = request.meta()?;
-        match rules_of(asked)?.decide_stored(&terms_of(&mut meta, now)?, &mut meta, None)? {
-            Decision::Serve(Reuse::WhileRevalidating, gets, age) if !asked.is_head() => {
-                request.take(HitStatus::Expired, now)?;
-                let stored = stored_of(&mut meta, gets, Some(age))?;
-                if request.held()? != Held::Permit || request.body_length()?.is_none() {
-                    send_stored(client, asked, &mut request, stored, "stale");
-                    return Ok(true);
-                }
-                let body = views_of(&mut request)?;
-                let (proxy, again) = (self.clone(), Asked { method: "GET".to_string(), target: asked.target.clone(), fields: asked.fields.clone(), body: Vec::new() });
-                // The request goes to the thread that renews, with its permit.
-                thread::spawn(move || proxy.validate(None, &again, &mut request, meta));
-                send_views(client, asked, stored, &body, "stale");
-                Ok(true)
-            }
-            Decision::Serve(reuse, gets, age) => {
-                request.take(HitStatus::Fresh, now)?;
-                let stored = stored_of(&mut meta, gets, Some(age))?;
-                send_stored(client, asked, &mut request, stored, if reuse == Reuse::Fresh { "hit" } else { "stale" });
-                Ok(true)
-            }
-            Decision::OnlyIfCached => {
-                answer_shortly(client, asked, 504, "none");
-                Ok(true)
-            }
-            Decision::Validate if !asked.is_head() => {
-                request.take(HitStatus::Expired, now)?;
-                if request.held()? != Held::Permit {
-                    return wait(&mut request);
-                }
-                self.validate(Some(client), asked, &mut request, meta)
-            }
-            Decision::Validate | Decision::Fetch => Err(pcache::Error::Nothing),
+    /// Renews a stale body in a thread of its own, unless another request has the permit to.
+    fn renew(self: &Arc<Proxy>, asked: &Asked, now: Moment) -> Result<(), Error> {
+        let mut request = self.request_for(asked)?;
+        let _ = request.look(now)?;
+        let meta = request.meta()?;
+        request.take(HitStatus::Expired, now)?;
+        if request.held()? == Held::Permit {
+            let (proxy, asked) = (self.clone(), Asked { method: "GET".to_string(), ..asked.clone() });
+            thread::spawn(move || proxy.validate(&mut Client::nobody(), &asked, &mut request, meta));
         }
+        Ok(())
     }
 
     /// Asks the origin whether a stored body is good, and fills the key anew if it is not. Says whether the client has its answer.
-    fn validate(&self, client: Option<&mut Client>, asked: &Asked, request: &mut Request, mut meta: Meta) -> Result<bool, pcache::Error> {
+    fn validate(&self, client: &mut Client, asked: &Asked, request: &mut Request, mut meta: Meta) -> Result<bool, Error> {
         let (tag, since) = meta.validators()?;
-        let conditions = [("if-none-match", tag), ("if-modified-since", since)].into_iter().filter(|(_, value)| !value.is_empty());
-        let fetched = fetch(&self.origin, asked, conditions.map(|(name, value)| (name.to_string(), value)).collect());
+        let conditions = vec![("if-none-match".to_string(), tag), ("if-modified-since".to_string(), since)];
+        let fetched = fetch(&self.origin, asked, &CONDITIONS, conditions);
         let (mut rules, terms) = (rules_of(asked)?, terms_of(&mut meta, Moment::now())?);
         let outcome = match &fetched {
-            Ok(fetched) => rules.decide_validated(&terms, &mut meta, None, &mut fetched.head()?)?,
+            Ok(fetched) => rules.decide_validated(&terms, &mut meta, None, &mut head_in(fetched)?)?,
             Err(_) => rules.decide_failed(&terms, &mut meta, None)?.map_or(Outcome::FetchAgain, |(gets, age)| Outcome::ServeStale(gets, age)),
         };
         match (outcome, fetched) {
             (Outcome::Freshen(mut newer, true, gets), _) => {
                 request.renew(&mut newer)?;
-                if let Some(client) = client {
-                    let stored = stored_of(&mut newer, gets, None)?;
-                    request.seek(0, None)?;
-                    send_stored(client, asked, request, stored, "revalidated");
-                }
+                request.seek(0, None)?;
+                send_stored(client, asked, request, gets, reply_of(&mut newer, None, "revalidated")?);
             }
             (Outcome::ServeStale(gets, age), _) => {
-                let (stored, body) = (stored_of(&mut meta, gets, Some(age))?, views_of(request)?);
                 let _ = request.release(Reason::UpstreamError);
-                if let Some(client) = client {
-                    send_views(client, asked, stored, &body, "stale after an error");
-                }
+                send_stored(client, asked, request, gets, reply_of(&mut meta, Some(age), "stale after an error")?);
             }
-            (Outcome::FetchAgain | Outcome::Freshen(..), _) | (_, Err(_)) => {
-                let _ = request.release(Reason::UpstreamError);
-                return Err(pcache::Error::Nothing);
-            }
+            (Outcome::FetchAgain | Outcome::Freshen(..), _) | (_, Err(_)) => return Err(Error::Nothing),
             (outcome, Ok(fetched)) => self.store(client, asked, request, fetched, outcome),
         }
         Ok(true)
     }
 
     /// Sends what was fetched to the client, and stores it if it is to be stored.
-    fn store(&self, client: Option<&mut Client>, asked: &Asked, request: &mut Request, mut fetched: Fetched, outcome: Outcome) {
+    fn store(&self, client: &mut Client, asked: &Asked, request: &mut Request, fetched: Fetched, outcome: Outcome) {
         let names = members(&fetched.fields, "vary");
-        // (what is never fresh and has no validator, or is for no other request, would only be in the way)
-        let has_validator = field(&fetched.fields, "etag").or(field(&fetched.fields, "last-modified")).is_some();
-        let is_of_use = |meta: &mut Meta| has_validator || meta.servable(Moment::now()).map_or(false, |it| it.fresh);
-        let kept = match outcome {
-            Outcome::Store(mut meta) if !names.iter().any(|it| it == "*") => if is_of_use(&mut meta) { Some(meta) } else { None },
+        let mut kept = match outcome {
+            Outcome::Store(meta) if names.iter().all(|it| it != "*") => Some(meta),
             _ => None,
         };
+        // (what is never fresh and has no validator, or is for no other request, would only be in the way)
+        let has_validator = field(&fetched.fields, "etag").or(field(&fetched.fields, "last-modified")).is_some();
+        let is_fresh = kept.as_mut().map_or(false, |it| it.servable(Moment::now()).map_or(false, |it| it.fresh));
         let mut meta = match kept {
-            Some(meta) => meta,
-            None => {
+            Some(meta) if is_fresh || has_validator => meta,
+            _ => {
                 // Who waits for this key is told to go to the origin itself.
                 let _ = request.disable(Reason::OriginNotCache);
-                return send_on(client, asked, &mut fetched, None, "pass");
+                return send_on(client, fetched, None, "pass");
             }
         };
         if !self.learn(asked, names) {
-            return send_on(client, asked, &mut fetched, Some((request, &mut meta)), "miss");
+            return send_on(client, fetched, Some((request, &mut meta)), "miss");
         }
         // Its key is another one now: those who wait look again, under the key that their own fields give.
         let _ = request.disable(Reason::UpstreamError);
-        let variant = self.cache.request(&self.key_of(asked), "");
-        match variant.map(|mut variant| (variant.look(Moment::now()), variant)) {
-            Ok((Ok(Looked::Permit), mut variant)) => send_on(client, asked, &mut fetched, Some((&mut variant, &mut meta)), "miss"),
-            _ => send_on(client, asked, &mut fetched, None, "miss"),
+        match self.request_for(asked).map(|mut variant| (variant.look(Moment::now()), variant)) {
+            Ok((Ok(Looked::Permit), mut variant)) => send_on(client, fetched, Some((&mut variant, &mut meta)), "miss"),
+            _ => send_on(client, fetched, None, "miss"),
         }
     }
 
-    /// Hands the request to the origin. What an unsafe method may have changed is purged (RFC 9111, 4.4).
-    fn pass(&self, client: &mut Client, asked: &Asked) {
-        let mut conditions = asked.fields.clone();
-        conditions.retain(|(name, _)| ["range", "if-range", "if-none-match", "if-modified-since"].contains(&name.as_str()));
-        match fetch(&self.origin, asked, conditions) {
-            Ok(mut fetched) => {
-                let outcome = rules_of(asked).and_then(|mut it| it.decide_fetched(&Terms::at(Moment::now()), &mut fetched.head()?));
-                if let Ok(Outcome::Invalidate) = outcome {
-                    let _ = self.purge(asked);
-                }
-                send_on(Some(client), asked, &mut fetched, None, "pass");
-            }
-            Err(_) => answer_shortly(client, asked, 502, "none"),
+    /// Hands the request to the origin, and fills its key if it may. What an unsafe method may have changed is purged (RFC 9111, 4.4).
+    fn forward(&self, client: &mut Client, asked: &Asked, request: Option<&mut Request>) {
+        let fetched = match fetch(&self.origin, asked, if request.is_some() { &CONDITIONS } else { &[] }, Fields::new()) {
+            Ok(fetched) => fetched,
+            Err(_) => return client.answer(502, "none"),
+        };
+        let outcome = rules_of(asked).and_then(|mut it| it.decide_fetched(&Terms::at(Moment::now()), &mut head_in(&fetched)?));
+        match (outcome, request) {
+            (Ok(outcome), Some(request)) => return self.store(client, asked, request, fetched, outcome),
+            (Ok(Outcome::Invalidate), None) => drop(self.purge(asked)),
+            _ => {}
         }
+        send_on(client, fetched, None, "pass");
     }
 }
 
-/// Waits for the request that has the permit. Says that another look-up is worth while, or fails.
-fn wait(request: &mut Request) -> Result<bool, pcache::Error> {
-    match request.wait_until(Instant::now() + PATIENCE)? {
-        Some(end) if end.looks_again() => Ok(false),
-        _ => Err(pcache::Error::Nothing),
-    }
+fn base_of(asked: &Asked) -> Vec<u8> {
+    format!("{} {}", field(&asked.fields, "host").unwrap_or("").to_ascii_lowercase(), asked.target).into_bytes()
+}
+
+/// The head of a request, of which the library decides what is served, validated, stored and purged (RFC 9111).
+fn rules_of(asked: &Asked) -> Result<Rules, Error> {
+    let mut head = Rules::new(&asked.method, asked.target.as_bytes())?;
+    asked.fields.iter().try_for_each(|(name, value)| head.add(name, value))?;
+    Ok(head)
 }
 
 /// The stored response was received when its meta was updated, and its request was sent right before.
-fn terms_of(meta: &mut Meta, now: Moment) -> Result<Terms, pcache::Error> {
+fn terms_of(meta: &mut Meta, now: Moment) -> Result<Terms, Error> {
     Ok(Terms { requested: meta.says()?.updated, ..Terms::at(now) })
 }
 
 /// What is sent of a stored response: with this Age or, right after it was validated, with the one that it came with.
-fn stored_of(meta: &mut Meta, gets: Gets, age: Option<u32>) -> Result<Stored, pcache::Error> {
+fn reply_of(meta: &mut Meta, age: Option<u32>, origin: &str) -> Result<(u16, Fields), Error> {
     let (status, mut fields) = meta.head()?;
-    if let Some(age) = age {
-        fields.retain(|(name, _)| name != "age");
-        fields.push(("age".to_string(), age.to_string().into_bytes()));
-    }
-    Ok(Stored { status, fields, gets })
+    fields.retain(|(name, _)| name != "age" || age.is_none());
+    fields.extend(age.map(|it| with("age", it)));
+    fields.push(with("X-Cache", origin));
+    Ok((status, fields))
 }
 
-/// The whole body that a request may read, which is kept whatever becomes of the request.
-fn views_of(request: &mut Request) -> Result<Vec<View>, pcache::Error> {
-    match request.view()? {
-        Read::Bytes(view) if request.body_length()?.is_some() => Ok(vec![view]),
-        _ => Err(pcache::Error::Nothing),
-    }
+/// Waits for the request that has the permit. Says that another look-up is worth while, or fails.
+fn wait(request: &mut Request) -> Result<bool, Error> {
+    let end = request.wait_until(Instant::now() + PATIENCE)?;
+    end.filter(|it| it.looks_again()).map(|_| false).ok_or(Error::Nothing)
 }
 
 /// Sends a response on as it comes, to the client and to the write of a request. A write that fails is let go.
-fn send_on(client: Option<&mut Client>, asked: &Asked, fetched: &mut Fetched, store: Option<(&mut Request, &mut Meta)>, origin: &str) {
-    let length = if asked.is_head() { field(&fetched.fields, "content-length").and_then(|it| it.parse().ok()) } else { fetched.length() };
-    let mut answer = Answer::begin(client, asked, &Said { status: fetched.status, fields: &fetched.fields, length, origin });
+fn send_on(client: &mut Client, mut fetched: Fetched, store: Option<(&mut Request, &mut Meta)>, origin: &str) {
+    fetched.fields.push(with("X-Cache", origin));
+    client.begin(fetched.status, &fetched.fields);
     let mut fill = store.and_then(|(request, meta)| request.fill(meta, None).ok());
     let is_whole = loop {
         match next_piece(&mut fetched.from, &mut fetched.left) {
             Ok(Some(piece)) => {
-                if fill.as_mut().map_or(false, |it| it.write(&piece).is_err()) {
-                    fill = None;
-                }
-                answer.piece(&piece);
+                fill = fill.and_then(|mut it| it.write(&piece).is_ok().then(|| it));
+                client.piece(&piece);
             }
-            Ok(None) => break true,
-            Err(_) => break false,
+            end => break end.is_ok(),
         }
     };
-    if let (true, Some(fill)) = (is_whole, fill) {
-        // A key that was purged meanwhile is a reason not to store it, and none not to send it.
-        let _ = fill.finish("");
-    }
-    answer.end(is_whole);
+    // A key that was purged meanwhile is a reason not to store it, and none not to send it.
+    let _ = fill.filter(|_| is_whole).map(|it| it.finish(""));
+    client.end(is_whole);
 }
 
-/// The first and the last byte of the one range that is asked for, of a body of this length; `Err` if it has none of it.
-fn range_of(asked: &Asked, length: usize) -> Option<Result<(usize, usize), ()>> {
-    let range = field(&asked.fields, "range")?.strip_prefix("bytes=")?;
-    let (first, last) = range.split_once('-')?;
-    let number = |it: &str| it.parse::<usize>().ok().filter(|_| it.bytes().all(|byte| byte.is_ascii_digit()));
-    let (first, last) = match (number(first), number(last)) {
-        (Some(first), Some(last)) if first <= last => (first, last.min(length.saturating_sub(1))),
-        (Some(first), None) if last.is_empty() => (first, length.saturating_sub(1)),
-        (None, Some(count)) if first.is_empty() => (if count == 0 { length } else { length.saturating_sub(count) }, length.saturating_sub(1)),
-        _ => return None,
-    };
-    Some(if first < length { Ok((first, last)) } else { Err(()) })
+/// The first and the last byte of the one range that is asked for, of a body of this length, which may have none of it.
+fn range_of(asked: &Asked, length: u64) -> Option<(u64, u64)> {
+    let (first, last) = field(&asked.fields, "range")?.strip_prefix("bytes=")?.split_once('-')?;
+    let end = length.saturating_sub(1);
+    match (number(first, 10), number(last, 10)) {
+        (Some(first), Some(last)) if first <= last => Some((first, last.min(end))),
+        (Some(first), None) if last.is_empty() => Some((first, end)),
+        (None, Some(count)) if first.is_empty() => Some((length.saturating_sub(count), end)),
+        _ => None,
+    }
 }
 
 /// Sends what a request reads: whole, in a range, or along with a write.
-fn send_stored(client: &mut Client, asked: &Asked, request: &mut Request, mut stored: Stored, origin: &str) {
-    let mut length = request.body_length().unwrap_or(None);
-    if stored.gets == Gets::NotModified {
-        Answer::begin(Some(client), asked, &Said { status: 304, fields: &stored.fields, length: None, origin }).end(true);
-        return;
-    }
-    let has_ranges = stored.gets == Gets::Range && stored.status == 200;
-    match length.filter(|_| has_ranges).and_then(|whole| range_of(asked, whole).map(|range| (whole, range))) {
-        Some((whole, Err(()))) => {
-            let fields = vec![("content-range".to_string(), format!("bytes */{whole}").into_bytes())];
-            Answer::begin(Some(client), asked, &Said { status: 416, fields: &fields, length: Some(0), origin }).end(true);
-            return;
+fn send_stored(client: &mut Client, asked: &Asked, request: &mut Request, gets: Gets, (mut status, mut fields): (u16, Fields)) {
+    let mut length = request.body_length().unwrap_or(None).map(|it| it as u64);
+    let whole = length.filter(|_| gets == Gets::Range && status == 200);
+    match whole.and_then(|whole| Some((whole, range_of(asked, whole)?))) {
+        _ if gets == Gets::NotModified => status = 304,
+        Some((whole, (first, _))) if first >= whole => {
+            (status, length) = (416, Some(0));
+            fields.retain(|(name, _)| name == "X-Cache");
+            fields.push(with("content-range", format!("bytes */{whole}")));
         }
-        Some((whole, Ok((first, last)))) if request.seek(first, Some(last + 1)).is_ok() => {
-            stored.status = 206;
-            stored.fields.push(("content-range".to_string(), format!("bytes {first}-{last}/{whole}").into_bytes()));
-            length = Some(last + 1 - first);
+        Some((whole, (first, last))) if request.seek(first as usize, Some(last as usize + 1)).is_ok() => {
+            (status, length) = (206, Some(last + 1 - first));
+            fields.push(with("content-range", format!("bytes {first}-{last}/{whole}")));
         }
         _ => {}
     }
-    let length = length.map(|it| it as u64);
-    let mut answer = Answer::begin(Some(client), asked, &Said { status: stored.status, fields: &stored.fields, length, origin });
-    if asked.is_head() {
-        return answer.end(true);
-    }
-    loop {
+    fields.extend(length.map(|it| with("content-length", it)));
+    client.begin(status, &fields);
+    let is_whole = !client.takes_body || status == 416 || loop {
         match request.view_until(Instant::now() + PATIENCE) {
-            Ok(Read::Bytes(view)) => answer.piece(&view),
-            Ok(Read::End) => return answer.end(true),
-            _ => return answer.end(false),
+            Ok(Read::Bytes(view)) => client.piece(&view),
+            end => break matches!(end, Ok(Read::End)),
         }
-    }
-}
-
-/// Sends a body whose request went elsewhere.
-fn send_views(client: &mut Client, asked: &Asked, stored: Stored, views: &[View], origin: &str) {
-    let length = Some(views.iter().map(|it| it.len() as u64).sum());
-    let mut answer = Answer::begin(Some(client), asked, &Said { status: stored.status, fields: &stored.fields, length, origin });
-    for view in views {
-        answer.piece(view);
-    }
-    answer.end(true);
+    };
+    client.end(is_whole);
 }
 
 fn converse(proxy: &Arc<Proxy>, stream: TcpStream) -> io::Result<()> {
-    stream.set_nodelay(true)?;
-    stream.set_read_timeout(Some(PATIENCE))?;
-    stream.set_write_timeout(Some(PATIENCE))?;
     let is_near = stream.peer_addr()?.ip().is_loopback();
-    let mut client = Client { from: BufReader::new(stream.try_clone()?), to: stream, has_chunks: true, stays: true };
+    let stream = patient(stream)?;
+    let (mut from, mut client) = (BufReader::new(stream.try_clone()?), Client::new(stream));
     while client.stays {
-        match read_request(&mut client) {
-            Ok(None) => break,
-            Ok(Some(asked)) if asked.method == "PURGE" => {
+        match read_request(&mut from, &mut client) {
+            Ok(asked) if asked.method == "PURGE" => {
                 let status = if is_near { proxy.purge(&asked).map_or(500, |was| if was { 200 } else { 404 }) } else { 403 };
-                answer_shortly(&mut client, &asked, status, "purge");
+                client.answer(status, "purge");
             }
-            Ok(Some(asked)) => proxy.serve(&mut client, &asked),
+            Ok(asked) => proxy.serve(&mut client, &asked),
             Err(error) if error.kind() == ErrorKind::InvalidData => {
-                client.to.write_all(b"HTTP/1.1 400 -\r\nConnection: close\r\nContent-Length: 0\r\n\r\n")?;
-                break;
+                client.stays = false;
+                client.answer(400, "none");
             }
             Err(error) => return Err(error),
         }
@@ -461,33 +350,19 @@ fn converse(proxy: &Arc<Proxy>, stream: TcpStream) -> io::Result<()> {
 }
 
 fn main() -> Result<(), Box<dyn std::error::Error>> {
-    let words: Vec<String> = env::args().collect();
-    let (listen, origin) = match &words[..] {
-        [_, listen, origin, ..] => (listen, origin),
-        _ => return Err("proxy LISTEN ORIGIN [LIMIT]".into()),
-    };
-    let limit = words.get(3).map_or(Ok(100_000_000), |it| it.parse())?;
+    let mut words = env::args().skip(1);
+    let (listen, origin) = words.next().zip(words.next()).ok_or("proxy LISTEN ORIGIN [LIMIT]")?;
+    let limit = words.next().map_or(Ok(100_000_000), |it| it.parse())?;
     let cache = Cache::new(&Options { limit, age_timeout: PATIENCE, ..Options::default() })?;
-    // (numbers that an earlier run gave are no use to anyone)
-    let numbers = AtomicU64::new(UNIX_EPOCH.elapsed()?.as_nanos() as u64);
-    let proxy = Arc::new(Proxy { cache, origin: origin.clone(), known: Mutex::new(HashMap::new()), numbers });
-    let open = Arc::new(AtomicUsize::new(0));
+    let proxy = Arc::new(Proxy { cache, origin, known: Mutex::default(), numbers: AtomicU64::default() });
     let listener = TcpListener::bind(listen)?;
     println!("{}", listener.local_addr()?);
-    for stream in listener.incoming() {
-        let stream = match stream {
-            Ok(stream) => stream,
-            Err(_) => continue,
-        };
-        if open.fetch_add(1, Ordering::Relaxed) >= MOST_CONNECTIONS {
-            open.fetch_sub(1, Ordering::Relaxed);
-            continue;
+    for stream in listener.incoming().flatten() {
+        let proxy = proxy.clone();
+        // (each conversation, and each body that is renewed meanwhile, has a share of the proxy)
+        if Arc::strong_count(&proxy) < MOST_CONNECTIONS + 2 {
+            thread::spawn(move || converse(&proxy, stream));
         }
-        let (proxy, open) = (proxy.clone(), open.clone());
-        thread::spawn(move || {
-            let _ = converse(&proxy, stream);
-            open.fetch_sub(1, Ordering::Relaxed);
-        });
     }
     Ok(())
 }

@@ -1,7 +1,5 @@
 -- What was heard, one directive more.
-use Rattle.std.proofs.Common.{◌≡◌, ℕ, Bool, true, false, ◌||◌, List, [], ◌∷◌, ◌++◌, Option, Some, None, refl, sym, ap, ◌∙◌, append-nil, bytes_eq, cond}
-use Rattle.std.specs.List.{list_any}
-use Rattle.std.proofs.lemmas.List.Folds.{list_any-append}
+use Rattle.std.proofs.Common.{◌≡◌, ℕ, Bool, true, false, List, [], ◌∷◌, ◌++◌, Option, Some, None, refl, sym, ap, ◌∙◌, append-nil, bytes_eq, cond}
 use Rattle.std.proofs.lemmas.List.Elements.{filter_map-append}
 use Rattle.std.specs.List.{filter_map}
 use Rattle.pcache_http.specs.declared.seconds.Amount.{Amount}
@@ -9,17 +7,9 @@ use Rattle.pcache_http.specs.declared.seconds.Number.{Number}
 use Rattle.pcache_http.specs.declared.seconds.Number.TheVariants.{Absent, Once, Repeated}
 use Rattle.pcache_http.specs.declared.control.Reach.{Reach}
 use Rattle.pcache_http.specs.declared.control.Reach.TheVariants.{Nothing, Fields, Whole}
-use Rattle.pcache_http.specs.Said.{Directive, is_called, mentions, value_if, values_of}
+use Rattle.pcache_http.specs.Said.{Directive, is_called, value_if, values_of}
 use Rattle.pcache_http.specs.Seconds.{amount_of, counted, count_next}
 use Rattle.pcache_http.specs.Control.{with_fields, reach_of}
-
-or_false : (b : Bool) → (b || false) ≡ b
-or_false true = refl
-or_false false = refl
-
-pub mentions-more : (name : List ℕ) (said : List Directive) (d : Directive) → mentions name (said ++ d ∷ []) ≡ (mentions name said || is_called name d)
-mentions-more name said d =
-    list_any-append (is_called name) said (d ∷ []) ∙ ap (λ b. mentions name said || b) (or_false (is_called name d))
 
 -- a directive of another name changes nothing
 values_none : (name : List ℕ) (d : Directive) (b : Bool) → is_called name d ≡ b → b ≡ false → values_of name (d ∷ []) ≡ []

@@ -41,9 +41,15 @@ pub struct Rules {
 }
 
 impl Rules {
+    ghost use Rattle.std.specs.Prelude.{◌≡◌};
+
     /// The rules of a proxy: a shared cache, for which the first of several values counts, and which
     /// guesses a lifetime of a day at most.
-    pub fn of_a_proxy() -> Rules {
+    pub fn of_a_proxy() -> Rules
+        ensures kind { result.kind ≡ CacheKind.Shared }
+        ensures repeats { result.repeats ≡ Repeats.First }
+        ensures heuristic { result.heuristic ≡ Heuristic.Tenth 86400 }
+    {
         Rules {
             kind: CacheKind::Shared,
             repeats: Repeats::First,

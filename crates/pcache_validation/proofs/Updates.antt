@@ -93,20 +93,6 @@ pub record Replacing (brought before now : Entries FieldValue) (left : List (Lis
   pub lines : (name : List ℕ) → cond (is_key name left) (get_all brought name) (get_all now name)
       ≡ cond (is_key name (keys brought)) (get_all brought name) (get_all before name)
 
-put : (brought now then : Entries FieldValue) (key name : List ℕ) (here more : Bool) → bytes_eq key name ≡ here
-    → get_all then key ≡ get_all brought key → AreSameBut key now then
-    → cond more (get_all brought name) (get_all then name) ≡ cond (here || more) (get_all brought name) (get_all now name)
-put brought now then key name true true is same others = refl
-put brought now then key name true false is same others = subst (λ n. get_all then n ≡ get_all brought n) (equal key name is) same
-put brought now then key name false true is same others = refl
-put brought now then key name false false is same others = others.others name (differ key name is)
-
-pub replacing_next : (brought before now then : Entries FieldValue) (key : List ℕ) (left : List (List ℕ)) → Replacing brought before now (key ∷ left)
-    → get_all then key ≡ get_all brought key → AreSameBut key now then → Replacing brought before then left
-replacing_next brought before now then key left was same others = record {
-  lines = λ name. put brought now then key name (bytes_eq key name) (is_key name left) refl same others ∙ was.lines name;
-}
-
 filled_one : (vs : List FieldValue) → 0 < length vs → true ≡ is_some (slice_get vs 0)
 filled_one [] some = absurd (omega arith)
 filled_one (v ∷ vs) some = refl

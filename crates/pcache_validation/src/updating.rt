@@ -1,6 +1,6 @@
 //! Which fields of a newer response a stored one takes (RFC 9111 section 3.2).
 
-ghost use Rattle.std.specs.Prelude.{◌≡◌, ◌⊎◌, ◌++◌, IfOk, IfErr, OnOk, codes};
+ghost use Rattle.std.specs.Prelude.{◌≡◌, ◌⊎◌, ◌+◌, ◌<◌, ◌++◌, IfOk, IfErr, OnOk, codes, length};
 ghost use Rattle.http_header.specs.HeaderMap.{append, get_all, remove};
 ghost use Rattle.http_header.specs.Token.{lowercase};
 ghost use Rattle.pcache_base.specs.declared.error.ErrorType.TheVariants.{InternalError, OutOfMemory};
@@ -169,6 +169,34 @@ fn brought_in(new: &HeaderMap, body: StoredBody) -> Result<HeaderMap>
     Ok(brought)
 }
 
+// A copy of the fields of a stored response, with each field of another head in place of what is
+// present.
+fn with_fields(stored: &HeaderMap, brought: &HeaderMap) -> Result<HeaderMap>
+    ensures ok { IfOk result (Takes brought.now stored.now) }
+    ensures kind { IfErr result (λ e. (e ≡ OutOfMemory) ⊎ (e ≡ InternalError)) }
+{
+    let mut updated = copied(stored)?;
+    replace_all(&mut updated, brought)?;
+    Ok(updated)
+}
+
+// The most names that a head has room for.
+const MOST_NAMES: usize = 24576;
+
+// Why the fields of a newer response were not put in: there are too many only if both heads have
+// more names than one has room for, and else it was for lack of memory.
+fn refused(error: Error, stored: &HeaderMap, new: &HeaderMap) -> Error
+    requires { (error ≡ OutOfMemory) ⊎ (error ≡ InternalError) }
+    ensures { (result ≡ OutOfMemory)
+        ⊎ ((result ≡ InternalError) × (24576 < length stored.now + length new.now)) }
+{
+    if stored.keys_len() + new.keys_len() > MOST_NAMES {
+        error
+    } else {
+        Error::new(ErrorType::OutOfMemory)
+    }
+}
+
 /// The fields of a stored response, updated with those of a newer one: each that is not left out
 /// replaces what is stored under its name, and all others stay. Left out are the fields of the
 /// connection, also those that its Connection names, those of the proxy, Content-Length and
@@ -176,13 +204,16 @@ fn brought_in(new: &HeaderMap, body: StoredBody) -> Result<HeaderMap>
 /// newer fields are handed in as they would be stored (section 3.1): without those that its `private`
 /// and `no-cache` name, which a cache's directives tell.
 ///
-/// Allocates the map. Fails with `OutOfMemory`, or with `InternalError` if there are too many fields.
+/// Allocates the map. Fails with `OutOfMemory`, or with `InternalError` if both have more names
+/// together than the 24,576 that a map has room for.
 pub fn updated(stored: &HeaderMap, new: &HeaderMap, body: StoredBody) -> Result<HeaderMap>
     ensures ok { IfOk result (IsUpdated body new.now stored.now) }
-    ensures kind { IfErr result (λ e. (e ≡ OutOfMemory) ⊎ (e ≡ InternalError)) }
+    ensures kind { IfErr result (λ e. (e ≡ OutOfMemory)
+        ⊎ ((e ≡ InternalError) × (24576 < length stored.now + length new.now))) }
 {
     let brought = brought_in(new, body)?;
-    let mut updated = copied(stored)?;
-    replace_all(&mut updated, &brought)?;
-    Ok(updated)
+    match with_fields(stored, &brought) {
+        Ok(updated) => Ok(updated),
+        Err(error) => Err(refused(error, stored, new)),
+    }
 }
