@@ -121,7 +121,7 @@ impl<M: EvictionManager, K: Mark, const N: usize> Unused<M, K, N> {
 pub trait OverParts<M: EvictionManager, const N: usize> {
     type Out;
 
-    ghost gives: { Self → List Limits → Out → Type 0 };
+    ghost gives: { Self → List Limits → Self.Out → Type 0 };
 
     /// Is called once, with the parts of a cache that is to be made by `SharedCache::over`. Its contract says of the parts' limits
     /// what it gives.

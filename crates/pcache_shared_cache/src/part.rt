@@ -36,6 +36,18 @@ impl<M: EvictionManager, K: Mark> Model for Part<M, K> {
     ghost invariant = { λ p. EndsWith p.log.log p.cache };
 }
 
+impl<M: EvictionManager, K: Mark> Part<M, K> {
+    ghost use Rattle.std.specs.Prelude.{◌≡◌};
+
+    // The cache itself.
+    fn into_cache(self) -> Cache<Portion<M>, K>
+        ensures { result ≡ self.now }
+    {
+        let Part { cache, log: _ } = self;
+        cache
+    }
+}
+
 // One part behind its lock, and its beginning. A contract sees the place and the limits of the part.
 //
 // Of the value that a lock lends only the type is known. Therefore the place and the limits are kept beside the lock too, and the
@@ -150,7 +162,7 @@ impl<M: EvictionManager, K: Mark> PartLock<M, K> {
             beginning: _,
             part,
         } = self;
-        let Part { cache, log: _ } = part.into_inner();
+        let cache = part.into_inner().into_cache();
         cache.is_kept();
         let portion = cache.into_manager();
         if portion.limit() == limit && portion.watermark() == watermark {
@@ -165,13 +177,17 @@ impl<M: EvictionManager, K: Mark> PartLock<M, K> {
         ensures { OfPart self.now.limits (λ p. result ≡ stored_bytes p.store) }
     {
         let _limit = self.limit; // for the prover: the limit is a `usize`
-        self.lock(rt).cache.stored_bytes() as usize
+        let guard = self.lock(rt);
+        let part = &*guard;
+        part.cache.stored_bytes() as usize
     }
 
     // The number of complete bodies.
     pub(crate) fn slots<R: Wait>(&self, rt: &R) -> usize
         ensures { OfPart self.now.limits (λ p. result ≡ slots p.store) }
     {
-        self.lock(rt).cache.slots()
+        let guard = self.lock(rt);
+        let part = &*guard;
+        part.cache.slots()
     }
 }

@@ -1,0 +1,35 @@
+use Rattle.std.proofs.Common.{ap, refl, sym, ◌∙◌}
+use Rattle.pcache_shared_cache.specs.Calls.{EndsWriteOf}
+use Rattle.pcache_shared_cache.specs.Seen.{Held}
+use Rattle.pcache_shared_cache.specs.Shared.{Seated}
+use Rattle.pcache_shared_cache.proofs.InPart.{not_so}
+use Rattle.pcache_shared_cache.proofs.Led.{ended, stayed}
+use Rattle.pcache_shared_cache.proofs.Logs.{goes_by}
+use Rattle.pcache_shared_cache.proofs.shared.SharedCache.finish_miss_handler.Goals as goal
+
+pub adds-requires-clause-leads : goal.adds-requires-clause-leads
+adds-requires-clause-leads g c = let p = c.part-2.inside.cache in (p, c.part-2.invariant, stayed p p refl)
+
+pub returns-then-not-may_end-clause-goes : goal.returns-then-not-may_end-clause-goes
+returns-then-not-may_end-clause-goes g c =
+    let p = c.part-2.inside.cache in
+    let here = ap (λ (h : Held). h.place) (c.part-2.view_is ∙ c.deref_mut-part.ensures.value) ∙ c.lock-guard.ensures.place ∙ c.part.ensures.place ∙ c.place.ensures.place ∙ ap (λ (s : Seated). s.place) (sym c.request.view_is) in
+    rw (← c.request.view_is) (goes_by g.K.Mark.names c.part-2.inside.log.place c.request.inside.sight.place c.request.inside.sight.log c.request.inside.sight.log c.adds.new.sight.log p p here refl (c.adds.ensures.moves p c.part-2.invariant)
+    (record { ended = λ may. not_so c.may_end.result c.if-not-may_end.true c.may_end.ensures may; refused = λ no. refl; limits = refl }))
+
+pub adds-requires-2-clause-leads : goal.adds-requires-2-clause-leads
+adds-requires-2-clause-leads g c =
+    let p = c.part-2.inside.cache in
+    let q = c.finish_miss_handler-report.new.self in
+    let may = c.may_end.ensures.0 c.if-not-may_end.false in
+    let row : EndsWriteOf c.finish_miss_handler-report.result c.request.inside.request.cache p q = record { ended = λ _. c.finish_miss_handler-report.ensures.ended; refused = λ no. absurd (no may); limits = c.finish_miss_handler-report.ensures.limits } in
+    (p, c.part-2.invariant, ended c.finish_miss_handler-report.result c.request.inside.request.cache p q row may)
+
+pub returns-clause-goes : goal.returns-clause-goes
+returns-clause-goes g c =
+    let p = c.part-2.inside.cache in
+    let q = c.finish_miss_handler-report.new.self in
+    let may = c.may_end.ensures.0 c.if-not-may_end.false in
+    let row : EndsWriteOf c.finish_miss_handler-report.result c.request.inside.request.cache p q = record { ended = λ _. c.finish_miss_handler-report.ensures.ended; refused = λ no. absurd (no may); limits = c.finish_miss_handler-report.ensures.limits } in
+    let here = ap (λ (h : Held). h.place) (c.part-2.view_is ∙ c.deref_mut-part.ensures.value) ∙ c.lock-guard.ensures.place ∙ c.part.ensures.place ∙ c.place.ensures.place ∙ ap (λ (s : Seated). s.place) (sym c.request.view_is) in
+    rw (← c.request.view_is) (goes_by g.K.Mark.names c.part-2.inside.log.place c.request.inside.sight.place c.request.inside.sight.log c.request.inside.sight.log c.adds-2.new.sight.log p q here refl (c.adds-2.ensures.moves p c.part-2.invariant) row)

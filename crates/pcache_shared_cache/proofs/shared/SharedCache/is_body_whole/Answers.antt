@@ -1,0 +1,14 @@
+use Rattle.std.proofs.Common.{ap, refl, sym, ◌∙◌}
+use Rattle.pcache_shared_cache.specs.Seen.{Held}
+use Rattle.pcache_shared_cache.specs.Shared.{Seated}
+use Rattle.pcache_shared_cache.proofs.Logs.{sees_by, sees_last}
+use Rattle.pcache_shared_cache.proofs.shared.SharedCache.is_body_whole.Goals as goal
+
+pub returns-then-reads_alone-clause-sees : goal.returns-then-reads_alone-clause-sees
+returns-then-reads_alone-clause-sees g c = rw (← c.request.view_is) (sees_last (g.K.Mark.names c.request.inside.sight.place) c.request.inside.sight.log c.is_log.ensures (λ p. c.is_body_whole_alone.ensures p.store))
+
+pub returns-clause-sees : goal.returns-clause-sees
+returns-clause-sees g c =
+    let p = c.part.inside.cache in
+    let here = ap (λ (h : Held). h.place) (c.part.view_is ∙ c.deref_mut-part.ensures.value) ∙ c.lock-guard.ensures.place ∙ c.part-lock.ensures.place ∙ c.place.ensures.place ∙ ap (λ (s : Seated). s.place) (sym c.request.view_is) in
+    rw (← c.request.view_is) (sees_by g.K.Mark.names c.part.inside.log.place c.request.inside.sight.place c.request.inside.sight.log c.request.inside.sight.log c.shows.new.sight.log p here refl (c.shows.ensures.looks p c.part.invariant) c.is_body_whole.ensures)
