@@ -12,7 +12,7 @@ got [] b p (suc i) is = inl is
 got (x ∷ xs) b p zero is = inl is
 got (x ∷ xs) b p (suc i) is = ⊎_elim inl (λ last. inr (ap suc last.0, last.1)) (got xs b p i is)
 
-place_of : Option Begun → ℕ
+abbrev place_of : Option Begun → ℕ
 place_of None = 0
 place_of (Some p) = p.place
 
@@ -49,3 +49,9 @@ made_more all rest u parts b made here limits = (
 
 pub made_all : (all : List Unmade) (parts : List Begun) → Made all [] parts → map (λ (p : Begun). p.limits) parts ≡ map (λ (u : Unmade). u.portion.limits) all
 made_all all parts made = made.3 ∙ ap (map (λ (u : Unmade). u.portion.limits)) (sym (append-nil made.0) ∙ made.1)
+
+pub made_count : (all : List Unmade) (parts : List Begun) → Made all [] parts → length parts ≡ length all
+made_count all parts made = sym made.2 ∙ ap length (sym (append-nil made.0) ∙ made.1)
+
+pub made_placed : (all : List Unmade) (parts : List Begun) → Made all [] parts → ArePlaced parts
+made_placed all parts made = made.4

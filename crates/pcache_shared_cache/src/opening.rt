@@ -1,5 +1,5 @@
 //! Parts that are still to be made, and their names.
-ghost use Rattle.std.specs.Prelude.{◌≡◌, ℕ, [], List, None, IfErr, IfOk, length, map};
+ghost use Rattle.std.specs.Prelude.{◌≡◌, ℕ, [], List, None, IfErr, IfOk, map};
 ghost use Rattle.pcache_base.specs.declared.error.ErrorType.TheVariants.{OutOfMemory};
 ghost use Rattle.pcache_evict.specs.Tracked.{Limits};
 ghost use Rattle.pcache_shared_cache.specs.Managed.{Unmade};
@@ -72,16 +72,15 @@ pub fn new_parts<M: EvictionManager>(
     Ok(parts)
 }
 
-/// The parts of one cache with the mark `K`, not made yet: `N` of them, whose names the mark has, if it has any. A contract sees
-/// their limits.
+/// The parts of one cache with the mark `K`, not made yet, whose names the mark has, if it has any. A contract sees their limits.
 #[derive(Drop)]
-pub struct Unused<M: EvictionManager, K: Mark, const N: usize> {
+pub struct Unused<M: EvictionManager, K: Mark> {
     parts: Vec<NewPart<M>>,
     of: PhantomData<K>,
 }
 
-impl<M: EvictionManager, K: Mark, const N: usize> Model for Unused<M, K, N> {
-    ghost use Rattle.std.specs.Prelude.{◌≡◌, List, length, map};
+impl<M: EvictionManager, K: Mark> Model for Unused<M, K> {
+    ghost use Rattle.std.specs.Prelude.{List, map};
     ghost use Rattle.pcache_evict.specs.Tracked.{Limits};
     ghost use Rattle.pcache_shared_cache.specs.Managed.{Unmade};
     ghost use Rattle.pcache_shared_cache.specs.Seen.{AreNamed};
@@ -90,14 +89,13 @@ impl<M: EvictionManager, K: Mark, const N: usize> Model for Unused<M, K, N> {
 
     ghost view = { λ u. map (λ (p : Unmade). p.portion.limits) u.parts.items };
 
-    ghost invariant = { λ u. (length u.parts.items ≡ N) × AreNamed K.names (map (λ (p : Unmade). p.name) u.parts.items) };
+    ghost invariant = { λ u. AreNamed K.names (map (λ (p : Unmade). p.name) u.parts.items) };
 }
 
-impl<M: EvictionManager, K: Mark, const N: usize> Unused<M, K, N> {
+impl<M: EvictionManager, K: Mark> Unused<M, K> {
     /// For a mark that names no place.
-    pub fn unnamed(parts: Vec<NewPart<M>>) -> Unused<M, K, N>
-        requires count { length parts.items ≡ N }
-        requires unnamed { (place : ℕ) → K.names place ≡ None }
+    pub fn unnamed(parts: Vec<NewPart<M>>) -> Unused<M, K>
+        requires { (place : ℕ) → K.names place ≡ None }
         ensures { result ≡ map (λ (p : Unmade). p.portion.limits) parts.items }
     {
         Unused {
@@ -108,7 +106,6 @@ impl<M: EvictionManager, K: Mark, const N: usize> Unused<M, K, N> {
 
     // The parts themselves.
     pub(crate) fn into_parts(self) -> Vec<NewPart<M>>
-        ensures count { length result.items ≡ N }
         ensures limits { map (λ (p : Unmade). p.portion.limits) result.items ≡ self }
         ensures named { AreNamed K.names (map (λ (p : Unmade). p.name) result.items) }
     {
@@ -118,35 +115,38 @@ impl<M: EvictionManager, K: Mark, const N: usize> Unused<M, K, N> {
 }
 
 /// What is done with a cache whose parts a mark names: see `over_parts`.
-pub trait OverParts<M: EvictionManager, const N: usize> {
+pub trait OverParts<M: EvictionManager> {
     type Out;
+
+    /// What it asks of the limits of the parts, for example their number, and what it gives.
+    ghost asks: { Self → List Limits → Type 0 };
 
     ghost gives: { Self → List Limits → Self.Out → Type 0 };
 
-    /// Is called once, with the parts of a cache that is to be made by `SharedCache::over`. Its contract says of the parts' limits
-    /// what it gives.
-    fn run<K: Mark>(self, parts: Unused<M, K, N>) -> Self::Out
+    /// Is called once, with the parts of a cache that is to be made by `SharedCache::over`.
+    fn run<K: Mark>(self, parts: Unused<M, K>) -> Self::Out
+        requires { asks self parts }
         ensures { gives self parts result };
 }
 
 /// Runs a program over the parts of one cache, under a mark that names each part. So what each call of the cache says of its part
 /// is of that part's own states.
-pub fn over_parts<M: EvictionManager, const N: usize, P: OverParts<M, N>>(
+pub fn over_parts<M: EvictionManager, P: OverParts<M>>(
     parts: Vec<NewPart<M>>,
     program: P,
 ) -> P::Out
-    requires { length parts.items ≡ N }
+    requires { P.asks program (map (λ (p : Unmade). p.portion.limits) parts.items) }
     ensures { P.gives program (map (λ (p : Unmade). p.portion.limits) parts.items) result }
 {
-    named::<M, N, P, Brand>(parts, program)
+    named::<M, P, Brand>(parts, program)
 }
 
-// The same under a mark that has these names.
-fn named<M: EvictionManager, const N: usize, P: OverParts<M, N>, K: Mark>(
+// The same under a mark that has these names. It has no const parameter, since `over_parts` picks the mark.
+fn named<M: EvictionManager, P: OverParts<M>, K: Mark>(
     parts: Vec<NewPart<M>>,
     program: P,
 ) -> P::Out
-    requires count { length parts.items ≡ N }
+    requires asked { P.asks program (map (λ (p : Unmade). p.portion.limits) parts.items) }
     requires named { AreNamed K.names (map (λ (p : Unmade). p.name) parts.items) }
     ensures { P.gives program (map (λ (p : Unmade). p.portion.limits) parts.items) result }
 {

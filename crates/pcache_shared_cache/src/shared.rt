@@ -1,8 +1,11 @@
 //! The cache, and its getters.
-ghost use Rattle.std.specs.Prelude.{◌≡◌, ◌<◌};
+ghost use Rattle.std.specs.Prelude.{◌≡◌, ◌<◌, IfErr, IfOk, length, map};
+ghost use Rattle.pcache_base.specs.declared.error.ErrorType.TheVariants.{OutOfMemory};
+ghost use Rattle.pcache_shared_cache.specs.Managed.{Unmade};
+ghost use Rattle.pcache_shared_cache.specs.Seen.{AreNamed, ArePlaced, Begun};
 
 use crate::mark::Mark;
-use crate::opening::{Unused, new_parts};
+use crate::opening::{NewPart, Unused, new_parts};
 use crate::part::PartLock;
 use crate::portion::Portion;
 use crate::put::SharedPut;
@@ -76,19 +79,17 @@ impl<M: EvictionManager, K: Mark, const N: usize> SharedCache<M, K, N> {
     pub fn over(
         alloc: Global,
         seed: Seed,
-        unused: Unused<M, K, N>,
+        unused: Unused<M, K>,
         age_timeout: Duration,
     ) -> Result<SharedCache<M, K, N>>
-        requires { 0 < N }
+        requires some { 0 < N }
+        requires count { length unused ≡ N }
         ensures limits { IfOk result (λ c. c ≡ unused) }
         ensures kind { IfErr result (λ e. e ≡ OutOfMemory) }
     {
         let new_parts = unused.into_parts();
-        let mut parts = Vec::with_capacity(alloc, new_parts.len())?;
         let room = Vec::with_capacity(alloc, new_parts.len())?;
-        for new_part in new_parts {
-            parts.push_reserved(PartLock::new(alloc, seed, parts.len(), new_part, age_timeout));
-        }
+        let parts = locks_of(alloc, seed, new_parts, age_timeout)?;
         Ok(SharedCache { alloc, parts, room })
     }
 
@@ -183,4 +184,26 @@ impl<M: EvictionManager, K: Mark, const N: usize> SharedCache<M, K, N> {
         let parts = &self.parts;
         &parts[place]
     }
+}
+
+// A part behind its lock for each of these, at its place.
+fn locks_of<M: EvictionManager, K: Mark>(
+    alloc: Global,
+    seed: Seed,
+    new_parts: Vec<NewPart<M>>,
+    age_timeout: Duration,
+) -> Result<Vec<PartLock<M, K>>>
+    requires { AreNamed K.names (map (λ (u : Unmade). u.name) new_parts.items) }
+    ensures made { IfOk result (λ v. (length v.items ≡ length new_parts.items)
+        × ArePlaced v.items
+        × (map (λ (p : Begun). p.limits) v.items
+        ≡ map (λ (u : Unmade). u.portion.limits) new_parts.items)) }
+    ensures kind { IfErr result (λ e. e ≡ OutOfMemory) }
+{
+    let mut parts = Vec::with_capacity(alloc, new_parts.len())?;
+    for new_part in new_parts {
+        let place = parts.len();
+        parts.push_reserved(PartLock::new(alloc, seed, place, new_part, age_timeout));
+    }
+    Ok(parts)
 }
