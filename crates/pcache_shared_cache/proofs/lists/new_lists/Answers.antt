@@ -8,7 +8,7 @@ use Rattle.pcache_shared_cache.specs.Portions.{portion_at}
 use Rattle.pcache_shared_cache.proofs.lists.new_lists.Goals as goal
 
 pub loop-place-preserved : goal.loop-place-preserved
-loop-place-preserved g c =
+loop-place-preserved c =
     let i = c.loop-place.invariant in
     let p = c.push_reserved.ensures in
     let made = c.in_ok-list_at.ensures.limits in (
