@@ -1,5 +1,6 @@
 //! Parts over recency lists.
-ghost use Rattle.std.specs.Prelude.{◌≡◌, ◌<◌, IfErr, IfOk, map};
+ghost use Rattle.std.specs.Prelude.{◌≡◌, ◌<◌, IfErr, IfOk, length, map};
+ghost use Rattle.pcache_shared_cache.specs.Managed.{Unmade};
 ghost use Rattle.pcache_base.specs.declared.error.ErrorType.TheVariants.{OutOfMemory};
 ghost use Rattle.pcache_shared_cache.specs.Portions.{portion_at, portions};
 
@@ -40,7 +41,7 @@ impl<K: Mark, const N: usize> SharedCache<Manager, K, N> {
     }
 }
 
-/// So many parts that are to be made, for `SharedCache::new`, which evict the least recently used bodies. The limit on the bytes of
+/// So many parts that are to be made, for `over_parts`, which evict the least recently used bodies. The limit on the bytes of
 /// all bodies, and on their number if one is given, is split evenly; the first parts get one more each, for the remainder. Fails when
 /// memory runs out.
 pub fn new_lists(
@@ -51,7 +52,9 @@ pub fn new_lists(
     parts: usize,
 ) -> Result<Vec<NewPart<Manager>>>
     requires { 0 < parts }
-    ensures limits { IfOk result (λ v. map (λ p. p.portion.limits) v.items ≡ portions parts limit watermark) }
+    ensures limits { IfOk result (λ v.
+        map (λ (u : Unmade). u.portion.limits) v.items ≡ portions parts limit watermark) }
+    ensures count { IfOk result (λ v. length v.items ≡ parts) }
     ensures kind { IfErr result (λ e. e ≡ OutOfMemory) }
 {
     let mut lists = Vec::with_capacity(alloc, parts)?;

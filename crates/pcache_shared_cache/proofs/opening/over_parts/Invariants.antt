@@ -4,4 +4,4 @@ use Rattle.pcache_shared_cache.proofs.opening.over_parts.Given as goal
 
 -- the mark names at each place the keeper that stands there
 abbrev pub ghosts-named : goal.ghosts-named
-ghosts-named a = record { names = λ place. slice_get (map (λ (p : Unmade). p.name) a.parts.items) place }
+ghosts-named g a = record { names = λ place. slice_get (map (λ (p : Unmade). p.name) a.parts.items) place }
