@@ -159,7 +159,7 @@ def contract_at(text, at):
     """The clauses of the function whose name ends at a place, each as it stands, and its body."""
     at = closed(text, text.index("(", behind_generics(text, at)))
     clause = re.compile(r"(?:\s|//[^\n]*\n)*((?:requires|ensures)\*?)(?: \w+)? \{")
-    while not re.compile(r"\s*(?:(?:requires|ensures)\b|[{;])").match(text, at):
+    while not re.compile(r"(?:\s|//[^\n]*\n)*(?:(?:requires|ensures)\b|[{;])").match(text, at):
         at = closed(text, at) if text[at] in "([" else at + 1
     clauses = []
     while found := clause.match(text, at):

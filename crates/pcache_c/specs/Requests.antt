@@ -253,10 +253,9 @@ MayEndWrite c o = IsFilling o.request.cache.phase × MayEnd c.store o.request.ca
 -- what the call of the cache answered, and what that leaves
 pub record EndsSo (result : Result (Option FinishReport) ErrorType) (c d : Parts) (o p : Open) : Type 0 where
   pub request : p.request.cache ≡ after_finish o.request.cache
-  pub end : EndsAs result (λ e. Ends in_memory o.request.cache o.request.cache.key o.request.cache.write (finishes_of (created c.store) o.request.cache.write)
-      c.limits e c.store d.store (tracked_at_end c o.request.cache e) d.tracked c.locks d.locks)
-  pub evicted : EndsAs result (λ e. d.evicted
-      ≡ evicted_after o.request.cache o.request.cache.key (finishes_of (created c.store) o.request.cache.write) (tracked_at_end c o.request.cache e) c.evicted e)
+  pub ended : EndsAs result (λ e. Ends in_memory o.request.cache o.request.cache.key o.request.cache.write (finishes_of (created c.store) o.request.cache.write)
+      c.limits e c.store d.store (tracked_at_end c o.request.cache e) d.tracked c.locks d.locks
+      × (d.evicted ≡ evicted_after o.request.cache o.request.cache.key (finishes_of (created c.store) o.request.cache.write) (tracked_at_end c o.request.cache e) c.evicted e))
   pub limits : d.limits ≡ c.limits
   pub rest : KeepsFound o p
 

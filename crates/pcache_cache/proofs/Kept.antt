@@ -16,10 +16,14 @@ use Rattle.pcache_evict.specs.Tracked.{Tracked, Limits, added}
 use Rattle.pcache_meta.specs.Meta.{Meta, expired_at, in_place_of}
 use Rattle.pcache_predict.specs.declared.admission.Decision.{Decision}
 use Rattle.pcache_request.specs.Admissions.{is_deferral, store_looked_with}
+use Rattle.pcache_lock.specs.Locks.{Locks}
+use Rattle.pcache_request.specs.Failures.{FailsToBegin, FailsToLook}
 use Rattle.pcache_request.specs.Finishing.{entry_slot}
+use Rattle.pcache_request.specs.LockPasts.{Deeds}
 use Rattle.pcache_request.specs.Renewals.{with_meta_of}
 use Rattle.pcache_request.specs.Requests.{Request, begun_for, counts_found, dropped_by, entry_of, found_for, followed_for, left_by, store_found, store_writing, tracked_found, tracked_found_at, tracked_gone, tracked_gone_for}
 use Rattle.pcache_request.specs.Phases.{is_treated_as_miss}
+use Rattle.pcache_request.specs.StorePasts.{Past}
 use Rattle.pcache_request.specs.Variants.{is_hidden, searched, without_hidden}
 use Rattle.pcache_request.specs.declared.phase.HitStatus.{HitStatus}
 use Rattle.pcache_store.specs.Purge as purge
@@ -75,26 +79,26 @@ slots-searched s r = slots-without r.valid_after (found s r) (followed s (found 
     found : Store → Request → Option (Meta × Reader)
     found s r = found_for s r.key
 
-pub kept_looked : {A : Type 0} (limits : Limits) (m : Tracked) (s t : Store) (r : Request) (result : Result A ErrorType) → OnOk result (t ≡ searched s r) → OnErr result ((t ≡ s) ⊎ (t ≡ searched s r)) → IsKept limits m s → IsKept limits m t
-kept_looked limits m s t r result ok err k =
+pub kept_looked : {A : Type 0} (limits : Limits) (m : Tracked) (s t : Store) (p q : Past) (r : Request) (result : Result A ErrorType) → OnOk result (t ≡ searched s r) → OnErr result (FailsToLook s r p t q) → IsKept limits m s → IsKept limits m t
+kept_looked limits m s t p q r result ok err k =
     on-both result ok err
     (λ is. kept_slots limits m s t (ap (λ (x : Store). x.slots) is ∙ slots-searched s r) k)
     (λ is. elim is [
-      | inl same ↦ subst (IsKept limits m) (sym same) k
-      | inr is ↦ kept_slots limits m s t (ap (λ (x : Store). x.slots) is ∙ slots-searched s r) k
+      | inl same ↦ subst (IsKept limits m) (sym same.0) k
+      | inr is ↦ kept_slots limits m s t (ap (λ (x : Store). x.slots) is.0 ∙ slots-searched s r) k
     ])
 
 fewer-looked_with : (deferred : Bool) (r : Request) (s : Store) → Fewer s.slots (cond deferred (left_by r.reader (dropped_by r.write s)) (searched s r)).slots
 fewer-looked_with true r s = fewer-then s.slots (dropped_by r.write s).slots _ (fewer-dropped_by s r.write) (fewer-slots (dropped_by r.write s) (left_by r.reader (dropped_by r.write s)) (slots-left_by (dropped_by r.write s) r.reader))
 fewer-looked_with false r s = fewer-slots s (searched s r) (slots-searched s r)
 
-pub kept_looked_with : {A : Type 0} (limits : Limits) (m : Tracked) (s t : Store) (r : Request) (d : Option Decision) (result : Result A ErrorType) → OnOk result (t ≡ store_looked_with d r s) → OnErr result ((t ≡ s) ⊎ (t ≡ searched s r)) → IsKept limits m s → IsKept limits m t
-kept_looked_with limits m s t r d result ok err k =
+pub kept_looked_with : {A : Type 0} (limits : Limits) (m : Tracked) (s t : Store) (p q : Past) (r : Request) (d : Option Decision) (result : Result A ErrorType) → OnOk result (t ≡ store_looked_with d r s) → OnErr result (FailsToLook s r p t q) → IsKept limits m s → IsKept limits m t
+kept_looked_with limits m s t p q r d result ok err k =
     on-both result ok err
     (λ is. subst (IsKept limits m) (sym is) (kept_fewer limits m s (store_looked_with d r s) (fewer-looked_with (is_deferral d) r s) k))
     (λ is. elim is [
-      | inl same ↦ subst (IsKept limits m) (sym same) k
-      | inr is ↦ kept_slots limits m s t (ap (λ (x : Store). x.slots) is ∙ slots-searched s r) k
+      | inl same ↦ subst (IsKept limits m) (sym same.0) k
+      | inr is ↦ kept_slots limits m s t (ap (λ (x : Store). x.slots) is.0 ∙ slots-searched s r) k
     ])
 
 -- ---- what was found is taken
@@ -171,11 +175,11 @@ pub kept_begun : (limits : Limits) (m : Tracked) (s t : Store) (r : Request) →
 kept_begun limits m s t r is k = subst (IsKept limits m) (sym is) (kept_fewer limits m s (begun_for r.key r.meta s) (fewer-begun_for r.key r.meta s) k)
 
 -- a begin that may fail, before or after the write began
-pub kept_beginning : {A : Type 0} (B C D E F G : ErrorType → Type 0) (limits : Limits) (m : Tracked) (s t : Store) (r : Request) (result : Result A ErrorType) → OnOk result (t ≡ store_writing true s.next r s)
-    → IfErr result (λ e. (B e × (t ≡ s) × C e × D e) ⊎ (E e × (t ≡ begun_for r.key r.meta s) × F e × G e)) → IsKept limits m s → IsKept limits m t
-kept_beginning B C D E F G limits m s t r (Ok a) ok err k = kept_writing limits m s t true s.next r ok k
-kept_beginning B C D E F G limits m s t r (Err e) ok (inl same) k = subst (IsKept limits m) (sym same.1) k
-kept_beginning B C D E F G limits m s t r (Err e) ok (inr begun) k = kept_begun limits m s t r begun.1 k
+pub kept_beginning : {A : Type 0} (limits : Limits) (m : Tracked) (s t : Store) (p q : Past) (x y : Locks) (d e : Deeds) (r r' : Request) (result : Result A ErrorType) → OnOk result (t ≡ store_writing true s.next r s)
+    → IfErr result (λ why. FailsToBegin true s p x d r why t q y e r') → IsKept limits m s → IsKept limits m t
+kept_beginning limits m s t p q x y d e r r' (Ok a) ok err k = kept_writing limits m s t true s.next r ok k
+kept_beginning limits m s t p q x y d e r r' (Err why) ok (inl same) k = subst (IsKept limits m) (sym same.1) k
+kept_beginning limits m s t p q x y d e r r' (Err why) ok (inr begun) k = kept_begun limits m s t r begun.1 k
 
 -- ---- a meta changes
 

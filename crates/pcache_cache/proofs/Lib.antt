@@ -4,4 +4,7 @@ pub mod Kept
 pub mod Ended
 pub mod Own
 pub mod Fed
+pub mod Adding
+pub mod Growing
 pub mod Unlocking
+pub mod Ways

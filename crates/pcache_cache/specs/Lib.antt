@@ -1,3 +1,4 @@
+pub mod Growing
 pub mod OwnPut
 pub mod Parts
 pub mod PartsCode

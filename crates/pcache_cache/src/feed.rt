@@ -100,16 +100,15 @@ impl<M: EvictionManager, K> Cache<M, K> {
     /// `may_end_put`.
     pub fn finish_put<C: CachePut>(&mut self, put: &mut PendingPut<C, K>) -> Result<PutOutcome>
         requires own { MayEndPut self.old.store put.old.put }
-        ensures ends { EndsAs result (λ end. EndsOwnPut put.old.put end self.old self.new) }
-        ensures past { EndsAs result (λ end. EndsPutPast in_memory put.old.put.key put.old.put.stage
-            end (Some self.old.past) (Some self.new.past)) }
-        ensures evicted { EndsAs result (λ end.
-            self.new.evicted ≡ evicted_put put.old.put end self.old) }
-        ensures stage { EndsAs result (λ end. put.new.put.stage ≡ stage_ended end) }
-        ensures tells { (pieces : List Piece) (f : Option Filled)
+        ensures ended { EndsAs result (λ end. EndsOwnPut put.old.put end self.old self.new
+            × EndsPutPast in_memory put.old.put.key put.old.put.stage end (Some self.old.past)
+            (Some self.new.past)
+            × (self.new.evicted ≡ evicted_put put.old.put end self.old)
+            × (put.new.put.stage ≡ stage_ended end)
+            × ((pieces : List Piece) (f : Option Filled)
             → HasTaken (C.says put.old.put.policy) put.old.put pieces f
-            → EndsAs result (TellsResult
-            (IsResult (C.says put.old.put.policy) (limit_of put.old.put.size) pieces) f) }
+            → TellsResult
+            (IsResult (C.says put.old.put.policy) (limit_of put.old.put.size) pieces) f end)) }
         ensures withdrawn { OnErr result (LeavesNone (Some put.old.put.key)
             (write_in put.old.put.stage) self.old.store self.new.store) }
         ensures limits { self.new.limits ≡ self.old.limits }

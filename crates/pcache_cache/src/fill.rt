@@ -18,9 +18,10 @@ impl<M: EvictionManager, K> Cache<M, K> {
     ghost use Rattle.pcache_request.specs.Finishing.{after_finish};
     ghost use Rattle.pcache_request.specs.NoBody.{LeavesNone};
     ghost use Rattle.pcache_request.specs.Phases.{IsFilling};
-    ghost use Rattle.pcache_request.specs.Requests.{FailsToBegin, MayWrite, begin_followed, settled, store_begun, write_begun};
+    ghost use Rattle.pcache_request.specs.Failures.{FailsToBegin};
+    ghost use Rattle.pcache_request.specs.Requests.{MayWrite, begin_followed, settled, store_begun, write_begun};
     ghost use Rattle.pcache_request.specs.LockPasts.{end_deeds, settled_deeds};
-    ghost use Rattle.pcache_request.specs.StorePasts.{EndsRequestPast, begun_past, writing_past};
+    ghost use Rattle.pcache_request.specs.StorePasts.{EndsRequestPast, writing_past};
     ghost use Rattle.pcache_request.specs.WriteEnds.{Ends, EndsAs, evicted_after, finishes_of};
     ghost use Rattle.pcache_store.specs.Finishes.{created};
     ghost use Rattle.pcache_store.specs.Readers.{in_memory};
@@ -41,12 +42,9 @@ impl<M: EvictionManager, K> Cache<M, K> {
             ≡ settled Done request.old.cache.held self.old.locks) }
         ensures deeds { OnOk result
             (Adds (settled_deeds Done request.old.cache.held) self.old.deeds self.new.deeds) }
-        ensures err { IfErr result (λ e. FailsToBegin true self.old.store self.old.locks
-            request.old.cache e self.new.store self.new.locks request.new.cache) }
-        ensures left_past { OnErr result ((self.new.past ≡ self.old.past)
-            ⊎ Adds (begun_past self.old.store request.old.cache) self.old.past self.new.past) }
-        ensures left_deeds { OnErr result ((self.new.deeds ≡ self.old.deeds)
-            ⊎ Adds (settled_deeds Done request.old.cache.held) self.old.deeds self.new.deeds) }
+        ensures err { IfErr result (λ e. FailsToBegin true self.old.store (Some self.old.past)
+            self.old.locks (Some self.old.deeds) request.old.cache e self.new.store
+            (Some self.new.past) self.new.locks (Some self.new.deeds) request.new.cache) }
         ensures kind { IfErr result (λ e. (e ≡ OutOfMemory) ⊎ MayFailWrite self.old.store e) }
         ensures something { OnErr result ((self.new.store ≡ self.old.store)
             ⊎ IsSome (begin_followed self.old.store request.old.cache)) }
@@ -113,20 +111,19 @@ impl<M: EvictionManager, K> Cache<M, K> {
         requires phase { IsFilling request.old.cache.phase }
         requires own { MayEnd self.old.store request.old.cache }
         ensures request { request.new.cache ≡ after_finish request.old.cache }
-        ensures end { EndsAs result (λ end. Ends in_memory request.old.cache request.old.cache.key
+        ensures ended { EndsAs result (λ end. Ends in_memory request.old.cache request.old.cache.key
             request.old.cache.write (finishes_of (created self.old.store) request.old.cache.write)
             self.old.limits end self.old.store self.new.store
             (tracked_at_end self.old request.old.cache end) self.new.tracked self.old.locks
-            self.new.locks) }
-        ensures past { EndsAs result (λ end. EndsRequestPast in_memory request.old.cache.key
-            request.old.cache.write end (Some self.old.past) (Some self.new.past)) }
-        ensures deeds { EndsAs result (λ end. Adds
-            (end_deeds request.old.cache.write request.old.cache.held end) self.old.deeds
-            self.new.deeds) }
-        ensures evicted { EndsAs result (λ end. self.new.evicted
+            self.new.locks
+            × EndsRequestPast in_memory request.old.cache.key request.old.cache.write end
+            (Some self.old.past) (Some self.new.past)
+            × Adds (end_deeds request.old.cache.write request.old.cache.held end) self.old.deeds
+            self.new.deeds
+            × (self.new.evicted
             ≡ evicted_after request.old.cache request.old.cache.key
             (finishes_of (created self.old.store) request.old.cache.write)
-            (tracked_at_end self.old request.old.cache end) self.old.evicted end) }
+            (tracked_at_end self.old request.old.cache end) self.old.evicted end)) }
         ensures limits { self.new.limits ≡ self.old.limits }
         ensures withdrawn { OnErr result (LeavesNone request.old.cache.key request.old.cache.write
             self.old.store self.new.store) }

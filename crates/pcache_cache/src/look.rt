@@ -20,6 +20,7 @@ impl<M: EvictionManager, K> Cache<M, K> {
     ghost use Rattle.pcache_lock.specs.Locks.{MayFailLock};
     ghost use Rattle.pcache_lock.specs.declared.lock.status.LockStatus.TheVariants.{GiveUp};
     ghost use Rattle.pcache_request.specs.Admissions.{Decides, asks_policy, decision_taken, looked_with, store_looked_with, table_looked_with, with_decision};
+    ghost use Rattle.pcache_request.specs.Failures.{FailsToLook};
     ghost use Rattle.pcache_request.specs.Phases.{IsDisabled, MayFinishHit, MayLookUp};
     ghost use Rattle.pcache_request.specs.Releasing.{MayDisable, disabled_for, status_for};
     ghost use Rattle.pcache_request.specs.Reports.{name_of};
@@ -55,10 +56,8 @@ impl<M: EvictionManager, K> Cache<M, K> {
             (looked_deeds self.old.store now self.old.locks request.old.cache) self.old.deeds
             self.new.deeds) }
         ensures same_request { OnErr result (request.new.cache ≡ request.old.cache) }
-        ensures left_store { OnErr result ((self.new.store ≡ self.old.store)
-            ⊎ (self.new.store ≡ searched self.old.store request.old.cache)) }
-        ensures left_past { OnErr result ((self.new.past ≡ self.old.past)
-            ⊎ Adds (searched_past self.old.store request.old.cache) self.old.past self.new.past) }
+        ensures left { OnErr result (FailsToLook self.old.store request.old.cache
+            (Some self.old.past) self.new.store (Some self.new.past)) }
         ensures same_store { OnErr result (hides_for self.old.store request.old.cache ≡ false
             → self.new.store ≡ self.old.store) }
         ensures same_table { OnErr result (self.new.locks ≡ self.old.locks) }
@@ -118,10 +117,8 @@ impl<M: EvictionManager, K> Cache<M, K> {
         ensures decided { OnErr result (request.new.cache
             ≡ with_decision (decision_taken self.old.store request.old.cache request.new.cache)
             request.old.cache) }
-        ensures left_store { OnErr result ((self.new.store ≡ self.old.store)
-            ⊎ (self.new.store ≡ searched self.old.store request.old.cache)) }
-        ensures left_past { OnErr result ((self.new.past ≡ self.old.past)
-            ⊎ Adds (searched_past self.old.store request.old.cache) self.old.past self.new.past) }
+        ensures left { OnErr result (FailsToLook self.old.store request.old.cache
+            (Some self.old.past) self.new.store (Some self.new.past)) }
         ensures same_store { OnErr result (hides_for self.old.store request.old.cache ≡ false
             → self.new.store ≡ self.old.store) }
         ensures same_table { OnErr result (self.new.locks ≡ self.old.locks) }

@@ -19,10 +19,6 @@ use Rattle.pcache_lock.specs.Past.{Does, PastLeads}
 use Rattle.pcache_lock.specs.PastWaits.{number_of, held_by, is_held, status_by, status_said, given_by, given_at, is_late, stage_by, ReturnsBy, EndsByPastAlways, StatusByPastAlways}
 
 -- Each deed turns its own lock alone.
-through : {A B : Type 0} (f : A → B) (b : Bool) (x y : A) → f (cond b x y) ≡ cond b (f x) (f y)
-through f true x y = refl
-through f false x y = refl
-
 written : (cores : FinMap nat_cmp Core) (m : ℕ) (d : Core) (n : ℕ) → get (insert cores m d) n ≡ cond (n == m) (Some d) (get cores n)
 written cores m d n = get-insert nat_cmp_total cores m d n ∙ ap (λ b. cond b (Some d) (get cores n)) (unsigned_tied n m)
 

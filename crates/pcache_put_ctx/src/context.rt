@@ -337,23 +337,24 @@ impl<C: CachePut, S: Storage> CachePutCtx<C, S> {
         storage: &mut S,
         eviction: &mut E,
     ) -> Result<PutOutcome>
-        ensures ends { EndsAs result (λ end. EndsPut S.guarantees self.old.key self.old.parser
+
+        // In one way: for the store, its past, the manager's totals and the put; and the outcome is that of the put's bytes, all
+        // pieces together.
+        ensures ended { EndsAs result (λ end. EndsPut S.guarantees self.old.key self.old.parser
             (S.finishes storage.old) (E.limits eviction.old) self.old.stage end
             (S.state storage.old) (S.state storage.new) (E.tracked eviction.old)
-            (E.tracked eviction.new)) }
-        ensures past { EndsAs result (λ end. EndsPutPast S.guarantees self.old.key self.old.stage end
-            (S.past storage.old) (S.past storage.new)) }
-        ensures evicted { EndsAs result (λ end. E.evicted eviction.new
+            (E.tracked eviction.new)
+            × EndsPutPast S.guarantees self.old.key self.old.stage end (S.past storage.old)
+            (S.past storage.new)
+            × (E.evicted eviction.new
             ≡ evicted_ended self.old.key (S.finishes storage.old) self.old.stage
-            (E.tracked eviction.old) (E.evicted eviction.old) end) }
-        ensures limits { E.limits eviction.new ≡ E.limits eviction.old }
-        ensures stage { EndsAs result (λ end. self.new.stage ≡ stage_ended end) }
-
-        // The outcome of the put is that of its bytes, all pieces together.
-        ensures tells { (pieces : List Piece) (f : Option Filled)
+            (E.tracked eviction.old) (E.evicted eviction.old) end)
+            × (self.new.stage ≡ stage_ended end)
+            × ((pieces : List Piece) (f : Option Filled)
             → HasTaken (C.says self.old.policy) self.old pieces f
-            → EndsAs result (TellsResult
-            (IsResult (C.says self.old.policy) (limit_of self.old.size) pieces) f) }
+            → TellsResult (IsResult (C.says self.old.policy) (limit_of self.old.size) pieces) f
+            end)) }
+        ensures limits { E.limits eviction.new ≡ E.limits eviction.old }
 
         // If the admission failed, the key has no body in the store after the call.
         ensures withdrawn { IsTrue S.guarantees.purges
@@ -378,25 +379,26 @@ impl<C: CachePut, S: Storage> CachePutCtx<C, S> {
         eviction: &mut E,
         replaced: Option<CacheEntryId>,
     ) -> Result<PutOutcome>
-        ensures ends { EndsAs result (λ end. EndsPut S.guarantees self.old.key self.old.parser
+
+        // In one way: for the store, its past, the manager's totals and the put; and the outcome is that of the put's bytes, all
+        // pieces together.
+        ensures ended { EndsAs result (λ end. EndsPut S.guarantees self.old.key self.old.parser
             (S.finishes storage.old) (E.limits eviction.old) self.old.stage end
             (S.state storage.old) (S.state storage.new)
             (tracked_before_put self.old.key replaced end (E.tracked eviction.old))
-            (E.tracked eviction.new)) }
-        ensures past { EndsAs result (λ end. EndsPutPast S.guarantees self.old.key self.old.stage end
-            (S.past storage.old) (S.past storage.new)) }
-        ensures evicted { EndsAs result (λ end. E.evicted eviction.new
+            (E.tracked eviction.new)
+            × EndsPutPast S.guarantees self.old.key self.old.stage end (S.past storage.old)
+            (S.past storage.new)
+            × (E.evicted eviction.new
             ≡ evicted_ended self.old.key (S.finishes storage.old) self.old.stage
             (tracked_before_put self.old.key replaced end (E.tracked eviction.old))
-            (E.evicted eviction.old) end) }
-        ensures limits { E.limits eviction.new ≡ E.limits eviction.old }
-        ensures stage { EndsAs result (λ end. self.new.stage ≡ stage_ended end) }
-
-        // The outcome of the put is that of its bytes, all pieces together.
-        ensures tells { (pieces : List Piece) (f : Option Filled)
+            (E.evicted eviction.old) end)
+            × (self.new.stage ≡ stage_ended end)
+            × ((pieces : List Piece) (f : Option Filled)
             → HasTaken (C.says self.old.policy) self.old pieces f
-            → EndsAs result (TellsResult
-            (IsResult (C.says self.old.policy) (limit_of self.old.size) pieces) f) }
+            → TellsResult (IsResult (C.says self.old.policy) (limit_of self.old.size) pieces) f
+            end)) }
+        ensures limits { E.limits eviction.new ≡ E.limits eviction.old }
 
         // If the admission failed, the key has no body in the store after the call.
         ensures withdrawn { IsTrue S.guarantees.purges

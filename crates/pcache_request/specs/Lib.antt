@@ -1,6 +1,7 @@
 pub mod Admissions
 pub mod Alone
 pub mod Digest
+pub mod Failures
 pub mod Finishing
 pub mod LockPasts
 pub mod LockUse

@@ -1,13 +1,11 @@
 -- What a request is, and the rows of its phase table: how each call changes the request, the store, the lock table
 -- and the tracked entries (own, after the phases of pingora-cache).
-use Rattle.std.specs.Prelude.{ℕ, ◌≡◌, ◌&&◌, ◌⊎◌, List, Bool, true, false, not, Option, Some, None, cond, IsSome, is_some, option_map}
+use Rattle.std.specs.Prelude.{ℕ, ◌≡◌, ◌&&◌, List, Bool, true, false, not, Option, Some, None, cond, IsSome, is_some, option_map}
 use Rattle.std.specs.FinMap.{remove}
 use Rattle.pcache_base.specs.Key.{Key, slot}
 use Rattle.pcache_base.specs.CompactKey.{compact_of}
 use Rattle.pcache_base.specs.declared.key.CompactCacheKey.{CompactCacheKey}
 use Rattle.pcache_meta.specs.Meta.{Meta, internal_changed, provenance_of}
-use Rattle.pcache_base.specs.declared.error.ErrorType.{ErrorType}
-use Rattle.pcache_base.specs.declared.error.ErrorType.TheVariants.{OutOfMemory}
 use Rattle.pcache_base.specs.declared.reason.NoCacheReason.{NoCacheReason}
 use Rattle.pcache_base.specs.declared.reason.NoCacheReason.TheVariants as reason
 use Rattle.pcache_evict.specs.declared.eviction.entry_key.CacheEntryKey.{CacheEntryKey}
@@ -20,7 +18,6 @@ use Rattle.pcache_lock.specs.declared.lock.status.LockStatus.{LockStatus}
 use Rattle.pcache_lock.specs.declared.lock.status.LockStatus.TheVariants.{Done}
 use Rattle.pcache_put.specs.Counted.{Counted}
 use Rattle.pcache_store.specs.Purge.{entry_given, entry_read, expire_outcome, purge_outcome}
-use Rattle.pcache_store.specs.Refusals.{MayFailWrite}
 use Rattle.pcache_store.specs.Store.{Store, Reader, find, find_write, followed, left, begun, dropped, counts_access, reader_weight, is_whole, body_length}
 use Rattle.pcache_store.specs.declared.storage.PurgeOutcome.{PurgeOutcome}
 use Rattle.pcache_store.specs.declared.storage.PurgeOutcome.TheVariants.{NotFound, Purged, Expired}
@@ -299,12 +296,6 @@ begin_followed s r = followed_for r.key s.next (begun_for r.key r.meta s)
 -- the request after its write began, if its reader could not follow it: the permit is released
 abbrev pub begun_unfollowed : Bool → Store → Request → Request
 begun_unfollowed numbers s r = record r { write = Some s.next; entry = entry_given numbers s.next; held = None }
-
--- a begin that fails with this error: nothing is changed, or the write began and no reader follows it
-abbrev pub FailsToBegin : Bool → Store → Locks → Request → ErrorType → Store → Locks → Request → Type 0
-FailsToBegin numbers s t r e s' t' r' =
-    ((r' ≡ r) × (s' ≡ s) × (t' ≡ t) × MayFailWrite s e)
-    ⊎ ((r' ≡ begun_unfollowed numbers s r) × (s' ≡ begun_for r.key r.meta s) × (t' ≡ settled Done r.held t) × (e ≡ OutOfMemory))
 
 -- the tracked entries after a removal: without the removed entry
 abbrev pub tracked_gone : Bool → CompactCacheKey → PurgeOutcome → Tracked → Tracked

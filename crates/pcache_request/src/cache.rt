@@ -290,9 +290,10 @@ impl<S: Storage> HttpCache<S> {
     ghost use Rattle.pcache_store.specs.Refusals.{MayFailWrite};
     ghost use Rattle.pcache_request.specs.LockUse.{enabled_waiting};
     ghost use Rattle.pcache_request.specs.Phases.{IsDisabled, MayTakeKey, MayMiss, IsStale, IsFilling, IsReading, MayFinishHit, is_filling};
-    ghost use Rattle.pcache_request.specs.Requests.{HasKey, HoldsNothing, Request, new_request, with_key, missed, without_reader, MayTakeMeta, with_meta, MayWrite, FailsToBegin, begin_followed, begun_for, begun_unfollowed, store_begun, write_begun, settled, left_by, dropped_by, let_go_by};
+    ghost use Rattle.pcache_request.specs.Requests.{HasKey, HoldsNothing, Request, new_request, with_key, missed, without_reader, MayTakeMeta, with_meta, MayWrite, begin_followed, begun_for, begun_unfollowed, store_begun, write_begun, settled, left_by, dropped_by, let_go_by};
     ghost use Rattle.pcache_request.specs.Reports.{name_of};
     ghost use Rattle.pcache_request.specs.contracts.cache.HttpCache.{the_row};
+    ghost use Rattle.pcache_request.specs.Failures.{FailsToBegin};
     ghost use Rattle.pcache_request.specs.LockPasts.{let_go_deeds, settled_deeds};
     ghost use Rattle.pcache_request.specs.StorePasts.{begun_past, dropped_past, left_past, writing_past};
 
@@ -607,12 +608,9 @@ impl<S: Storage> HttpCache<S> {
             ≡ cond (S.streams storage.old) (settled_deeds Done self.old.held (L.past lock.old))
             (L.past lock.old)) }
         ensures err { IfErr result (λ e. FailsToBegin S.guarantees.numbers (S.state storage.old)
-            (L.table lock.old) self.old e (S.state storage.new) (L.table lock.new) self.new) }
-        ensures left_past { OnErr result ((S.past storage.new ≡ S.past storage.old)
-            ⊎ (S.past storage.new
-            ≡ begun_past (S.state storage.old) self.old (S.past storage.old))) }
-        ensures left_deeds { OnErr result ((L.past lock.new ≡ L.past lock.old)
-            ⊎ (L.past lock.new ≡ settled_deeds Done self.old.held (L.past lock.old))) }
+            (S.past storage.old) (L.table lock.old) (L.past lock.old) self.old e
+            (S.state storage.new) (S.past storage.new) (L.table lock.new) (L.past lock.new)
+            self.new) }
         ensures kind { IfErr result (λ e.
             (e ≡ OutOfMemory) ⊎ MayFailWrite (S.state storage.old) e) }
         ensures something { OnErr result ((S.state storage.new ≡ S.state storage.old)

@@ -84,18 +84,17 @@ impl<S: Storage> HttpCache<S> {
     ) -> Result<Option<FinishReport>>
         requires { IsFilling self.old.phase }
         ensures request { self.new ≡ after_finish self.old }
-        ensures end { EndsAs result (λ end. Ends S.guarantees self.old self.old.key self.old.write
+        ensures ended { EndsAs result (λ end. Ends S.guarantees self.old self.old.key self.old.write
             (finishes_of (S.finishes storage.old) self.old.write) (E.limits eviction.old) end
             (S.state storage.old) (S.state storage.new) (E.tracked eviction.old)
-            (E.tracked eviction.new) (L.table lock.old) (L.table lock.new)) }
-        ensures past { EndsAs result (λ end. EndsRequestPast S.guarantees self.old.key self.old.write
-            end (S.past storage.old) (S.past storage.new)) }
-        ensures deeds { EndsAs result (λ end. L.past lock.new
-            ≡ end_deeds self.old.write self.old.held end (L.past lock.old)) }
-        ensures evicted { EndsAs result (λ end. E.evicted eviction.new
+            (E.tracked eviction.new) (L.table lock.old) (L.table lock.new)
+            × EndsRequestPast S.guarantees self.old.key self.old.write end (S.past storage.old)
+            (S.past storage.new)
+            × (L.past lock.new ≡ end_deeds self.old.write self.old.held end (L.past lock.old))
+            × (E.evicted eviction.new
             ≡ evicted_after self.old self.old.key
             (finishes_of (S.finishes storage.old) self.old.write) (E.tracked eviction.old)
-            (E.evicted eviction.old) end) }
+            (E.evicted eviction.old) end)) }
         ensures limits { E.limits eviction.new ≡ E.limits eviction.old }
 
         // If the admission failed, the key has no body in the store after the call.
@@ -128,20 +127,19 @@ impl<S: Storage> HttpCache<S> {
     ) -> Result<Option<FinishReport>>
         requires { IsFilling self.old.phase }
         ensures request { self.new ≡ after_finish self.old }
-        ensures end { EndsAs result (λ end. Ends S.guarantees self.old self.old.key self.old.write
+        ensures ended { EndsAs result (λ end. Ends S.guarantees self.old self.old.key self.old.write
             (finishes_of (S.finishes storage.old) self.old.write) (E.limits eviction.old) end
             (S.state storage.old) (S.state storage.new)
             (tracked_before_end self.old self.old.key replaced end (E.tracked eviction.old))
-            (E.tracked eviction.new) (L.table lock.old) (L.table lock.new)) }
-        ensures past { EndsAs result (λ end. EndsRequestPast S.guarantees self.old.key self.old.write
-            end (S.past storage.old) (S.past storage.new)) }
-        ensures deeds { EndsAs result (λ end. L.past lock.new
-            ≡ end_deeds self.old.write self.old.held end (L.past lock.old)) }
-        ensures evicted { EndsAs result (λ end. E.evicted eviction.new
+            (E.tracked eviction.new) (L.table lock.old) (L.table lock.new)
+            × EndsRequestPast S.guarantees self.old.key self.old.write end (S.past storage.old)
+            (S.past storage.new)
+            × (L.past lock.new ≡ end_deeds self.old.write self.old.held end (L.past lock.old))
+            × (E.evicted eviction.new
             ≡ evicted_after self.old self.old.key
             (finishes_of (S.finishes storage.old) self.old.write)
             (tracked_before_end self.old self.old.key replaced end (E.tracked eviction.old))
-            (E.evicted eviction.old) end) }
+            (E.evicted eviction.old) end)) }
         ensures limits { E.limits eviction.new ≡ E.limits eviction.old }
         ensures withdrawn { IsTrue S.guarantees.purges
             → OnErr result (LeavesNone self.old.key self.old.write (S.state storage.old)

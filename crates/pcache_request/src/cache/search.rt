@@ -22,6 +22,7 @@ impl<S: Storage> HttpCache<S> {
     ghost use Rattle.pcache_request.specs.Requests.{found_for};
     ghost use Rattle.pcache_request.specs.Variants.{is_hidden, visible, seen_for, hides_for, searched, with_key_lock, table_key_locked, asked_for_key, asks_unseen, looked_for, table_looked_for};
     ghost use Rattle.pcache_request.specs.Witnesses.{HasHeard, passed_over};
+    ghost use Rattle.pcache_request.specs.Failures.{FailsToLook};
     ghost use Rattle.pcache_request.specs.LockPasts.{key_locked_deeds, looked_deeds, looked_with_deeds};
     ghost use Rattle.pcache_request.specs.StorePasts.{found_past, looked_past, passed_past, searched_past};
 
@@ -108,11 +109,10 @@ impl<S: Storage> HttpCache<S> {
             (found_for (S.state storage.old) self.now.key) witness.new) }
         ensures something { OnErr result (IsSome (found_for (S.state storage.old) self.now.key)) }
         ensures refused { IfErr result (λ e. ((e ≡ OutOfMemory)
-            × (S.state storage.new ≡ S.state storage.old))
+            × (S.state storage.new ≡ S.state storage.old)
+            × (S.past storage.new ≡ S.past storage.old))
             ⊎ (W.may_refuse e
-            × (S.state storage.new ≡ passed_over (S.state storage.old) self.now.key))) }
-        ensures left_past { IfErr result (λ e. (S.past storage.new ≡ S.past storage.old)
-            ⊎ (W.may_refuse e
+            × (S.state storage.new ≡ passed_over (S.state storage.old) self.now.key)
             × (S.past storage.new
             ≡ passed_past (S.state storage.old) self.now.key (S.past storage.old)))) }
     {
@@ -184,11 +184,10 @@ impl<S: Storage> HttpCache<S> {
         ensures same_deeds { OnErr result (L.past lock.new ≡ L.past lock.old) }
         ensures something { OnErr result (IsSome (found_for (S.state storage.old) self.old.key)) }
         ensures refused { IfErr result (λ e. ((e ≡ OutOfMemory)
-            × (S.state storage.new ≡ S.state storage.old))
+            × (S.state storage.new ≡ S.state storage.old)
+            × (S.past storage.new ≡ S.past storage.old))
             ⊎ (W.may_refuse e
-            × (S.state storage.new ≡ passed_over (S.state storage.old) self.old.key))) }
-        ensures left_past { IfErr result (λ e. (S.past storage.new ≡ S.past storage.old)
-            ⊎ (W.may_refuse e
+            × (S.state storage.new ≡ passed_over (S.state storage.old) self.old.key)
             × (S.past storage.new
             ≡ passed_past (S.state storage.old) self.old.key (S.past storage.old)))) }
     {
@@ -229,11 +228,8 @@ impl<S: Storage> HttpCache<S> {
         ensures deeds { OnOk result (L.past lock.new
             ≡ looked_deeds (S.state storage.old) now (L.table lock.old) self.old (L.past lock.old)) }
         ensures same_request { OnErr result (self.new ≡ self.old) }
-        ensures left_store { OnErr result ((S.state storage.new ≡ S.state storage.old)
-            ⊎ (S.state storage.new ≡ searched (S.state storage.old) self.old)) }
-        ensures left_past { OnErr result ((S.past storage.new ≡ S.past storage.old)
-            ⊎ (S.past storage.new
-            ≡ searched_past (S.state storage.old) self.old (S.past storage.old))) }
+        ensures left { OnErr result (FailsToLook (S.state storage.old) self.old (S.past storage.old)
+            (S.state storage.new) (S.past storage.new)) }
         ensures same_store { OnErr result (hides_for (S.state storage.old) self.old ≡ false
             → S.state storage.new ≡ S.state storage.old) }
         ensures same_table { OnErr result (L.table lock.new ≡ L.table lock.old) }
@@ -292,11 +288,8 @@ impl<S: Storage> HttpCache<S> {
             (S.state storage.old) now (L.table lock.old) self.old (L.past lock.old)) }
         ensures decided { OnErr result (self.new
             ≡ with_decision (decision_taken (S.state storage.old) self.old self.new) self.old) }
-        ensures left_store { OnErr result ((S.state storage.new ≡ S.state storage.old)
-            ⊎ (S.state storage.new ≡ searched (S.state storage.old) self.old)) }
-        ensures left_past { OnErr result ((S.past storage.new ≡ S.past storage.old)
-            ⊎ (S.past storage.new
-            ≡ searched_past (S.state storage.old) self.old (S.past storage.old))) }
+        ensures left { OnErr result (FailsToLook (S.state storage.old) self.old (S.past storage.old)
+            (S.state storage.new) (S.past storage.new)) }
         ensures same_store { OnErr result (hides_for (S.state storage.old) self.old ≡ false
             → S.state storage.new ≡ S.state storage.old) }
         ensures same_table { OnErr result (L.table lock.new ≡ L.table lock.old) }
@@ -374,11 +367,10 @@ impl<S: Storage> HttpCache<S> {
         ensures same_deeds { OnErr result (L.past lock.new ≡ L.past lock.old) }
         ensures something { OnErr result (IsSome (found_for (S.state storage.old) self.old.key)) }
         ensures refused { IfErr result (λ e. ((e ≡ OutOfMemory)
-            × (S.state storage.new ≡ S.state storage.old))
+            × (S.state storage.new ≡ S.state storage.old)
+            × (S.past storage.new ≡ S.past storage.old))
             ⊎ (W.may_refuse e
-            × (S.state storage.new ≡ passed_over (S.state storage.old) self.old.key))) }
-        ensures left_past { IfErr result (λ e. (S.past storage.new ≡ S.past storage.old)
-            ⊎ (W.may_refuse e
+            × (S.state storage.new ≡ passed_over (S.state storage.old) self.old.key)
             × (S.past storage.new
             ≡ passed_past (S.state storage.old) self.old.key (S.past storage.old)))) }
     {

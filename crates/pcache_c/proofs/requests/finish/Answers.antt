@@ -10,8 +10,7 @@ returns-in-Ok-Some c =
       search rules,
       record {
         request = c.finish_miss_handler.ensures.request;
-        end = rw c.in-Ok-Some.field-0-is at c.in-Ok-Some.ensures.end;
-        evicted = rw c.in-Ok-Some.field-0-is at c.in-Ok-Some.ensures.evicted;
+        ended = let is = rw c.in-Ok-Some.field-0-is at c.in-Ok-Some.ensures.ended in (is.0, is.3);
         limits = c.finish_miss_handler.ensures.limits;
         rest = (refl, refl, refl);
       },

@@ -3,6 +3,7 @@ use Rattle.pcache_put_ctx.specs.State.{write_in}
 use Rattle.pcache_cache.specs.Parts.{IsKept, Parts, is_own_write}
 use Rattle.pcache_cache.proofs.Ended.{same-number}
 use Rattle.pcache_cache.proofs.Fed.{kept_put_ended}
+use Rattle.pcache_cache.proofs.Ways.{each_put_end}
 use Rattle.pcache_cache.proofs.cache.Cache.finish_put.Goals as goal
 
 pub invariant_of-self : goal.invariant_of-self
@@ -12,6 +13,6 @@ invariant_of-self g c =
       subst (λ l. IsKept l (tracked c.finish_replacing.new.eviction) c.finish_replacing.new.storage.state) (sym c.finish_replacing.ensures.limits)
           (kept_put_ended (g.M.EvictionManager.limits c.self.inside.manager) put.key put.parser put.stage c.body_number-replaced.result c.self.inside.store.state c.finish_replacing.new.storage.state (tracked c.self.inside.manager) (tracked c.finish_replacing.new.eviction) c.finish_replacing.result
           (sym c.writer-writer.ensures.entry ∙ same-number _ c.writer-writer.result ∙ c.writer-writer.ensures.write)
-          (subst (λ (p : Parts). is_own_write p.store (Some put.key) (write_in put.stage) ≡ true) (sym c.self.view_is) c.requires.own) c.finish_replacing.ensures.ends c.self.invariant.0),
+          (subst (λ (p : Parts). is_own_write p.store (Some put.key) (write_in put.stage) ≡ true) (sym c.self.view_is) c.requires.own) (each_put_end c.finish_replacing.result (λ how is. is.0) c.finish_replacing.ensures.ended) c.self.invariant.0),
       c.self.invariant.1,
     )

@@ -1,5 +1,6 @@
 use Rattle.std.proofs.Common.{ap, refl, subst, sym, ◌∙◌}
 use Rattle.pcache_cache.specs.Parts.{tracked_at_end}
+use Rattle.pcache_cache.proofs.Ways.{each_end}
 use Rattle.pcache_request.specs.WriteEnds.{Ends, EndsAs, finishes_of}
 use Rattle.pcache_store.specs.Finishes.{created}
 use Rattle.pcache_store.specs.Readers.{in_memory}
@@ -19,4 +20,4 @@ returns-clause-ends g c =
     let q = c.finish_miss_handler-report.new.self in
     moves_part c.args.self.now c.args.request.now.place c.place.result c.part.result.now c.lock-part.result.value p q c.place.ensures.place c.part.ensures c.lock-part.ensures.limits c.lock-part.ensures.kept c.deref_mut.ensures.value
     c.finish_miss_handler-report.ensures.limits (keeps_as c.deref-2.result.now q c.deref-2.ensures c.is_kept.ensures)
-    (λ may. subst (λ (s : Seated). EndsAs c.finish_miss_handler-report.result (λ how. Ends in_memory s.cache s.cache.key s.cache.write (finishes_of (created p.store) s.cache.write) p.limits how p.store q.store (tracked_at_end p s.cache how) q.tracked p.locks q.locks)) c.request.view_is c.finish_miss_handler-report.ensures.end)
+    (λ may. subst (λ (s : Seated). EndsAs c.finish_miss_handler-report.result (λ how. Ends in_memory s.cache s.cache.key s.cache.write (finishes_of (created p.store) s.cache.write) p.limits how p.store q.store (tracked_at_end p s.cache how) q.tracked p.locks q.locks)) c.request.view_is (each_end c.finish_miss_handler-report.result (λ how is. is.0) c.finish_miss_handler-report.ensures.ended))

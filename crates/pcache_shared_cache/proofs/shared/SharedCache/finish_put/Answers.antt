@@ -1,4 +1,5 @@
 use Rattle.std.proofs.Common.{ap, refl, sym, ◌∙◌}
+use Rattle.pcache_cache.proofs.Ways.{each_put_end}
 use Rattle.pcache_shared_cache.specs.SharedPuts.{SeatedPut}
 use Rattle.pcache_shared_cache.proofs.InPart.{keeps_as, moves_part, not_so}
 use Rattle.pcache_shared_cache.proofs.shared.SharedCache.finish_put.Goals as goal
@@ -14,4 +15,7 @@ returns-clause-ends g c =
     let p = c.deref_mut.result.now in
     let q = c.finish_put-outcome.new.self in
     rw (← c.put.view_is) (moves_part c.args.self.now c.put.inside.place c.place.result c.part.result.now c.lock-part.result.value p q (c.place.ensures.place ∙ ap (λ (s : SeatedPut g.row.C.Denot). s.place) (sym c.put.view_is)) c.part.ensures c.lock-part.ensures.limits c.lock-part.ensures.kept c.deref_mut.ensures.value
-    c.finish_put-outcome.ensures.limits (keeps_as c.deref-2.result.now q c.deref-2.ensures c.is_kept.ensures) (λ may. c.finish_put-outcome.ensures.ends))
+    c.finish_put-outcome.ensures.limits (keeps_as c.deref-2.result.now q c.deref-2.ensures c.is_kept.ensures) (λ may. each_put_end c.finish_put-outcome.result (λ how is. is.0) c.finish_put-outcome.ensures.ended))
+
+pub returns-clause-tells : goal.returns-clause-tells
+returns-clause-tells g c pieces f taken = each_put_end c.finish_put-outcome.result (λ how is. is.4 pieces f (rw c.put.view_is at taken)) c.finish_put-outcome.ensures.ended
