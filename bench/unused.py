@@ -91,6 +91,10 @@ def unused(texts):
     return found
 
 
+# A library of which a crate uses an impl alone: no file names it, and without it the impl is not in scope.
+FOR_AN_IMPL = {("tests_of_values", "indexmap")}
+
+
 def libraries_unnamed(texts):
     """The libraries of crates.txt that no file of their crate names, as (crate, libraries)."""
     found = []
@@ -104,7 +108,7 @@ def libraries_unnamed(texts):
             for path, text in texts.items():
                 if path.startswith(f"{TOP}/crates/{crate}/"):
                     words.update(re.findall(r"\w+", text))
-            unnamed = [it for it in libraries.split() if it not in words]
+            unnamed = [it for it in libraries.split() if it not in words and (crate, it) not in FOR_AN_IMPL]
             if unnamed:
                 found.append((crate, unnamed))
     return found
