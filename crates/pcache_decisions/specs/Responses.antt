@@ -1,6 +1,6 @@
 -- What becomes of a response (RFC 9111 sections 3, 3.1, 3.2, 4.3.3, 4.3.4, 4.3.5 and 4.4; RFC 5861 section 4): the table of what
 -- is decided. Moments are in nanoseconds.
-use Rattle.std.specs.Prelude.{◌≡◌, ◌⊎◌, ℕ, ◌/◌, Bool, true, false, Some, codes, if◌then◌else◌}
+use Rattle.std.specs.Prelude.{◌≡◌, ◌⊎◌, ℕ, ◌+◌, ◌/◌, ◌<◌, Bool, true, false, Some, codes, length, if◌then◌else◌}
 use Rattle.http_header.specs.FieldValue.{FieldValue}
 use Rattle.http_header.specs.HeaderMap.{Entries, remove}
 use Rattle.pcache_base.specs.declared.error.ErrorType.{ErrorType}
@@ -212,7 +212,26 @@ pub record DecidesByValidated (rules : Rules) (request : RequestHeader) (validat
 
 -- ---- errors
 
--- memory runs out, or what updates a stored response brings more fields than a head has room for (own)
-abbrev pub FailsWith : RequestHeader → ResponseHeader → ErrorType → Type 0
-FailsWith request response e =
-    (e ≡ OutOfMemory) ⊎ ((e ≡ InternalError) × (IsUnchanged (Some response.status) ⊎ (IsHead request × (response.status ≡ 200))))
+-- the most names that the fields of a head have (own: a `HeaderMap` has room for no more)
+abbrev pub most_names : ℕ
+most_names = 24576
+
+-- RFC 9111, 3.2 and 3.1: the stored fields and those that would be stored of the newer response have together more names than
+-- a head has room for
+pub record AreTooMany (kind : CacheKind) (validated : Validating) (new : Entries FieldValue) : Type 0 where
+  pub brought : Entries FieldValue
+  pub stored_of_new : AreStoredFields kind new brought
+  pub too_many : most_names < length validated.stored.head.now.headers + length brought
+
+-- an update fails because memory runs out, or because there are too many fields (own)
+abbrev pub FailsToUpdate : CacheKind → Validating → Entries FieldValue → ErrorType → Type 0
+FailsToUpdate kind validated new e = (e ≡ OutOfMemory) ⊎ ((e ≡ InternalError) × AreTooMany kind validated new)
+
+-- RFC 9111, 4.3.4 and 4.3.5: a 304 may update what is stored, and so may a 200 to a HEAD
+abbrev pub MayUpdate : RequestHeader → ResponseHeader → Type 0
+MayUpdate request response = IsUnchanged (Some response.status) ⊎ (IsHead request × (response.status ≡ 200))
+
+-- memory runs out, or the response may update what is stored and there are too many fields (own)
+abbrev pub FailsWith : Rules → RequestHeader → Validating → ResponseHeader → ErrorType → Type 0
+FailsWith rules request validated response e =
+    (e ≡ OutOfMemory) ⊎ ((e ≡ InternalError) × MayUpdate request response × AreTooMany rules.kind validated response.headers)

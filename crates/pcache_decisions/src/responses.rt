@@ -6,7 +6,7 @@ ghost use Rattle.pcache_base.specs.declared.error.ErrorType.TheVariants.{Interna
 ghost use Rattle.pcache_http.specs.Storing.{as_get};
 ghost use Rattle.pcache_validation.specs.Answers.{IsError, IsUnchanged};
 ghost use Rattle.pcache_validation.specs.Unsafe.{IsSafe};
-ghost use Rattle.pcache_decisions.specs.Responses.{AreFreshened, By304, ByError, ByStoring, ByUnsafe, ByUpdate, DecidesByHead, DecidesByValidated, DecidesStoring, FailsWith, FollowsError, IsFreshenedTo, IsHead, IsKeptOf, IsLifetimeOf, IsServedStale, IsUpdatedBy, StoresBy, without_old_age};
+ghost use Rattle.pcache_decisions.specs.Responses.{AreFreshened, By304, ByError, ByStoring, ByUnsafe, ByUpdate, DecidesByHead, DecidesByValidated, DecidesStoring, FailsToUpdate, FailsWith, FollowsError, IsFreshenedTo, IsHead, IsKeptOf, IsLifetimeOf, IsServedStale, IsUpdatedBy, StoresBy, without_old_age};
 
 use crate::requests::{Answer, answer_of};
 use crate::stored::{StoredResponse, age_at, lifetime_in};
@@ -140,7 +140,7 @@ fn without_old_age(brought: &HeaderMap, updated: HeaderMap) -> HeaderMap
 // The stored fields as a 304 updates them.
 fn fresh_fields(kind: CacheKind, validated: &Validating<'_>, new: &HeaderMap) -> Result<HeaderMap>
     ensures ok { IfOk result (AreFreshened kind validated.now new.now) }
-    ensures kind { IfErr result (λ e. (e ≡ OutOfMemory) ⊎ (e ≡ InternalError)) }
+    ensures kind { IfErr result (FailsToUpdate kind validated.now new.now) }
 {
     let brought = stored_fields(kind, new)?;
     let updated = updated(&validated.stored.head.headers, &brought, validated.body)?;
@@ -155,7 +155,8 @@ fn updated_by(
     received: Moment,
 ) -> Result<Kept>
     ensures ok { IfOk result (IsUpdatedBy rules.now validated.now response.now received) }
-    ensures kind { IfErr result (λ e. (e ≡ OutOfMemory) ⊎ (e ≡ InternalError)) }
+    ensures kind { IfErr result
+        (FailsToUpdate rules.now.kind validated.now response.now.headers) }
 {
     let headers = fresh_fields(rules.kind, validated, &response.headers)?;
     let head = ResponseHeader {
@@ -185,7 +186,8 @@ fn freshened_to(
 ) -> Result<Freshened>
     ensures ok { IfOk result
         (IsFreshenedTo rules.now request.now validated.now response.now received) }
-    ensures kind { IfErr result (λ e. (e ≡ OutOfMemory) ⊎ (e ≡ InternalError)) }
+    ensures kind { IfErr result
+        (FailsToUpdate rules.now.kind validated.now response.now.headers) }
 {
     let kept = updated_by(rules, validated, response, received)?;
     let storing = stores(rules.kind, request, &kept.head);
@@ -218,7 +220,8 @@ fn by_304(
 ) -> Result<Outcome>
     ensures ok { IfOk result
         (By304 rules.now request.now validated.now response.now received) }
-    ensures kind { IfErr result (λ e. (e ≡ OutOfMemory) ⊎ (e ≡ InternalError)) }
+    ensures kind { IfErr result
+        (FailsToUpdate rules.now.kind validated.now response.now.headers) }
 {
     let stored = &validated.stored.head.headers;
     if !identifies(&response.headers, stored, validated.alone) {
@@ -340,7 +343,8 @@ fn by_update(
 ) -> Result<Outcome>
     ensures ok { IfOk result
         (ByUpdate rules.now request.now validated.now response.now received) }
-    ensures kind { IfErr result (λ e. (e ≡ OutOfMemory) ⊎ (e ≡ InternalError)) }
+    ensures kind { IfErr result
+        (FailsToUpdate rules.now.kind validated.now response.now.headers) }
 {
     let kept = updated_by(rules, validated, response, received)?;
     match stores(rules.kind, request, &kept.head) {
@@ -360,6 +364,8 @@ fn by_head(
     ensures ok { IfOk result
         (DecidesByHead rules.now request.now validated.now response.now received) }
     ensures kind { IfErr result
+        (FailsToUpdate rules.now.kind validated.now response.now.headers) }
+    ensures update { IfErr result
         (λ e. (e ≡ OutOfMemory) ⊎ ((e ≡ InternalError) × (response.now.status ≡ 200))) }
 {
     match after_head_of(response, &validated.stored.head.headers) {
@@ -385,7 +391,7 @@ fn by_validated(
 ) -> Result<Outcome>
     ensures ok { IfOk result
         (DecidesByValidated rules.now request.now validated.now response.now received) }
-    ensures kind { IfErr result (FailsWith request.now response.now) }
+    ensures kind { IfErr result (FailsWith rules.now request.now validated.now response.now) }
 {
     if is_unchanged(response.status) {
         by_304(rules, request, validated, response, received)
@@ -407,8 +413,9 @@ fn by_validated(
 /// 200 to a HEAD updates the stored response, or makes it stale. Any other response is stored, if it
 /// may be.
 ///
-/// Allocates what is stored. Fails with `OutOfMemory`, or with `InternalError` if what updates the
-/// stored response brings too many fields; after an unsafe method never.
+/// Allocates what is stored. Fails with `OutOfMemory`, or with `InternalError` if the response updates
+/// the stored one and both have together more names than the 24,576 that a head has room for; after an
+/// unsafe method never.
 pub fn decide_response(
     rules: &Rules,
     request: &RequestHeader,
@@ -423,7 +430,11 @@ pub fn decide_response(
         (DecidesByValidated rules.now request.now v response.now received)) }
     ensures fetched { IsSafe request.now.method → option_copied validated.entry ≡ None
         → IfOk result (DecidesStoring rules.now request.now response.now received) }
-    ensures kind { IfErr result (λ e. IsSafe request.now.method × FailsWith request.now response.now e) }
+    ensures safe { IfErr result (λ _. IsSafe request.now.method) }
+    ensures kind { IfSome (option_copied validated.entry) (λ v. IfErr result
+        (FailsWith rules.now request.now v response.now)) }
+    ensures fetched_kind { option_copied validated.entry ≡ None
+        → IfErr result (λ e. e ≡ OutOfMemory) }
 {
     if !is_safe(&request.method) {
         return Ok(by_unsafe(request, response));
