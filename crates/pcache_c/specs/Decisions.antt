@@ -4,6 +4,7 @@ use Rattle.http_header.specs.FieldValue.{FieldValue}
 use Rattle.http_header.specs.HeaderMap.{Entries}
 use Rattle.http_header.specs.Token.{IsToken}
 use Rattle.pcache_base.specs.declared.error.ErrorType.{ErrorType}
+use Rattle.pcache_base.specs.declared.error.ErrorType.TheVariants.{OutOfMemory}
 use Rattle.pcache_meta.specs.Header.{shown}
 use Rattle.pcache_meta.specs.Internal.{first_said}
 use Rattle.pcache_meta.specs.Meta.{Meta}
@@ -234,8 +235,13 @@ pub record IsValidated (terms : Terms) (request : RequestHeader) (validated : Va
   pub is_unsafe : ¬ (IsSafe request.method) → ByUnsafe request response o
   pub decided : IsSafe request.method → DecidesByValidated terms.rules request validated response terms.at o
 
-abbrev pub MayFail : RequestHeader → ResponseHeader → ErrorType → Type 0
-MayFail request response e = IsSafe request.method × FailsWith request response e
+-- after an unsafe method nothing fails, and if nothing was validated memory alone can run out
+abbrev pub MayFailFetched : RequestHeader → ErrorType → Type 0
+MayFailFetched request e = IsSafe request.method × (e ≡ OutOfMemory)
+
+-- if what is stored was validated, there may also be too many fields
+abbrev pub MayFailValidated : Terms → RequestHeader → Validating → ResponseHeader → ErrorType → Type 0
+MayFailValidated terms request validated response e = IsSafe request.method × FailsWith terms.rules request validated response e
 
 -- what is stored answers in place of an answer that did not come, or may not
 abbrev pub ServesFailed : Terms → RequestHeader → StoredResponse → PcacheOutcome → PcacheOutcome → ℕ → Type 0

@@ -2,7 +2,7 @@
 ghost use Rattle.std.specs.Prelude.{◌≡◌, None, option_map};
 ghost use Rattle.std.specs.Option.{option_copied};
 ghost use Rattle.pcache_validation.specs.Fields.{bytes_of};
-ghost use Rattle.pcache_c.specs.Decisions.{DecidesMissing, DecidesStored, GivesKept, IsFetched, IsLeft, IsLent, IsValidated, MayFail, OnAnswer, OnHead, OnLent, OnStored, OnTerms, OnValidating, ServesFailed, Tells, WritesValidators, bytes_or_none, original_of, outcome_numbers};
+ghost use Rattle.pcache_c.specs.Decisions.{DecidesMissing, DecidesStored, GivesKept, IsFetched, IsLeft, IsLent, IsValidated, MayFailFetched, MayFailValidated, OnAnswer, OnHead, OnLent, OnStored, OnTerms, OnValidating, ServesFailed, Tells, WritesValidators, bytes_or_none, original_of, outcome_numbers};
 ghost use Rattle.pcache_c.specs.Handles.{AsksOf, IsSame, OnKind, object_of};
 ghost use Rattle.pcache_c.specs.Objects.{as_asked, as_head, as_meta};
 
@@ -293,7 +293,7 @@ fn fetched(
     out: &mut PcacheOutcome,
 ) -> u32
     ensures { Tells (IsFetched terms.now request.now response.now)
-        (MayFail request.now response.now) terms.now.at kept.old kept.new out.old out.new result }
+        (MayFailFetched request.now) terms.now.at kept.old kept.new out.old out.new result }
 {
     match decide_response(&terms.rules, request, None, response, terms.at) {
         Ok(outcome) => tell(alloc, outcome, terms.at, kept, out),
@@ -311,7 +311,7 @@ fn decide_fetched(
 ) -> u32
     ensures { OnKind (as_asked request.now) result (IsLeft kept.old kept.new out.old out.new) (λ r.
         OnKind (as_head response.now) result (IsLeft kept.old kept.new out.old out.new) (λ h.
-        Tells (IsFetched terms.now r h) (MayFail r h) terms.now.at kept.old kept.new out.old
+        Tells (IsFetched terms.now r h) (MayFailFetched r) terms.now.at kept.old kept.new out.old
         out.new result)) }
 {
     let Some(request) = asked_in(request) else {
@@ -336,7 +336,7 @@ pub extern "C" fn pcache_decide_fetched(
 ) -> u32
     ensures decides { OnTerms terms.now result (IsLeft kept.old kept.new out.old out.new) (λ t.
         OnAnswer request.old response.old result (IsLeft kept.old kept.new out.old out.new)
-        (λ r h. Tells (IsFetched t r h) (MayFail r h) t.at kept.old kept.new out.old out.new
+        (λ r h. Tells (IsFetched t r h) (MayFailFetched r) t.at kept.old kept.new out.old out.new
         result)) }
     ensures request { IsSame request.old request.new }
     ensures response { IsSame response.old response.new }
@@ -367,7 +367,8 @@ fn validated(
     out: &mut PcacheOutcome,
 ) -> u32
     ensures { Tells (IsValidated terms.now request.now validated.now response.now)
-        (MayFail request.now response.now) terms.now.at kept.old kept.new out.old out.new result }
+        (MayFailValidated terms.now request.now validated.now response.now) terms.now.at kept.old
+        kept.new out.old out.new result }
 {
     match decide_response(&terms.rules, request, Some(validated), response, terms.at) {
         Ok(outcome) => tell(alloc, outcome, terms.at, kept, out),
@@ -390,7 +391,8 @@ fn decide_validated<'a>(
         OnKind (original_of (option_map (λ object. object.value) original.now) r) result
         (IsLeft kept.old kept.new out.old out.new)
         (λ f. OnValidating terms.now m f (λ s. Tells (IsValidated terms.now r s response.now)
-        (MayFail r response.now) terms.now.at kept.old kept.new out.old out.new result)))) }
+        (MayFailValidated terms.now r s response.now) terms.now.at kept.old kept.new out.old
+        out.new result)))) }
 {
     let Some(request) = asked_in(request) else {
         return WRONG_KIND;
@@ -423,8 +425,9 @@ fn decide_answered(
 ) -> u32
     ensures decides { OnStored request.old meta.old original.old result
         (IsLeft kept.old kept.new out.old out.new) (λ r m f. OnValidating terms.now m f (λ s.
-        Tells (IsValidated terms.now r s response.now) (MayFail r response.now) terms.now.at
-        kept.old kept.new out.old out.new result)) }
+        Tells (IsValidated terms.now r s response.now)
+        (MayFailValidated terms.now r s response.now) terms.now.at kept.old kept.new out.old
+        out.new result)) }
     ensures request { IsSame request.old request.new }
     ensures meta { IsSame meta.old meta.new }
     ensures original { IsSame original.old original.new }
@@ -458,8 +461,8 @@ fn decide_on(
         (IsLeft kept.old kept.new out.old out.new) (λ h.
         OnStored request.old meta.old original.old result
         (IsLeft kept.old kept.new out.old out.new) (λ r m f. OnValidating terms.now m f (λ s.
-        Tells (IsValidated terms.now r s h) (MayFail r h) terms.now.at kept.old kept.new out.old
-        out.new result))) }
+        Tells (IsValidated terms.now r s h) (MayFailValidated terms.now r s h) terms.now.at
+        kept.old kept.new out.old out.new result))) }
     ensures request { IsSame request.old request.new }
     ensures meta { IsSame meta.old meta.new }
     ensures original { IsSame original.old original.new }
@@ -488,8 +491,8 @@ pub extern "C" fn pcache_decide_validated(
         OnHead response.old result (IsLeft kept.old kept.new out.old out.new) (λ h.
         OnStored request.old meta.old original.old result
         (IsLeft kept.old kept.new out.old out.new) (λ r m f. OnValidating t m f (λ s.
-        Tells (IsValidated t r s h) (MayFail r h) t.at kept.old kept.new out.old out.new
-        result)))) }
+        Tells (IsValidated t r s h) (MayFailValidated t r s h) t.at kept.old kept.new out.old
+        out.new result)))) }
     ensures request { IsSame request.old request.new }
     ensures meta { IsSame meta.old meta.new }
     ensures original { IsSame original.old original.new }
