@@ -104,12 +104,16 @@ ByUnsafe request response MarkStale = ⊥
 
 -- ---- a 304 to the conditions of the cache
 
+-- RFC 9111, 4.3.4: the 304 identifies the stored response
+abbrev pub IsIdentified : Validating → ResponseHeader → Type 0
+IsIdentified validated response =
+    identifies (shown_fields response.headers) (shown_fields validated.stored.head.now.headers) validated.alone ≡ true
+
 -- RFC 9111, 4.3.4: it updates the stored response that it identifies. If it identifies none, nothing is known of what the
 -- client asked for, and the request is sent again without a condition
 abbrev pub By304 : Rules → RequestHeader → Validating → ResponseHeader → ℕ → Outcome → Type 0
 By304 rules request validated response received (Freshen freshened) =
-    (identifies (shown_fields response.headers) (shown_fields validated.stored.head.now.headers) validated.alone ≡ true)
-    × IsFreshenedTo rules request validated response received freshened
+    IsIdentified validated response × IsFreshenedTo rules request validated response received freshened
 By304 rules request validated response received FetchAgain =
     identifies (shown_fields response.headers) (shown_fields validated.stored.head.now.headers) validated.alone ≡ false
 By304 rules request validated response received (Store kept) = ⊥
@@ -174,6 +178,11 @@ ByError rules request stored response received MarkStale = ⊥
 abbrev pub IsHead : RequestHeader → Type 0
 IsHead request = request.method ≡ codes "HEAD"
 
+-- RFC 9111, 4.3.5: a 200 fits the stored response if its validators and its Content-Length are those that are stored
+abbrev pub FitsStored : Validating → ResponseHeader → Type 0
+FitsStored validated response =
+    Updates response.status (shown_fields response.headers) (shown_fields validated.stored.head.now.headers)
+
 -- RFC 9111, 5.2.1.5 and 5.2.2.5, MUST NOT: nothing of the answer to a HEAD is stored if the updated response may not be
 pub record IsNotUpdated (rules : Rules) (request : RequestHeader) (validated : Validating) (response : ResponseHeader) (received : ℕ) (reason : NotStoredFor) : Type 0 where
   pub kept : Kept
@@ -194,8 +203,7 @@ ByUpdate rules request validated response received MarkStale = ⊥
 
 -- RFC 9111, 4.3.5, SHOULD: a 200 to a HEAD updates the stored response that it fits, and makes any other one stale
 pub record DecidesByHead (rules : Rules) (request : RequestHeader) (validated : Validating) (response : ResponseHeader) (received : ℕ) (outcome : Outcome) : Type 0 where
-  pub fits : Updates response.status (shown_fields response.headers) (shown_fields validated.stored.head.now.headers)
-      → ByUpdate rules request validated response received outcome
+  pub fits : FitsStored validated response → ByUpdate rules request validated response received outcome
   pub differs : MakesStale response.status (shown_fields response.headers) (shown_fields validated.stored.head.now.headers)
       → outcome ≡ MarkStale
   pub other : ¬ (response.status ≡ 200) → DecidesStoring rules request response received outcome
@@ -227,11 +235,12 @@ pub record AreTooMany (kind : CacheKind) (validated : Validating) (new : Entries
 abbrev pub FailsToUpdate : CacheKind → Validating → Entries FieldValue → ErrorType → Type 0
 FailsToUpdate kind validated new e = (e ≡ OutOfMemory) ⊎ ((e ≡ InternalError) × AreTooMany kind validated new)
 
--- RFC 9111, 4.3.4 and 4.3.5: a 304 may update what is stored, and so may a 200 to a HEAD
-abbrev pub MayUpdate : RequestHeader → ResponseHeader → Type 0
-MayUpdate request response = IsUnchanged (Some response.status) ⊎ (IsHead request × (response.status ≡ 200))
+-- RFC 9111, 4.3.4 and 4.3.5: a 304 updates what it identifies, and a 200 to a HEAD the stored response that it fits
+abbrev pub UpdatesStored : RequestHeader → Validating → ResponseHeader → Type 0
+UpdatesStored request validated response =
+    (IsUnchanged (Some response.status) × IsIdentified validated response) ⊎ (IsHead request × FitsStored validated response)
 
--- memory runs out, or the response may update what is stored and there are too many fields (own)
+-- memory runs out, or the response updates what is stored and there are too many fields (own)
 abbrev pub FailsWith : Rules → RequestHeader → Validating → ResponseHeader → ErrorType → Type 0
 FailsWith rules request validated response e =
-    (e ≡ OutOfMemory) ⊎ ((e ≡ InternalError) × MayUpdate request response × AreTooMany rules.kind validated response.headers)
+    (e ≡ OutOfMemory) ⊎ ((e ≡ InternalError) × UpdatesStored request validated response × AreTooMany rules.kind validated response.headers)

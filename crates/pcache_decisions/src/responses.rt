@@ -6,7 +6,7 @@ ghost use Rattle.pcache_base.specs.declared.error.ErrorType.TheVariants.{Interna
 ghost use Rattle.pcache_http.specs.Storing.{as_get};
 ghost use Rattle.pcache_validation.specs.Answers.{IsError, IsUnchanged};
 ghost use Rattle.pcache_validation.specs.Unsafe.{IsSafe};
-ghost use Rattle.pcache_decisions.specs.Responses.{AreFreshened, By304, ByError, ByStoring, ByUnsafe, ByUpdate, DecidesByHead, DecidesByValidated, DecidesStoring, FailsToUpdate, FailsWith, FollowsError, IsFreshenedTo, IsHead, IsKeptOf, IsLifetimeOf, IsServedStale, IsUpdatedBy, StoresBy, without_old_age};
+ghost use Rattle.pcache_decisions.specs.Responses.{AreFreshened, By304, ByError, ByStoring, ByUnsafe, ByUpdate, DecidesByHead, DecidesByValidated, DecidesStoring, FailsToUpdate, FailsWith, FitsStored, FollowsError, IsFreshenedTo, IsHead, IsIdentified, IsKeptOf, IsLifetimeOf, IsServedStale, IsUpdatedBy, StoresBy, without_old_age};
 
 use crate::requests::{Answer, answer_of};
 use crate::stored::{StoredResponse, age_at, lifetime_in};
@@ -222,6 +222,7 @@ fn by_304(
         (By304 rules.now request.now validated.now response.now received) }
     ensures kind { IfErr result
         (FailsToUpdate rules.now.kind validated.now response.now.headers) }
+    ensures identified { IfErr result (λ _. IsIdentified validated.now response.now) }
 {
     let stored = &validated.stored.head.headers;
     if !identifies(&response.headers, stored, validated.alone) {
@@ -366,7 +367,7 @@ fn by_head(
     ensures kind { IfErr result
         (FailsToUpdate rules.now.kind validated.now response.now.headers) }
     ensures update { IfErr result
-        (λ e. (e ≡ OutOfMemory) ⊎ ((e ≡ InternalError) × (response.now.status ≡ 200))) }
+        (λ e. (e ≡ OutOfMemory) ⊎ ((e ≡ InternalError) × FitsStored validated.now response.now)) }
 {
     match after_head_of(response, &validated.stored.head.headers) {
         heads::Freshened::Updated => by_update(rules, request, validated, response, received),
@@ -413,9 +414,9 @@ fn by_validated(
 /// 200 to a HEAD updates the stored response, or makes it stale. Any other response is stored, if it
 /// may be.
 ///
-/// Allocates what is stored. Fails with `OutOfMemory`, or with `InternalError` if the response updates
-/// the stored one and both have together more names than the 24,576 that a head has room for; after an
-/// unsafe method never.
+/// Allocates what is stored. Fails with `OutOfMemory`; with `InternalError` only if the response
+/// updates the stored one, and both have together more names than the 24,576 that a head has room for.
+/// After an unsafe method never.
 pub fn decide_response(
     rules: &Rules,
     request: &RequestHeader,
