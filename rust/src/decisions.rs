@@ -221,8 +221,8 @@ impl Asked {
     /// What becomes of the response to it, if it was forwarded with the validators of this meta.
     ///
     /// # Errors
-    /// [`Error::BadValue`] for a moment that is none, [`Error::NoMemory`], [`Error::Unreadable`] if the response was to
-    /// update what is stored, and the two heads have more than 24,576 names together.
+    /// [`Error::BadValue`] for a moment that is none, [`Error::NoMemory`], [`Error::Unreadable`] only if the response
+    /// updates what is stored, and the two heads have more than 24,576 names together.
     pub fn decide_validated(&mut self, terms: &Terms, meta: &mut Meta, original: Option<&mut Asked>, response: &mut Head) -> Result<Outcome, Error> {
         let (mut kept, mut none, mut out) = (Handle::new(), Handle::new(), raw::PcacheOutcome::default());
         let original = original.map_or(&mut none.0, |it| &mut it.0 .0);
