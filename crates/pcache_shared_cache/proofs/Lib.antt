@@ -1,6 +1,10 @@
 pub mod Adding
 pub mod InPart
+pub mod Led
+pub mod Logs
 pub mod Parting
+pub mod Placing
+pub mod Rows
 pub mod Together
 pub mod Unlocked
 pub mod Waiting

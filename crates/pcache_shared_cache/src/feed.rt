@@ -1,4 +1,5 @@
 //! Puts: their pieces and their end.
+use crate::mark::Mark;
 use crate::put::SharedPut;
 use crate::shared::SharedCache;
 use pcache_base::error::{Error, ErrorType, Result};
@@ -9,7 +10,7 @@ use pcache_put_ctx::policy::CachePut;
 use pcache_put_ctx::report::PutOutcome;
 use std::sync::Wait;
 
-impl<M: EvictionManager, K, const N: usize> SharedCache<M, K, N> {
+impl<M: EvictionManager, K: Mark, const N: usize> SharedCache<M, K, N> {
     ghost use Rattle.std.specs.Prelude.{◌≡◌, ◌⊎◌, IfErr, List, Option};
     ghost use Rattle.pcache_put.specs.Progress.{HasFailed};
     ghost use Rattle.pcache_put_ctx.specs.Puts.{IsResult, Piece};
@@ -40,9 +41,11 @@ impl<M: EvictionManager, K, const N: usize> SharedCache<M, K, N> {
         ensures place { put.new.place ≡ put.old.place }
     {
         let read = put.read_piece(piece, now);
-        self.part(put.place())
-            .lock(rt)
-            .store_piece(&mut put.pending, read)
+        let mut guard = self.part(put.place()).lock(rt);
+        let part = &mut *guard;
+        let result = part.cache.store_piece(&mut put.pending, read);
+        part.log.notes(&part.cache);
+        result
     }
 
     /// `Cache::finish_put`: ends the put once all pieces have come. Fails with `InternalError`, and changes nothing, if the put's
@@ -60,12 +63,14 @@ impl<M: EvictionManager, K, const N: usize> SharedCache<M, K, N> {
             (IsResult (C.says put.old.put.policy) (limit_of put.old.put.size) pieces) f) }
         ensures place { put.new.place ≡ put.old.place }
     {
-        let mut part = self.part(put.place()).lock(rt);
-        if !part.may_end_put(&put.pending) {
+        let mut guard = self.part(put.place()).lock(rt);
+        let part = &mut *guard;
+        if !part.cache.may_end_put(&put.pending) {
             return Err(Error::new(ErrorType::InternalError));
         }
-        let outcome = part.finish_put(&mut put.pending);
-        part.is_kept(); // for the prover
+        let outcome = part.cache.finish_put(&mut put.pending);
+        part.cache.is_kept(); // for the prover
+        part.log.notes(&part.cache);
         outcome
     }
 
@@ -78,8 +83,10 @@ impl<M: EvictionManager, K, const N: usize> SharedCache<M, K, N> {
     {
         let place = put.place();
         let left = put.into_left();
-        let mut part = self.part(place).lock(rt);
-        part.drop_left(left);
-        part.is_kept(); // for the prover
+        let mut guard = self.part(place).lock(rt);
+        let part = &mut *guard;
+        part.cache.drop_left(left);
+        part.cache.is_kept(); // for the prover
+        part.log.notes(&part.cache);
     }
 }

@@ -1,4 +1,5 @@
 //! A put of a cache in parts.
+use crate::mark::Mark;
 use crate::split::place_of;
 use pcache_base::key::CacheKey;
 use pcache_base::moment::Moment;
@@ -12,12 +13,12 @@ use std::marker::Model;
 
 /// A put of the cache in `N` parts with the mark `K`: a response that is pushed in, in pieces. It is made with its key, which
 /// determines its part as for requests, and keeps both. It must be spent by `SharedCache::end_put`.
-pub struct SharedPut<C: CachePut, K, const N: usize> {
+pub struct SharedPut<C: CachePut, K: Mark, const N: usize> {
     place: usize,
     pub(crate) pending: PendingPut<C, K>,
 }
 
-impl<C: CachePut, K, const N: usize> Model for SharedPut<C, K, N> {
+impl<C: CachePut, K: Mark, const N: usize> Model for SharedPut<C, K, N> {
     ghost use Rattle.std.specs.Prelude.{◌<◌};
     ghost use Rattle.pcache_shared_cache.specs.SharedPuts.{SeatedPut};
 
@@ -28,7 +29,7 @@ impl<C: CachePut, K, const N: usize> Model for SharedPut<C, K, N> {
     ghost invariant = { λ p. p.place < N };
 }
 
-impl<C: CachePut, K, const N: usize> SharedPut<C, K, N> {
+impl<C: CachePut, K: Mark, const N: usize> SharedPut<C, K, N> {
     ghost use Rattle.std.specs.Prelude.{◌≡◌, ◌<◌, [], List, None, Some};
     ghost use Rattle.pcache_put.specs.Progress.{AtHead};
     ghost use Rattle.pcache_put_ctx.specs.Puts.{Piece};
