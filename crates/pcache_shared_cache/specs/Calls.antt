@@ -3,7 +3,7 @@
 use Rattle.std.specs.Prelude.{◌≡◌, ◌⊎◌, ℕ, Bool, true, List, Option, None, Some, IfErr, IfOk, IfSome, IsTrue, OnErr, OnOk, Result, option_map}
 use Rattle.pcache_base.specs.Key.{slot}
 use Rattle.pcache_base.specs.declared.error.ErrorType.{ErrorType}
-use Rattle.pcache_base.specs.declared.error.ErrorType.TheVariants.{OutOfMemory}
+use Rattle.pcache_base.specs.declared.error.ErrorType.TheVariants.{InternalError, OutOfMemory}
 use Rattle.pcache_base.specs.declared.poll.Poll.{Poll}
 use Rattle.pcache_base.specs.declared.reason.NoCacheReason.{NoCacheReason}
 use Rattle.pcache_cache.specs.Parts.{Adds, MayEnd, Parts, takes_bytes, tracked_at_end, written_by, written_past}
@@ -70,14 +70,14 @@ pub record Writes (result : Result Bool ErrorType) (bytes : List ℕ) (eof : Boo
   pub same : OnErr result (q ≡ p)
   pub rest : q ≡ record p { store = q.store; past = q.past }
 
--- the write ends, if it is one of this part; if not, nothing changes
+-- the write ends, if it is one of this part; if not, the call fails, and nothing changes
 pub record EndsWriteOf (result : Result (Option FinishReport) ErrorType) (r : Request) (p q : Parts) : Type 0 where
   pub ended :
       MayEnd p.store r → EndsAs result (λ end. Ends in_memory r r.key r.write (finishes_of (created p.store) r.write) p.limits end p.store q.store (tracked_at_end p r end) q.tracked p.locks q.locks
       × EndsRequestPast in_memory r.key r.write end (Some p.past) (Some q.past)
       × Adds (end_deeds r.write r.held end) p.deeds q.deeds
       × (q.evicted ≡ evicted_after r r.key (finishes_of (created p.store) r.write) (tracked_at_end p r end) p.evicted end))
-  pub refused : (MayEnd p.store r → ⊥) → q ≡ p
+  pub refused : (MayEnd p.store r → ⊥) → OnOk result ⊥ × IfErr result (λ e. e ≡ InternalError) × (q ≡ p)
   pub limits : q.limits ≡ p.limits
 
 -- the key is looked up, with this pair

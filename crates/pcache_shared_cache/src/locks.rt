@@ -138,7 +138,9 @@ impl<M: EvictionManager, K: Mark, const N: usize> SharedCache<M, K, N> {
     {
         let mut guard = self.part(request.place()).lock(rt);
         let part = &mut *guard;
-        let result = part.cache.lock_publish_fill_tokens(&request.request, tokens);
+        let result = part
+            .cache
+            .lock_publish_fill_tokens(&request.request, tokens);
         part.log.adds(&part.cache, &mut request.sight);
         result
     }

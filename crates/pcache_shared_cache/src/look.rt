@@ -47,7 +47,9 @@ impl<M: EvictionManager, K: Mark, const N: usize> SharedCache<M, K, N> {
     {
         let mut guard = self.part(request.place()).lock(rt);
         let part = &mut *guard;
-        let result = part.cache.cache_lookup_without_policy(&mut request.request, now);
+        let result = part
+            .cache
+            .cache_lookup_without_policy(&mut request.request, now);
         part.log.adds(&part.cache, &mut request.sight);
         result
     }
@@ -73,7 +75,9 @@ impl<M: EvictionManager, K: Mark, const N: usize> SharedCache<M, K, N> {
     {
         let mut guard = self.part(request.place()).lock(rt);
         let part = &mut *guard;
-        let result = part.cache.cache_found(&mut request.request, meta, hit, status, now);
+        let result = part
+            .cache
+            .cache_found(&mut request.request, meta, hit, status, now);
         part.log.adds(&part.cache, &mut request.sight);
         result
     }
@@ -120,11 +124,7 @@ impl<M: EvictionManager, K: Mark, const N: usize> SharedCache<M, K, N> {
 
     /// `Cache::is_body_whole`: whether all was given that was to be read; `false` after the end says that the body was cut off. Of
     /// a complete body nothing is locked.
-    pub fn is_body_whole<R: Wait>(
-        &self,
-        rt: &R,
-        request: &mut SharedRequest<K, N>,
-    ) -> bool
+    pub fn is_body_whole<R: Wait>(&self, rt: &R, request: &mut SharedRequest<K, N>) -> bool
         ensures sees { Sees self.now K.names request.old.place request.old.seen request.new.seen
             (λ p. result ≡ whole_by request.old.cache.reader p.store) }
         ensures rest { request.new ≡ record request.old { seen = request.new.seen } }
@@ -142,11 +142,7 @@ impl<M: EvictionManager, K: Mark, const N: usize> SharedCache<M, K, N> {
 
     /// `Cache::body_length`: the length of the body that is read, if its end is known, in bytes. Of a complete body nothing is
     /// locked.
-    pub fn body_length<R: Wait>(
-        &self,
-        rt: &R,
-        request: &mut SharedRequest<K, N>,
-    ) -> Option<usize>
+    pub fn body_length<R: Wait>(&self, rt: &R, request: &mut SharedRequest<K, N>) -> Option<usize>
         ensures sees { Sees self.now K.names request.old.place request.old.seen request.new.seen
             (λ p. result ≡ length_by request.old.cache.reader p.store) }
         ensures rest { request.new ≡ record request.old { seen = request.new.seen } }

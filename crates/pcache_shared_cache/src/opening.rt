@@ -131,10 +131,7 @@ pub trait OverParts<M: EvictionManager> {
 
 /// Runs a program over the parts of one cache, under a mark that names each part. So what each call of the cache says of its part
 /// is of that part's own states.
-pub fn over_parts<M: EvictionManager, P: OverParts<M>>(
-    parts: Vec<NewPart<M>>,
-    program: P,
-) -> P::Out
+pub fn over_parts<M: EvictionManager, P: OverParts<M>>(parts: Vec<NewPart<M>>, program: P) -> P::Out
     requires { P.asks program (map (λ (p : Unmade). p.portion.limits) parts.items) }
     ensures { P.gives program (map (λ (p : Unmade). p.portion.limits) parts.items) result }
 {
@@ -142,10 +139,7 @@ pub fn over_parts<M: EvictionManager, P: OverParts<M>>(
 }
 
 // The same under a mark that has these names. It has no const parameter, since `over_parts` picks the mark.
-fn named<M: EvictionManager, P: OverParts<M>, K: Mark>(
-    parts: Vec<NewPart<M>>,
-    program: P,
-) -> P::Out
+fn named<M: EvictionManager, P: OverParts<M>, K: Mark>(parts: Vec<NewPart<M>>, program: P) -> P::Out
     requires asked { P.asks program (map (λ (p : Unmade). p.portion.limits) parts.items) }
     requires named { AreNamed K.names (map (λ (p : Unmade). p.name) parts.items) }
     ensures { P.gives program (map (λ (p : Unmade). p.portion.limits) parts.items) result }

@@ -68,7 +68,9 @@ impl<M: EvictionManager, K: Mark, const N: usize> SharedCache<M, K, N> {
     {
         let mut guard = self.part(request.place()).lock(rt);
         let part = &mut *guard;
-        let result = part.cache.revalidate_uncacheable(&mut request.request, header, reason);
+        let result = part
+            .cache
+            .revalidate_uncacheable(&mut request.request, header, reason);
         part.log.adds(&part.cache, &mut request.sight);
         result
     }

@@ -134,9 +134,10 @@ impl<M: EvictionManager, K: Mark, const N: usize> SharedCache<M, K, N> {
         SharedRequest::new(self.alloc, key, sight)
     }
 
-    /// A put of a key, with no limit on its body. It takes no lock.
+    /// A put of a key, with no limit on its body. It takes no lock. It has seen how its part began.
     pub fn put<C: CachePut>(&self, policy: C, key: CacheKey) -> SharedPut<C, K, N>
         ensures place { result.place ≡ place_of N key }
+        ensures seen { IfSome (slice_get self.now result.place) (StartsWith result.seen) }
         ensures put { result.put
             ≡ record {
               policy = policy;
@@ -148,7 +149,8 @@ impl<M: EvictionManager, K: Mark, const N: usize> SharedCache<M, K, N> {
         ensures taken { HasTaken (C.says policy) result.put [] None }
     {
         let _parts = &self.parts; // for the prover, as above
-        SharedPut::new(self.alloc, policy, key)
+        let sight = self.part(place_of::<N>(&key)).beginning();
+        SharedPut::new(self.alloc, policy, key, sight)
     }
 
     /// The sum of the lengths of the complete bodies, each part asked in turn: at most the whole limit.
