@@ -4,6 +4,7 @@ pub mod Led
 pub mod Logs
 pub mod Parting
 pub mod Placing
+pub mod Pushed
 pub mod Rows
 pub mod Together
 pub mod Unlocked

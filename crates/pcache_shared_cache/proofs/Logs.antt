@@ -1,5 +1,5 @@
 -- Logs that go on, and what was seen of them.
-use Rattle.std.proofs.Common.{◌≡◌, ◌⊎◌, inl, inr, ℕ, Option, Some, None, List, [], ◌∷◌, ◌++◌, slice_get, refl, sym, ap, subst, ◌∙◌}
+use Rattle.std.proofs.Common.{◌≡◌, ◌⊎◌, inl, inr, ℕ, Option, Some, None, List, [], ◌∷◌, ◌++◌, append_assoc, slice_get, refl, sym, ap, subst, ◌∙◌}
 use Rattle.std.proofs.lemmas.List.{append-nil}
 use mathlib.Core.List.{IsPrefix}
 use Rattle.pcache_cache.specs.Parts.{Parts}
@@ -38,6 +38,11 @@ begins (Some n) a b old log an bn is = is (an ∙ sym bn)
 pub begins_self : (named : Option ℕ) (log : List Parts) → Begins named log log
 begins_self None log = tt
 begins_self (Some n) log = ([], append-nil log)
+
+-- what was seen of a log is a beginning of the log with one more state
+pub begins_more : (named : Option ℕ) (old log : List Parts) (p : Parts) → Begins named old log → Begins named old (log ++ p ∷ [])
+begins_more None old log p is = tt
+begins_more (Some n) old log p is = (is.0 ++ p ∷ [], sym (append_assoc old is.0 (p ∷ [])) ∙ ap (λ (l : List Parts). l ++ p ∷ []) is.1)
 
 -- the part that a lock lends is at the place that was asked for, and has its limits
 pub lent : {limits : List Limits} {asked place : ℕ} {lock : Begun} {guard part : Held} → slice_get limits asked ≡ Some lock.limits → lock.place ≡ asked → asked ≡ place → guard.place ≡ lock.place → guard.now.limits ≡ lock.limits → part ≡ guard → (slice_get limits place ≡ Some part.now.limits) × (part.place ≡ place)

@@ -24,7 +24,7 @@ impl<M: EvictionManager, K: Mark, const N: usize> SharedCache<M, K, N> {
     ghost use Rattle.pcache_request.specs.Releasing.{MayRelease, status_for};
     ghost use Rattle.pcache_request.specs.Reports.{name_of, released_as};
     ghost use Rattle.pcache_shared_cache.specs.Calls.{Publishes, Releases, TakesPermit, Waits};
-    ghost use Rattle.pcache_shared_cache.specs.Seen.{Goes};
+    ghost use Rattle.pcache_shared_cache.specs.Seen.{Begins, Goes};
 
     /// `Cache::cache_lock_wait`: whether the wait for the lock is over, and how it ended. Requires a read lock. The call itself
     /// does not wait.
@@ -95,7 +95,7 @@ impl<M: EvictionManager, K: Mark, const N: usize> SharedCache<M, K, N> {
     }
 
     /// `Cache::set_write_lock`: holds a permit that another request of the same part had; a lock that was held before is let go.
-    /// Returns the lock that was let go.
+    /// Returns the lock that was let go. The request has then also seen what the other one had.
     pub fn set_write_lock<R: Wait>(
         &self,
         rt: &R,
@@ -106,15 +106,17 @@ impl<M: EvictionManager, K: Mark, const N: usize> SharedCache<M, K, N> {
         requires place { permit.place ≡ request.old.place }
         ensures goes { Goes self.now K.names request.old.place request.old.seen request.new.seen
             (TakesPermit permit.permit request.old.cache) }
+        ensures follows { Begins (K.names request.old.place) permit.seen request.new.seen }
         ensures request { request.new.cache ≡ handed permit.permit request.old.cache }
         ensures stays { request.new.place ≡ request.old.place }
         ensures let_go { result ≡ option_map name_of (gone_for permit.permit request.old.cache) }
     {
         let lock = self.part(request.place());
-        let permit = permit.into_permit();
+        let (permit, sight) = permit.into_both();
         let mut guard = lock.lock(rt);
         let part = &mut *guard;
         let result = part.cache.set_write_lock(&mut request.request, permit);
+        part.log.meets(&sight);
         part.log.adds(&part.cache, &mut request.sight);
         result
     }

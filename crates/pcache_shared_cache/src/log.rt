@@ -103,7 +103,7 @@ impl<K: Mark> Model for PartLog<K> {
 impl<K: Mark> PartLog<K> {
     ghost use Rattle.std.specs.Prelude.{◌≡◌, [], ◌∷◌, ◌++◌};
     ghost use Rattle.pcache_cache.specs.Parts.{Parts};
-    ghost use Rattle.pcache_shared_cache.specs.Seen.{EndsWith, IsNamed, Leads, Looks, Moves};
+    ghost use Rattle.pcache_shared_cache.specs.Seen.{Begins, EndsWith, IsNamed, Leads, Looks, Moves};
 
     // The log of a part that begins in the state of this cache.
     pub(crate) fn new<M: EvictionManager>(
@@ -154,6 +154,15 @@ impl<K: Mark> PartLog<K> {
     {
         self.keeper.meets(&sight.seen);
         sight.seen = self.keeper.see();
+    }
+
+    // What was seen of it is a beginning of it.
+    pub(crate) fn meets(&mut self, sight: &Sight<K>)
+        requires { sight.now.place ≡ self.old.place }
+        ensures same { self.new ≡ self.old }
+        ensures begins { Begins (K.names self.old.place) sight.now.log self.old.log }
+    {
+        self.keeper.meets(&sight.seen);
     }
 
     // Adds the state of the cache, whose last state p the log has. Nobody sees it yet.

@@ -200,9 +200,10 @@ impl<K: Mark, const N: usize> SharedRequest<K, N> {
         requires { IsSome (permit_in self.old.cache.held) }
         ensures permit { Some result.permit ≡ permit_in self.old.cache.held }
         ensures place { result.place ≡ self.old.place }
+        ensures seen { result.seen ≡ self.old.seen }
         ensures request { self.new ≡ record self.old { cache = unheld self.old.cache } }
     {
-        SharedPermit::new(self.sight.place(), self.request.cache.take_write_lock())
+        SharedPermit::new(self.sight.again(), self.request.cache.take_write_lock())
     }
 
     // The request of the part.

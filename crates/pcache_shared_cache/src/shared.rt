@@ -149,8 +149,8 @@ impl<M: EvictionManager, K: Mark, const N: usize> SharedCache<M, K, N> {
         ensures taken { HasTaken (C.says policy) result.put [] None }
     {
         let _parts = &self.parts; // for the prover, as above
-        let sight = self.part(place_of::<N>(&key)).beginning();
-        SharedPut::new(self.alloc, policy, key, sight)
+        let begun = self.part(place_of::<N>(&key)).beginning();
+        SharedPut::new(self.alloc, policy, key, begun)
     }
 
     /// The sum of the lengths of the complete bodies, each part asked in turn: at most the whole limit.
