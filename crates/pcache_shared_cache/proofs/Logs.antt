@@ -45,8 +45,8 @@ begins_more None old log p is = tt
 begins_more (Some n) old log p is = (is.0 ++ p ∷ [], sym (append_assoc old is.0 (p ∷ [])) ∙ ap (λ (l : List Parts). l ++ p ∷ []) is.1)
 
 -- the part that a lock lends is at the place that was asked for, and has its limits
-pub lent : {limits : List Limits} {asked place : ℕ} {lock : Begun} {guard part : Held} → slice_get limits asked ≡ Some lock.limits → lock.place ≡ asked → asked ≡ place → guard.place ≡ lock.place → guard.now.limits ≡ lock.limits → part ≡ guard → (slice_get limits place ≡ Some part.now.limits) × (part.place ≡ place)
-lent {limits} {asked} {place} {lock} {guard} {part} has at is there same lends = (
+pub lent : (limits : List Limits) (lock : Begun) {asked place : ℕ} {guard part : Held} → slice_get limits asked ≡ Some lock.limits → lock.place ≡ asked → asked ≡ place → guard.place ≡ lock.place → guard.now.limits ≡ lock.limits → part ≡ guard → (slice_get limits place ≡ Some part.now.limits) × (part.place ≡ place)
+lent limits lock {asked} {place} {guard} {part} has at is there same lends = (
   subst (λ (n : ℕ). slice_get limits n ≡ Some part.now.limits) is (has ∙ ap Some (sym (ap (λ (h : Held). h.now.limits) lends ∙ same))),
   ap (λ (h : Held). h.place) lends ∙ there ∙ at ∙ is,
 )

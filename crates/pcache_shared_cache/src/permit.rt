@@ -15,9 +15,13 @@ pub struct SharedPermit<K: Mark, const N: usize> {
 }
 
 impl<K: Mark, const N: usize> Model for SharedPermit<K, N> {
+    ghost use Rattle.std.specs.Coded.{codes};
+    ghost use Rattle.pcache_cache.specs.PartsCode.{parts_code};
     ghost use Rattle.pcache_shared_cache.specs.Shared.{SeatedPermit};
 
     ghost Value = { SeatedPermit };
+
+    ghost coded = { Prim.hlevel (codes, parts_code) };
 
     ghost view = { λ p. record { place = p.sight.place; seen = p.sight.log; permit = p.permit } };
 }

@@ -20,10 +20,14 @@ pub struct SharedPut<C: CachePut, K: Mark, const N: usize> {
 }
 
 impl<C: CachePut, K: Mark, const N: usize> Model for SharedPut<C, K, N> {
+    ghost use Rattle.std.specs.Coded.{codes};
     ghost use Rattle.std.specs.Prelude.{◌<◌};
+    ghost use Rattle.pcache_cache.specs.PartsCode.{parts_code};
     ghost use Rattle.pcache_shared_cache.specs.SharedPuts.{SeatedPut};
 
     ghost Value = { SeatedPut C };
+
+    ghost coded = { Prim.hlevel (codes, parts_code) };
 
     ghost view = { λ p. record { place = p.sight.place; seen = p.sight.log; put = p.pending.put } };
 

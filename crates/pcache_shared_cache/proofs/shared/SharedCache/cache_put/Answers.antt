@@ -29,6 +29,6 @@ returns-clause-goes g c =
     let mid = ap (λ (s : SeatedPut g.row.C.Denot). s.put) (sym c.put.view_is) in
     let row : TakesIn c.store_piece-result.result (g.C.CachePut.says x.policy) x y piece p q =
     takes_in g.C.CachePut.says x c.put.inside.pending.put y piece c.read_piece-read.result c.store_piece-result.result p q (subst (λ (m : Put g.row.C.Denot). ReadsPiece (g.C.CachePut.says x.policy) x m piece c.read_piece-read.result) mid c.read_piece-read.ensures.read) c.read_piece-read.ensures.kind c.store_piece-result.ensures.step c.store_piece-result.ensures.kind c.store_piece-result.ensures.own c.store_piece-result.ensures.rest in
-    let here = lent c.part.ensures.limits c.part.ensures.place (c.place.ensures.place ∙ c.read_piece-read.ensures.place) c.lock-guard.ensures.place c.lock-guard.ensures.limits (c.part-2.view_is ∙ c.deref_mut-part.ensures.value) in
+    let here = lent c.args.self.now c.part.result.now c.part.ensures.limits c.part.ensures.place (c.place.ensures.place ∙ c.read_piece-read.ensures.place) c.lock-guard.ensures.place c.lock-guard.ensures.limits (c.part-2.view_is ∙ c.deref_mut-part.ensures.value) in
     goes_by c.args.self.now g.K.Mark.names c.part-2.inside.log.place c.args.put.now.place c.put.inside.sight.log c.args.put.now.seen c.adds.new.sight.log p q here (ap (λ (s : SeatedPut g.row.C.Denot). s.seen) c.put.view_is ∙ c.read_piece-read.ensures.seen)
     (c.adds.ensures.moves p c.part-2.invariant) row

@@ -13,7 +13,7 @@ adds-requires-clause-leads g c = let p = c.part-2.inside.cache in (p, c.part-2.i
 pub returns-then-not-may_end_put-clause-goes : goal.returns-then-not-may_end_put-clause-goes
 returns-then-not-may_end_put-clause-goes g c =
     let p = c.part-2.inside.cache in
-    let here = lent c.part.ensures.limits c.part.ensures.place (c.place.ensures.place ∙ ap (λ (s : SeatedPut g.row.C.Denot). s.place) (sym c.put.view_is)) c.lock-guard.ensures.place c.lock-guard.ensures.limits (c.part-2.view_is ∙ c.deref_mut-part.ensures.value) in
+    let here = lent c.args.self.now c.part.result.now c.part.ensures.limits c.part.ensures.place (c.place.ensures.place ∙ ap (λ (s : SeatedPut g.row.C.Denot). s.place) (sym c.put.view_is)) c.lock-guard.ensures.place c.lock-guard.ensures.limits (c.part-2.view_is ∙ c.deref_mut-part.ensures.value) in
     rw (← c.put.view_is) (goes_by c.args.self.now g.K.Mark.names c.part-2.inside.log.place c.put.inside.sight.place c.put.inside.sight.log c.put.inside.sight.log c.adds.new.sight.log p p here refl (c.adds.ensures.moves p c.part-2.invariant)
     (record {
       ended = λ may. not_so c.may_end_put.result c.if-not-may_end_put.true c.may_end_put.ensures may;
@@ -48,7 +48,7 @@ returns-clause-goes g c =
       refused = λ no. absurd (no (c.may_end_put.ensures.0 c.if-not-may_end_put.false));
       rest = λ i. record { store = q.store; past = q.past; tracked = q.tracked; evicted = q.evicted; limits = e.limits i; locks = e.locks i; deeds = e.deeds i };
     } in
-    let here = lent c.part.ensures.limits c.part.ensures.place (c.place.ensures.place ∙ ap (λ (s : SeatedPut g.row.C.Denot). s.place) (sym c.put.view_is)) c.lock-guard.ensures.place c.lock-guard.ensures.limits (c.part-2.view_is ∙ c.deref_mut-part.ensures.value) in
+    let here = lent c.args.self.now c.part.result.now c.part.ensures.limits c.part.ensures.place (c.place.ensures.place ∙ ap (λ (s : SeatedPut g.row.C.Denot). s.place) (sym c.put.view_is)) c.lock-guard.ensures.place c.lock-guard.ensures.limits (c.part-2.view_is ∙ c.deref_mut-part.ensures.value) in
     rw (← c.put.view_is) (goes_by c.args.self.now g.K.Mark.names c.part-2.inside.log.place c.put.inside.sight.place c.put.inside.sight.log c.put.inside.sight.log c.adds-2.new.sight.log p q here refl (c.adds-2.ensures.moves p c.part-2.invariant) row)
 
 pub returns-clause-tells : goal.returns-clause-tells

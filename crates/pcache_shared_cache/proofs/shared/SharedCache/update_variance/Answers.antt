@@ -17,6 +17,6 @@ returns-clause-goes g c =
     let p = c.part-2.inside.cache in
     let q = c.update_variance-result.new.self in
     let row : Varies c.args.variance c.request.inside.request.cache p q = record { locks = c.update_variance-result.ensures.table; deeds = c.update_variance-result.ensures.deeds; rest = c.update_variance-result.ensures.rest } in
-    let here = lent c.part.ensures.limits c.part.ensures.place c.place.ensures.place c.lock-guard.ensures.place c.lock-guard.ensures.limits (c.part-2.view_is ∙ c.deref_mut-part.ensures.value) in
+    let here = lent c.args.self.now c.part.result.now c.part.ensures.limits c.part.ensures.place c.place.ensures.place c.lock-guard.ensures.place c.lock-guard.ensures.limits (c.part-2.view_is ∙ c.deref_mut-part.ensures.value) in
     goes_by c.args.self.now g.K.Mark.names c.part-2.inside.log.place c.args.request.now.place c.request.inside.sight.log c.args.request.now.seen c.adds.new.sight.log p q here (ap (λ (s : Seated). s.seen) c.request.view_is)
     (c.adds.ensures.moves p c.part-2.invariant) (subst (λ (s : Seated). Varies c.args.variance s.cache p q) c.request.view_is row)
