@@ -2,7 +2,7 @@
 use Rattle.std.proofs.Common.{◌≡◌, ◌⊎◌, ⊎_elim, inl, inr, ℕ, ◌+◌, zero, suc, ◌++◌, List, [], ◌∷◌, Option, None, Some, append_assoc, append-nil, length, map, slice_get, refl, sym, ap, subst, ◌∙◌}
 use Rattle.std.proofs.lemmas.List.{length-append, map-append}
 use Rattle.pcache_evict.specs.Tracked.{Limits}
-use Rattle.pcache_shared_cache.specs.Managed.{Unmade}
+use Rattle.pcache_shared_cache.specs.Managed.{Managed, Unmade}
 use Rattle.pcache_shared_cache.specs.Seen.{AreNamed, ArePlaced, Begun, IsNamed}
 
 -- an element of a longer list is one of the list, or the last
@@ -55,3 +55,11 @@ made_count all parts made = sym made.2 ∙ ap length (sym (append-nil made.0) �
 
 pub made_placed : (all : List Unmade) (parts : List Begun) → Made all [] parts → ArePlaced parts
 made_placed all parts made = made.4
+
+-- the limits of parts that are to be made are those of their managers
+pub new_limits : (us : List Unmade) (ps : List Managed) → map (λ (u : Unmade). u.portion) us ≡ ps → map (λ (u : Unmade). u.portion.limits) us ≡ map (λ (p : Managed). p.limits) ps
+new_limits us ps is = each us ∙ ap (map (λ (p : Managed). p.limits)) is
+  where
+    each : (xs : List Unmade) → map (λ (u : Unmade). u.portion.limits) xs ≡ map (λ (p : Managed). p.limits) (map (λ (u : Unmade). u.portion) xs)
+    each [] = refl
+    each (x ∷ xs) = ap (λ (ls : List Limits). x.portion.limits ∷ ls) (each xs)
