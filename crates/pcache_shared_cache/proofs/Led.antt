@@ -1,11 +1,11 @@
 -- Each call led from the state that it found to the one that it left: the limits stay, and of the two pasts nothing is forgotten.
-use Rattle.std.proofs.Common.{◌≡◌, ◌⊎◌, ⊎_elim, inl, inr, ℕ, Bool, true, List, Option, None, Some, Result, Ok, Err, IfErr, OnErr, OnOk, ap, option_map, sym, subst}
+use Rattle.std.proofs.Common.{◌≡◌, ◌⊎◌, ⊎_elim, inl, inr, ℕ, Bool, true, List, Option, None, Some, Result, Ok, Err, OnErr, OnOk, ap, option_map, sym, subst}
 use Rattle.pcache_base.specs.Key.{slot}
 use Rattle.pcache_base.specs.declared.error.ErrorType.{ErrorType}
 use Rattle.pcache_cache.proofs.Adding.{dropped_keeps, end_keeps, ends_request_keeps, found_keeps, handed_keeps, left_keeps, looked_keeps, published_keeps, searched_keeps, settled_keeps, taken_keeps, varied_keeps, waited_keeps, writing_keeps, begun_keeps, written_keeps}
 use Rattle.pcache_cache.proofs.Growing.{GrewFrom, grew_by, grew_if, grew_not, grew_same, kept_by_deeds, kept_by_notes}
 use Rattle.pcache_cache.specs.Growing.{Grew}
-use Rattle.pcache_cache.specs.Parts.{Adds, MayEnd, Parts, tracked_at_end, written_past}
+use Rattle.pcache_cache.specs.Parts.{Adds, MayEnd, Parts, written_past}
 use Rattle.pcache_lock.specs.declared.lock.outcome.LockWaitOutcome.{LockWaitOutcome}
 use Rattle.pcache_lock.specs.declared.lock.permit.WritePermit.{WritePermit}
 use Rattle.pcache_lock.specs.declared.lock.status.LockStatus.{LockStatus}
@@ -17,7 +17,7 @@ use Rattle.pcache_request.specs.LockPasts.{end_deeds, found_deeds, handed_deeds,
 use Rattle.pcache_request.specs.Releasing.{status_for}
 use Rattle.pcache_request.specs.Renewals.{renewed_by}
 use Rattle.pcache_request.specs.Requests.{Request}
-use Rattle.pcache_request.specs.StorePasts.{EndsRequestPast, begun_past, dropped_past, expired_past, left_past, purged_past, renewed_past, searched_past, taken_past, writing_past}
+use Rattle.pcache_request.specs.StorePasts.{begun_past, dropped_past, expired_past, left_past, purged_past, renewed_past, searched_past, taken_past, writing_past}
 use Rattle.pcache_request.specs.WriteEnds.{EndsAs}
 use Rattle.pcache_request.specs.declared.cache.finish.FinishReport.{FinishReport}
 use Rattle.pcache_request.specs.declared.cache.finish.WriteEnd.{WriteEnd}

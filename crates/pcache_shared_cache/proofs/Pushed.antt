@@ -1,5 +1,5 @@
 -- Puts of a part: a piece that was read before the part was locked, and the end of a put.
-use Rattle.std.proofs.Common.{◌≡◌, ◌⊎◌, inl, inr, IfErr, Option, Result, Ok, Err, Some, ap, subst}
+use Rattle.std.proofs.Common.{◌≡◌, inl, inr, IfErr, Option, Result, Ok, Err, Some, ap, subst}
 use Rattle.pcache_base.specs.declared.error.ErrorType.{ErrorType}
 use Rattle.pcache_base.specs.declared.reason.NoCacheReason.{NoCacheReason}
 use Rattle.pcache_cache.proofs.Adding.{ends_put_keeps, put_keeps}

@@ -1,6 +1,6 @@
 -- What each call of a request does to the state of its part, from p to q, with this result: what `Cache`'s call of the same name
 -- says. The request is r before it and, where the call changes it, s after it (own).
-use Rattle.std.specs.Prelude.{◌≡◌, ◌⊎◌, ℕ, Bool, true, List, Option, None, Some, IfErr, IfOk, IfSome, IsTrue, OnErr, OnOk, Result, option_map}
+use Rattle.std.specs.Prelude.{◌≡◌, ◌⊎◌, ℕ, Bool, true, List, Option, Some, IfErr, IfOk, IfSome, IsTrue, OnErr, OnOk, Result, option_map}
 use Rattle.pcache_base.specs.Key.{slot}
 use Rattle.pcache_base.specs.declared.error.ErrorType.{ErrorType}
 use Rattle.pcache_base.specs.declared.error.ErrorType.TheVariants.{InternalError, OutOfMemory}

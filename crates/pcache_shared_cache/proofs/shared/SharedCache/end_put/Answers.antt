@@ -1,12 +1,11 @@
-use Rattle.std.proofs.Common.{ℕ, Option, ap, subst, sym, ◌∙◌}
+use Rattle.std.proofs.Common.{ℕ, Option, ap, subst, ◌∙◌}
 use Rattle.pcache_cache.proofs.Adding.{dropped_keeps}
 use Rattle.pcache_cache.proofs.Growing.{grew_by, grew_same, kept_by_notes}
 use Rattle.pcache_cache.specs.Parts.{Adds, Parts}
 use Rattle.pcache_request.specs.Requests.{dropped_by}
 use Rattle.pcache_request.specs.StorePasts.{dropped_past}
-use Rattle.pcache_put_ctx.specs.State.{write_in}
 use Rattle.pcache_shared_cache.specs.Seen.{Held, Leads}
-use Rattle.pcache_shared_cache.proofs.InPart.{keeps_as, moves_part}
+use Rattle.pcache_shared_cache.proofs.InPart.{moves_part}
 use Rattle.pcache_shared_cache.proofs.shared.SharedCache.end_put.Goals as goal
 
 pub notes-requires : goal.notes-requires

@@ -1,4 +1,4 @@
-use Rattle.std.proofs.Common.{ap, subst, ◌∙◌}
+use Rattle.std.proofs.Common.{ap, ◌∙◌}
 use Rattle.pcache_store.specs.Readers.{reader_of}
 use Rattle.pcache_shared_cache.specs.Calls.{LetsGo}
 use Rattle.pcache_shared_cache.specs.Shared.{Seated}
