@@ -12,7 +12,7 @@ use pcache::memory::MemHitHandler;
 use pcache::moment::Moment;
 use pcache::poll::Poll;
 use pcache::seed::Seed;
-use pcache::{CacheMeta, HitStatus, RespCacheable, SharedCache, SharedRequest};
+use pcache::{CacheMeta, HitStatus, RespCacheable, SharedCache, SharedRequest, Unnamed};
 use std::alloc::Global;
 use std::sync::Wait;
 use std::sync::atomic::{AtomicU64, Ordering};
@@ -34,12 +34,9 @@ const LOOKS: u32 = 1_000;
 
 const NOW: Moment = Moment::EPOCH;
 
-/// Names the cache of the proxy.
-pub struct OfProxy;
+type Parts = SharedCache<Manager, Unnamed, 16>;
 
-type Parts = SharedCache<Manager, OfProxy, 16>;
-
-type Request = SharedRequest<OfProxy, 16>;
+type Request = SharedRequest<Unnamed, 16>;
 
 /// What all threads did together.
 #[derive(Clone, Copy, Debug)]

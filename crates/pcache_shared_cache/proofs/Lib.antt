@@ -1,6 +1,11 @@
 pub mod Adding
 pub mod InPart
+pub mod Led
+pub mod Logs
 pub mod Parting
+pub mod Placing
+pub mod Pushed
+pub mod Rows
 pub mod Together
 pub mod Unlocked
 pub mod Waiting

@@ -9,6 +9,7 @@ use Rattle.pcache_evict.specs.Tracked.{Limits}
 use Rattle.pcache_cache.specs.Parts.{Parts, IsKept}
 use Rattle.pcache_store.specs.Totals.{slots, stored_bytes}
 use Rattle.pcache_shared_cache.specs.Portions.{added_watermark, portion, portion_at, portions, whole_watermark, whole_weight}
+use Rattle.pcache_shared_cache.specs.Seen.{Begun}
 use Rattle.pcache_shared_cache.specs.Shared.{OfPart}
 use Rattle.pcache_shared_cache.proofs.Adding.{add_up}
 
@@ -24,19 +25,24 @@ within (p ∷ ps) all =
     let right = sum_by-cons (λ (l : Limits). l.weight) p.limits (map (λ (p : Parts). p.limits) ps) in
     omega (arith, first, rest, left, right)
 
+-- the limits of parts as they began
+abbrev pub limits_in : List Begun → List Limits
+limits_in = map (λ (b : Begun). b.limits)
+
 -- so many parts were asked, and their results sum to this
-abbrev pub Told : List Limits → ℕ → (Parts → ℕ) → ℕ → Type 0
-Told limits i of total =
-    ((ps : List Parts) × (map (λ (p : Parts). p.limits) ps ≡ take i limits) × All Kept ps × (total ≡ sum_by of ps)) × (total ≤ i * (2 ^ 64 - 1))
+abbrev pub Told : List Begun → ℕ → (Parts → ℕ) → ℕ → Type 0
+Told parts i of total =
+    ((ps : List Parts) × (map (λ (p : Parts). p.limits) ps ≡ limits_in (take i parts)) × All Kept ps × (total ≡ sum_by of ps)) × (total ≤ i * (2 ^ 64 - 1))
 
-pub told-none : (limits : List Limits) (of : Parts → ℕ) → Told limits 0 of 0
-told-none limits of = (([], refl, (λ k d lt. absurd (omega arith)), refl), omega arith)
+pub told-none : (parts : List Begun) (of : Parts → ℕ) → Told parts 0 of 0
+told-none parts of = (([], refl, (λ k d lt. absurd (omega arith)), refl), omega arith)
 
-pub told-more : (limits : List Limits) (i : ℕ) (of : Parts → ℕ) (total n : ℕ) (l : Limits) → i < length limits → l ≡ slice_index_or limits i l → n < 2 ^ 64 → Told limits i of total → OfPart l (λ p. n ≡ of p) → Told limits (i + 1) of (total + n)
-told-more limits i of total n l lt at small t h =
+pub told-more : (parts : List Begun) (i : ℕ) (of : Parts → ℕ) (total n : ℕ) (b : Begun) → i < length parts → b ≡ slice_index_or parts i b → n < 2 ^ 64 → Told parts i of total → OfPart b.limits (λ p. n ≡ of p) → Told parts (i + 1) of (total + n)
+told-more parts i of total n b lt at small t h =
     let ps = t.0.0 in
-    let more : map (λ (p : Parts). p.limits) (ps ++ h.0 ∷ []) ≡ take (i + 1) limits =
-    map-append (λ (p : Parts). p.limits) ps (h.0 ∷ []) ∙ ap (λ ls. ls ++ h.0.limits ∷ []) t.0.1 ∙ ap (λ (x : Limits). take i limits ++ x ∷ []) (h.1 ∙ at) ∙ sym (take_more limits i l lt) in
+    let more : map (λ (p : Parts). p.limits) (ps ++ h.0 ∷ []) ≡ limits_in (take (i + 1) parts) =
+    map-append (λ (p : Parts). p.limits) ps (h.0 ∷ []) ∙ ap (λ ls. ls ++ h.0.limits ∷ []) t.0.1 ∙ ap (λ (x : Limits). limits_in (take i parts) ++ x ∷ []) (h.1 ∙ ap (λ (x : Begun). x.limits) at)
+    ∙ sym (map-append (λ (x : Begun). x.limits) (take i parts) (slice_index_or parts i b ∷ [])) ∙ ap limits_in (sym (take_more parts i b lt)) in
     let sums : total + n ≡ sum_by of (ps ++ h.0 ∷ []) = let a = sum_by-append of ps (h.0 ∷ []) in let b = sum_by-cons of h.0 [] in let c = t.0.3 in let d = h.3 in omega (arith, a, b, c, d) in
     let bound : total + n ≤ (i + 1) * (2 ^ 64 - 1) = let b = t.1 in omega (arith, b, small) in
     ((ps ++ h.0 ∷ [], more, All-push Kept ps h.0 t.0.2 h.2, sums), bound)

@@ -1,5 +1,8 @@
+pub mod Calls
 pub mod Managed
 pub mod ManagedCode
 pub mod Portions
+pub mod Seen
+pub mod SeenCode
 pub mod Shared
 pub mod SharedPuts

@@ -5,14 +5,16 @@ use Rattle.pcache_evict.specs.Tracked.{Limits}
 use Rattle.pcache_lock.specs.declared.lock.permit.WritePermit.{WritePermit}
 use Rattle.pcache_request.specs.Requests.{Request}
 
--- a request of a cache in parts: itself, and the place of its part
+-- a request of a cache in parts: itself, the place of its part, and what it has seen of the part
 pub record Seated : Type 0 where
   pub place : ℕ
+  pub seen : List Parts
   pub cache : Request
 
--- a permit of a cache in parts: itself, and the place of its part
+-- a permit of a cache in parts: itself, the place of its part, and what was seen of the part by the request that had it
 pub record SeatedPermit : Type 0 where
   pub place : ℕ
+  pub seen : List Parts
   pub permit : WritePermit
 
 -- P holds of the state that a part with these limits has while a call has it, which has the invariant of caches

@@ -1,8 +1,40 @@
--- A put of a cache in parts (own).
-use Rattle.std.specs.Prelude.{ℕ}
-use Rattle.pcache_put_ctx.specs.State.{Put}
+-- A put of a cache in parts, and what each of its calls does to the state of its part, from p to q, with this result: what `Cache`'s
+-- call of the same name says. The put is x before it and y after it (own).
+use Rattle.std.specs.Prelude.{◌≡◌, ◌⊎◌, ℕ, List, Option, Some, IfErr, OnErr, OnOk, Result}
+use Rattle.pcache_base.specs.declared.error.ErrorType.{ErrorType}
+use Rattle.pcache_base.specs.declared.error.ErrorType.TheVariants.{InternalError}
+use Rattle.pcache_base.specs.declared.reason.NoCacheReason.{NoCacheReason}
+use Rattle.pcache_cache.specs.OwnPut.{EndsOwnPut, MayEndPut, evicted_put, put_past, store_put}
+use Rattle.pcache_cache.specs.Parts.{Adds, Parts}
+use Rattle.pcache_put.specs.Progress.{HasFailed}
+use Rattle.pcache_put_ctx.specs.Pasts.{EndsPutPast}
+use Rattle.pcache_put_ctx.specs.Puts.{Piece, Says}
+use Rattle.pcache_put_ctx.specs.State.{Put, write_in}
+use Rattle.pcache_put_ctx.specs.Steps.{Done, EndsAs, MayFailPiece, TakesPiece, stage_ended}
+use Rattle.pcache_put_ctx.specs.declared.report.PutOutcome.{PutOutcome}
+use Rattle.pcache_request.specs.NoBody.{LeavesNone}
+use Rattle.pcache_store.specs.Readers.{in_memory}
 
--- the put itself, and the place of its part
+-- the put itself, the place of its part, and what it has seen of the part
 pub record SeatedPut (C : Type 0) : Type 0 where
   pub place : ℕ
+  pub seen : List Parts
   pub put : Put C
+
+-- a piece is taken in
+pub record TakesIn {C : Type 0} (result : Result (Option NoCacheReason) ErrorType) (says : Says) (x y : Put C) (piece : Piece) (p q : Parts) : Type 0 where
+  pub step : (d : Done) × TakesPiece says x y piece d × (q.store ≡ store_put x d result p.store) × Adds (put_past x d result p.store) p.past q.past
+  pub kind : IfErr result (λ e. MayFailPiece x.stage p.store e ⊎ (x.parser ≡ HasFailed e))
+  pub own : MayEndPut p.store x → MayEndPut q.store y
+  pub rest : q ≡ record p { store = q.store; past = q.past }
+
+-- the put ends, if its write is one of this part; if not, it fails, and nothing changes
+pub record EndsPutOf {C : Type 0} (result : Result PutOutcome ErrorType) (x y : Put C) (p q : Parts) : Type 0 where
+  pub ended :
+      MayEndPut p.store x → EndsAs result (λ end. EndsOwnPut x end p q
+      × EndsPutPast in_memory x.key x.stage end (Some p.past) (Some q.past)
+      × (q.evicted ≡ evicted_put x end p)
+      × (y.stage ≡ stage_ended end))
+  pub withdrawn : MayEndPut p.store x → OnErr result (LeavesNone (Some x.key) (write_in x.stage) p.store q.store)
+  pub refused : (MayEndPut p.store x → ⊥) → OnOk result ⊥ × IfErr result (λ e. e ≡ InternalError) × (q ≡ p) × (y ≡ x)
+  pub rest : q ≡ record p { store = q.store; past = q.past; tracked = q.tracked; evicted = q.evicted }

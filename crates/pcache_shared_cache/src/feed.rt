@@ -1,4 +1,5 @@
 //! Puts: their pieces and their end.
+use crate::mark::Mark;
 use crate::put::SharedPut;
 use crate::shared::SharedCache;
 use pcache_base::error::{Error, ErrorType, Result};
@@ -9,17 +10,17 @@ use pcache_put_ctx::policy::CachePut;
 use pcache_put_ctx::report::PutOutcome;
 use std::sync::Wait;
 
-impl<M: EvictionManager, K, const N: usize> SharedCache<M, K, N> {
-    ghost use Rattle.std.specs.Prelude.{◌≡◌, ◌⊎◌, IfErr, List, Option};
-    ghost use Rattle.pcache_put.specs.Progress.{HasFailed};
+impl<M: EvictionManager, K: Mark, const N: usize> SharedCache<M, K, N> {
+    ghost use Rattle.std.specs.Prelude.{◌≡◌, List, Option};
     ghost use Rattle.pcache_put_ctx.specs.Puts.{IsResult, Piece};
     ghost use Rattle.pcache_put_ctx.specs.State.{Filled, HasTaken, limit_of, write_in};
-    ghost use Rattle.pcache_put_ctx.specs.Steps.{Done, EndsAs, MayFailPiece, RepeatsResult, IsStageAfter, TakesPiece, TellsResult};
+    ghost use Rattle.pcache_put_ctx.specs.Steps.{EndsAs, IsStageAfter, RepeatsResult, TellsResult};
     ghost use Rattle.pcache_request.specs.Requests.{dropped_by};
     ghost use Rattle.pcache_request.specs.StorePasts.{dropped_past};
-    ghost use Rattle.pcache_cache.specs.OwnPut.{EndsOwnPut, MayEndPut};
     ghost use Rattle.pcache_cache.specs.Parts.{Adds};
-    ghost use Rattle.pcache_shared_cache.specs.Shared.{InPart, MovesPart};
+    ghost use Rattle.pcache_shared_cache.specs.Seen.{Goes};
+    ghost use Rattle.pcache_shared_cache.specs.Shared.{MovesPart};
+    ghost use Rattle.pcache_shared_cache.specs.SharedPuts.{EndsPutOf, TakesIn};
 
     /// `Cache::cache_put` in the put's part: takes in the next piece of the response. Answers why nothing is stored, once that is so.
     /// The piece is read, and the policy asked once the head has come, before the part is locked: it is free to call the cache.
@@ -30,19 +31,19 @@ impl<M: EvictionManager, K, const N: usize> SharedCache<M, K, N> {
         piece: &[u8],
         now: Moment,
     ) -> Result<Option<NoCacheReason>>
-        ensures step { (d : Done)
-            × TakesPiece (C.says put.old.put.policy) put.old.put put.new.put
-            (record { bytes = piece.now; now = now }) d }
+        ensures goes { Goes self.now K.names put.old.place put.old.seen put.new.seen
+            (TakesIn result (C.says put.old.put.policy) put.old.put put.new.put
+            (record { bytes = piece.now; now = now })) }
         ensures stands { IsStageAfter result put.new.put.stage }
         ensures again { RepeatsResult put.old.put.stage result }
-        ensures kind { InPart self.now put.old.place (λ p. IfErr result (λ e.
-            MayFailPiece put.old.put.stage p.store e ⊎ (put.old.put.parser ≡ HasFailed e))) }
         ensures place { put.new.place ≡ put.old.place }
     {
         let read = put.read_piece(piece, now);
-        self.part(put.place())
-            .lock(rt)
-            .store_piece(&mut put.pending, read)
+        let mut guard = self.part(put.place()).lock(rt);
+        let part = &mut *guard;
+        let result = part.cache.store_piece(&mut put.pending, read);
+        part.log.adds(&part.cache, &mut put.sight);
+        result
     }
 
     /// `Cache::finish_put`: ends the put once all pieces have come. Fails with `InternalError`, and changes nothing, if the put's
@@ -52,20 +53,22 @@ impl<M: EvictionManager, K, const N: usize> SharedCache<M, K, N> {
         rt: &R,
         put: &mut SharedPut<C, K, N>,
     ) -> Result<PutOutcome>
-        ensures ends { MovesPart self.now put.old.place (λ p q.
-            MayEndPut p.store put.old.put → EndsAs result (λ end. EndsOwnPut put.old.put end p q)) }
+        ensures goes { Goes self.now K.names put.old.place put.old.seen put.new.seen
+            (EndsPutOf result put.old.put put.new.put) }
         ensures tells { (pieces : List Piece) (f : Option Filled)
             → HasTaken (C.says put.old.put.policy) put.old.put pieces f
             → EndsAs result (TellsResult
             (IsResult (C.says put.old.put.policy) (limit_of put.old.put.size) pieces) f) }
         ensures place { put.new.place ≡ put.old.place }
     {
-        let mut part = self.part(put.place()).lock(rt);
-        if !part.may_end_put(&put.pending) {
+        let mut guard = self.part(put.place()).lock(rt);
+        let part = &mut *guard;
+        if !part.cache.may_end_put(&put.pending) {
+            part.log.adds(&part.cache, &mut put.sight);
             return Err(Error::new(ErrorType::InternalError));
         }
-        let outcome = part.finish_put(&mut put.pending);
-        part.is_kept(); // for the prover
+        let outcome = part.cache.finish_put(&mut put.pending);
+        part.log.adds(&part.cache, &mut put.sight);
         outcome
     }
 
@@ -78,8 +81,10 @@ impl<M: EvictionManager, K, const N: usize> SharedCache<M, K, N> {
     {
         let place = put.place();
         let left = put.into_left();
-        let mut part = self.part(place).lock(rt);
-        part.drop_left(left);
-        part.is_kept(); // for the prover
+        let mut guard = self.part(place).lock(rt);
+        let part = &mut *guard;
+        part.cache.drop_left(left);
+        part.cache.is_kept(); // for the prover
+        part.log.notes(&part.cache);
     }
 }

@@ -1,4 +1,5 @@
 //! Writes: their begin, their pieces and their end.
+use crate::mark::Mark;
 use crate::request::SharedRequest;
 use crate::shared::SharedCache;
 use bytes::Bytes;
@@ -7,33 +8,29 @@ use pcache_evict::eviction::EvictionManager;
 use pcache_request::cache::FinishReport;
 use std::sync::Wait;
 
-impl<M: EvictionManager, K, const N: usize> SharedCache<M, K, N> {
-    ghost use Rattle.std.specs.Prelude.{◌≡◌, ◌⊎◌, true, IfOk, IfErr, OnOk, OnErr};
-    ghost use Rattle.pcache_base.specs.declared.error.ErrorType.TheVariants.{InternalError, OutOfMemory};
+impl<M: EvictionManager, K: Mark, const N: usize> SharedCache<M, K, N> {
+    ghost use Rattle.std.specs.Prelude.{◌≡◌, ◌⊎◌, IfErr, OnErr, OnOk};
+    ghost use Rattle.pcache_base.specs.declared.error.ErrorType.TheVariants.{OutOfMemory};
     ghost use Rattle.pcache_request.specs.Finishing.{after_finish};
     ghost use Rattle.pcache_request.specs.Phases.{IsFilling};
-    ghost use Rattle.pcache_request.specs.Requests.{MayWrite, write_begun};
-    ghost use Rattle.pcache_request.specs.WriteEnds.{Ends, EndsAs, finishes_of};
-    ghost use Rattle.pcache_store.specs.Finishes.{created};
-    ghost use Rattle.pcache_store.specs.Readers.{in_memory};
-    ghost use Rattle.pcache_store.specs.Refusals.{MayFailWrite};
-    ghost use Rattle.pcache_cache.specs.Parts.{MayEnd, takes_bytes, tracked_at_end};
-    ghost use Rattle.pcache_shared_cache.specs.Shared.{InPart, MovesPart};
+    ghost use Rattle.pcache_request.specs.Requests.{MayWrite};
+    ghost use Rattle.pcache_shared_cache.specs.Calls.{BeginsWrite, EndsWriteOf, Writes};
+    ghost use Rattle.pcache_shared_cache.specs.Seen.{Goes};
 
     /// `Cache::set_miss_handler`: begins the write. Requires a phase in which a write may be made, a meta, and no write; ask
     /// `may_write` of the request.
     pub fn set_miss_handler<R: Wait>(&self, rt: &R, request: &mut SharedRequest<K, N>) -> Result<()>
         requires { MayWrite request.old.cache }
-        ensures begins { InPart self.now request.old.place (λ p.
-            OnOk result (request.new.cache ≡ write_begun true true p.store request.old.cache)) }
-        ensures kind { InPart self.now request.old.place (λ p.
-            IfErr result (λ e. (e ≡ OutOfMemory) ⊎ MayFailWrite p.store e)) }
+        ensures goes { Goes self.now K.names request.old.place request.old.seen request.new.seen
+            (BeginsWrite result request.old.cache request.new.cache) }
         ensures phase { request.new.cache.phase ≡ request.old.cache.phase }
         ensures place { request.new.place ≡ request.old.place }
     {
-        self.part(request.place())
-            .lock(rt)
-            .set_miss_handler(&mut request.request)
+        let mut guard = self.part(request.place()).lock(rt);
+        let part = &mut *guard;
+        let result = part.cache.set_miss_handler(&mut request.request);
+        part.log.adds(&part.cache, &mut request.sight);
+        result
     }
 
     /// `Cache::write_body`: adds bytes to the request's write, and with `eof` announces that they are the last. Without a write,
@@ -47,14 +44,16 @@ impl<M: EvictionManager, K, const N: usize> SharedCache<M, K, N> {
         eof: bool,
     ) -> Result<bool>
         requires { IsFilling request.old.cache.phase }
-        ensures same { request.new ≡ request.old }
-        ensures written { InPart self.now request.old.place (λ p.
-            IfOk result (λ b. b ≡ takes_bytes p.store request.old.cache.write)) }
+        ensures goes { Goes self.now K.names request.old.place request.old.seen request.new.seen
+            (Writes result bytes eof request.old.cache) }
+        ensures rest { request.new ≡ record request.old { seen = request.new.seen } }
         ensures kind { IfErr result (λ e. e ≡ OutOfMemory) }
     {
-        self.part(request.place())
-            .lock(rt)
-            .write_body(&mut request.request, bytes, eof)
+        let mut guard = self.part(request.place()).lock(rt);
+        let part = &mut *guard;
+        let result = part.cache.write_body(&mut request.request, bytes, eof);
+        part.log.adds(&part.cache, &mut request.sight);
+        result
     }
 
     /// `Cache::finish_miss_handler`: ends the write and stores the body, whose entry is admitted; what is evicted for it is
@@ -66,23 +65,21 @@ impl<M: EvictionManager, K, const N: usize> SharedCache<M, K, N> {
         request: &mut SharedRequest<K, N>,
     ) -> Result<Option<FinishReport>>
         requires { IsFilling request.old.cache.phase }
-        ensures ends { MovesPart self.now request.old.place (λ p q. MayEnd p.store request.old.cache
-            → EndsAs result (λ end. Ends in_memory request.old.cache request.old.cache.key
-            request.old.cache.write (finishes_of (created p.store) request.old.cache.write)
-            p.limits end p.store q.store (tracked_at_end p request.old.cache end) q.tracked
-            p.locks q.locks)) }
-        ensures request { OnOk result (request.new
-            ≡ record request.old { cache = after_finish request.old.cache }) }
-        ensures refused { OnErr result ((request.new ≡ request.old)
-            ⊎ (request.new ≡ record request.old { cache = after_finish request.old.cache })) }
+        ensures goes { Goes self.now K.names request.old.place request.old.seen request.new.seen
+            (EndsWriteOf result request.old.cache) }
+        ensures ok { OnOk result (request.new.cache ≡ after_finish request.old.cache) }
+        ensures err { OnErr result ((request.new.cache ≡ request.old.cache)
+            ⊎ (request.new.cache ≡ after_finish request.old.cache)) }
         ensures place { request.new.place ≡ request.old.place }
     {
-        let mut part = self.part(request.place()).lock(rt);
-        if !part.may_end(&request.request) {
+        let mut guard = self.part(request.place()).lock(rt);
+        let part = &mut *guard;
+        if !part.cache.may_end(&request.request) {
+            part.log.adds(&part.cache, &mut request.sight);
             return Err(Error::new(ErrorType::InternalError));
         }
-        let report = part.finish_miss_handler(&mut request.request);
-        part.is_kept(); // for the prover
+        let report = part.cache.finish_miss_handler(&mut request.request);
+        part.log.adds(&part.cache, &mut request.sight);
         report
     }
 }

@@ -4,7 +4,8 @@
 //!
 //! - `split`: how a limit is split among parts, and which part a key belongs to
 //! - `portion`: an eviction manager with its limits as numbers
-//! - `part`: one part behind its lock
+//! - `mark`: what names the parts of one cache; `log`: the log of a part's states, and what was seen of it
+//! - `part`: one part behind its lock; `opening`: parts that are to be made
 //! - `request`, `put`: a request, whose part is that of its key, and a put
 //! - `permit`: a permit that goes from one request to another
 //! - `shared`: the cache, and its getters
@@ -18,7 +19,10 @@ mod fill;
 pub mod laws;
 mod lists;
 mod locks;
+mod log;
 mod look;
+mod mark;
+mod opening;
 mod part;
 mod permit;
 mod portion;
@@ -29,6 +33,9 @@ mod request;
 mod shared;
 mod split;
 
+pub use lists::new_lists;
+pub use mark::{Mark, Unnamed};
+pub use opening::{NewPart, OverParts, Unused, new_parts, over_parts};
 pub use permit::SharedPermit;
 pub use portion::Portion;
 pub use put::SharedPut;

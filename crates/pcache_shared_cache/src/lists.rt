@@ -1,8 +1,11 @@
 //! Parts over recency lists.
-ghost use Rattle.std.specs.Prelude.{◌≡◌, ◌<◌, IfErr, IfOk};
+ghost use Rattle.std.specs.Prelude.{◌≡◌, ◌<◌, IfErr, IfOk, length, map};
+ghost use Rattle.pcache_shared_cache.specs.Managed.{Unmade};
 ghost use Rattle.pcache_base.specs.declared.error.ErrorType.TheVariants.{OutOfMemory};
-ghost use Rattle.pcache_shared_cache.specs.Portions.{portion_at};
+ghost use Rattle.pcache_shared_cache.specs.Portions.{portion_at, portions};
 
+use crate::mark::Mark;
+use crate::opening::{NewPart, Unused};
 use crate::portion::Portion;
 use crate::shared::SharedCache;
 use crate::split::{portion_of, portion_of_watermark};
@@ -12,14 +15,14 @@ use pcache_evict::eviction::simple_lru::Manager;
 use std::alloc::Global;
 use std::time::Duration;
 
-impl<K, const N: usize> SharedCache<Manager, K, N> {
-    ghost use Rattle.std.specs.Prelude.{◌≡◌, ◌<◌, IfErr, IfOk};
+impl<K: Mark, const N: usize> SharedCache<Manager, K, N> {
+    ghost use Rattle.std.specs.Prelude.{◌≡◌, ◌<◌, ℕ, None, IfErr, IfOk};
     ghost use Rattle.pcache_base.specs.declared.error.ErrorType.TheVariants.{OutOfMemory};
     ghost use Rattle.pcache_shared_cache.specs.Portions.{portions, whole_weight};
 
     /// An empty cache whose parts evict the least recently used bodies. The limit on the bytes of all bodies, and on their number
     /// if one is given, is split evenly; the first parts get one more each, for the remainder. Permits age out after
-    /// `age_timeout`. Fails when memory runs out.
+    /// `age_timeout`. Fails when memory runs out. For marks that name no place; for others take `new_lists` and `SharedCache::over`.
     pub fn with_lists(
         alloc: Global,
         seed: Seed,
@@ -27,17 +30,38 @@ impl<K, const N: usize> SharedCache<Manager, K, N> {
         watermark: Option<usize>,
         age_timeout: Duration,
     ) -> Result<SharedCache<Manager, K, N>>
-        requires { 0 < N }
+        requires some { 0 < N }
+        requires unnamed { (place : ℕ) → K.names place ≡ None }
         ensures limits { IfOk result (λ c. c ≡ portions N limit watermark) }
         ensures whole { IfOk result (λ c. whole_weight c ≡ limit) }
         ensures kind { IfErr result (λ e. e ≡ OutOfMemory) }
     {
-        let mut lists = Vec::with_capacity(alloc, N)?;
-        for place in 0..N {
-            lists.push_reserved(list_at(alloc, seed, limit, watermark, N, place)?);
-        }
-        SharedCache::new(alloc, seed, lists, age_timeout)
+        let lists = new_lists(alloc, seed, limit, watermark, N)?;
+        SharedCache::over(alloc, seed, Unused::unnamed(lists), age_timeout)
     }
+}
+
+/// So many parts that are to be made, for `over_parts`, which evict the least recently used bodies. The limit on the bytes of
+/// all bodies, and on their number if one is given, is split evenly; the first parts get one more each, for the remainder. Fails when
+/// memory runs out.
+pub fn new_lists(
+    alloc: Global,
+    seed: Seed,
+    limit: usize,
+    watermark: Option<usize>,
+    parts: usize,
+) -> Result<Vec<NewPart<Manager>>>
+    requires { 0 < parts }
+    ensures limits { IfOk result (λ v.
+        map (λ (u : Unmade). u.portion.limits) v.items ≡ portions parts limit watermark) }
+    ensures count { IfOk result (λ v. length v.items ≡ parts) }
+    ensures kind { IfErr result (λ e. e ≡ OutOfMemory) }
+{
+    let mut lists = Vec::with_capacity(alloc, parts)?;
+    for place in 0..parts {
+        lists.push_reserved(NewPart::new(list_at(alloc, seed, limit, watermark, parts, place)?));
+    }
+    Ok(lists)
 }
 
 // The list of the part at a place, for so many parts.

@@ -1,4 +1,5 @@
 //! Waiting for the locks of other requests, and releasing one's own.
+use crate::mark::Mark;
 use crate::permit::SharedPermit;
 use crate::request::SharedRequest;
 use crate::shared::SharedCache;
@@ -12,18 +13,18 @@ use pcache_request::cache::{LockName, ReleasedLock};
 use std::sync::Wait;
 use std::thread::yield_now;
 
-impl<M: EvictionManager, K, const N: usize> SharedCache<M, K, N> {
-    ghost use Rattle.std.specs.Prelude.{◌≡◌, [], IfOk, IfErr, OnErr, OnOk, IsOk, IsSome, None, option_map};
+impl<M: EvictionManager, K: Mark, const N: usize> SharedCache<M, K, N> {
+    ghost use Rattle.std.specs.Prelude.{◌≡◌, [], IfOk, IfErr, OnErr, IsOk, IsSome, None, option_map};
     ghost use Rattle.pcache_base.specs.declared.poll.Poll.TheVariants.{Pending};
     ghost use Rattle.pcache_base.specs.declared.error.ErrorType.TheVariants.{OutOfMemory};
     ghost use Rattle.pcache_lock.specs.declared.lock.permit.Locked.TheVariants.{Write};
     ghost use Rattle.pcache_lock.specs.declared.lock.status.LockStatus.TheVariants.{GiveUp};
     ghost use Rattle.pcache_request.specs.LockUse.{gone_for, handed, permit_in, read_in, unheld};
     ghost use Rattle.pcache_request.specs.Phases.{IsOn};
-    ghost use Rattle.pcache_request.specs.LockWaits.{wait_result, waited};
     ghost use Rattle.pcache_request.specs.Releasing.{MayRelease, status_for};
     ghost use Rattle.pcache_request.specs.Reports.{name_of, released_as};
-    ghost use Rattle.pcache_shared_cache.specs.Shared.{InPart};
+    ghost use Rattle.pcache_shared_cache.specs.Calls.{Publishes, Releases, TakesPermit, Waits};
+    ghost use Rattle.pcache_shared_cache.specs.Seen.{Begins, Goes};
 
     /// `Cache::cache_lock_wait`: whether the wait for the lock is over, and how it ended. Requires a read lock. The call itself
     /// does not wait.
@@ -34,18 +35,18 @@ impl<M: EvictionManager, K, const N: usize> SharedCache<M, K, N> {
         now: Moment,
     ) -> Result<Poll<LockWaitOutcome>>
         requires { IsSome (read_in request.old.cache.held) }
-        ensures waits { InPart self.now request.old.place (λ p. IfOk result (λ a.
-            a ≡ wait_result p.locks now request.old.cache.held request.old.cache)
-            × OnOk result (request.new.cache
-            ≡ waited p.locks now request.old.cache.held request.old.cache)) }
+        ensures goes { Goes self.now K.names request.old.place request.old.seen request.new.seen
+            (Waits result now request.old.cache request.new.cache) }
         ensures goes_on { IfOk result (λ a. a ≡ Pending → IsSome (read_in request.new.cache.held)) }
-        ensures same { OnErr result (request.new ≡ request.old) }
+        ensures same { OnErr result (request.new.cache ≡ request.old.cache) }
         ensures kind { IfErr result (λ e. e ≡ OutOfMemory) }
         ensures place { request.new.place ≡ request.old.place }
     {
-        self.part(request.place())
-            .lock(rt)
-            .cache_lock_wait(&mut request.request, now)
+        let mut guard = self.part(request.place()).lock(rt);
+        let part = &mut *guard;
+        let result = part.cache.cache_lock_wait(&mut request.request, now);
+        part.log.adds(&part.cache, &mut request.sight);
+        result
     }
 
     /// Asks up to so many times whether the wait for the lock is over. In between other threads can run, and nothing is locked.
@@ -79,17 +80,22 @@ impl<M: EvictionManager, K, const N: usize> SharedCache<M, K, N> {
         reason: NoCacheReason,
     ) -> Option<ReleasedLock>
         requires { MayRelease reason request.old.cache.held }
-        ensures request { request.new ≡ record request.old { cache = unheld request.old.cache } }
+        ensures goes { Goes self.now K.names request.old.place request.old.seen request.new.seen
+            (Releases (status_for (λ text. GiveUp) reason) request.old.cache) }
+        ensures request { request.new.cache ≡ unheld request.old.cache }
+        ensures place { request.new.place ≡ request.old.place }
         ensures released { result
             ≡ option_map (released_as (status_for (λ text. GiveUp) reason)) request.old.cache.held }
     {
-        self.part(request.place())
-            .lock(rt)
-            .release_write_lock(&mut request.request, reason)
+        let mut guard = self.part(request.place()).lock(rt);
+        let part = &mut *guard;
+        let result = part.cache.release_write_lock(&mut request.request, reason);
+        part.log.adds(&part.cache, &mut request.sight);
+        result
     }
 
     /// `Cache::set_write_lock`: holds a permit that another request of the same part had; a lock that was held before is let go.
-    /// Returns the lock that was let go.
+    /// Returns the lock that was let go. The request has then also seen what the other one had.
     pub fn set_write_lock<R: Wait>(
         &self,
         rt: &R,
@@ -98,13 +104,21 @@ impl<M: EvictionManager, K, const N: usize> SharedCache<M, K, N> {
     ) -> Option<LockName>
         requires phase { IsOn request.old.cache.phase }
         requires place { permit.place ≡ request.old.place }
-        ensures request { request.new
-            ≡ record request.old { cache = handed permit.permit request.old.cache } }
+        ensures goes { Goes self.now K.names request.old.place request.old.seen request.new.seen
+            (TakesPermit permit.permit request.old.cache) }
+        ensures follows { Begins (K.names request.old.place) permit.seen request.new.seen }
+        ensures request { request.new.cache ≡ handed permit.permit request.old.cache }
+        ensures stays { request.new.place ≡ request.old.place }
         ensures let_go { result ≡ option_map name_of (gone_for permit.permit request.old.cache) }
     {
-        let part = self.part(request.place());
-        let permit = permit.into_permit();
-        part.lock(rt).set_write_lock(&mut request.request, permit)
+        let lock = self.part(request.place());
+        let (permit, sight) = permit.into_both();
+        let mut guard = lock.lock(rt);
+        let part = &mut *guard;
+        let result = part.cache.set_write_lock(&mut request.request, permit);
+        part.log.meets(&sight);
+        part.log.adds(&part.cache, &mut request.sight);
+        result
     }
 
     /// `Cache::lock_publish_fill_tokens`: publishes tokens of what was found out about the fill, if the
@@ -112,17 +126,24 @@ impl<M: EvictionManager, K, const N: usize> SharedCache<M, K, N> {
     pub fn lock_publish_fill_tokens<R: Wait>(
         &self,
         rt: &R,
-        request: &SharedRequest<K, N>,
+        request: &mut SharedRequest<K, N>,
         tokens: &[u64],
     ) -> Result<Option<LockName>>
+        ensures goes { Goes self.now K.names request.old.place request.old.seen request.new.seen
+            (Publishes result tokens.now request.old.cache) }
+        ensures rest { request.new ≡ record request.old { seen = request.new.seen } }
         ensures published { IfOk result (λ l.
-            l ≡ option_map (λ w. name_of (Write w)) (permit_in request.now.cache.held)) }
+            l ≡ option_map (λ w. name_of (Write w)) (permit_in request.old.cache.held)) }
         ensures kind { IfErr result (λ e. e ≡ OutOfMemory) }
         ensures clears { tokens.now ≡ [] → IsOk result }
-        ensures none { permit_in request.now.cache.held ≡ None → IsOk result }
+        ensures none { permit_in request.old.cache.held ≡ None → IsOk result }
     {
-        self.part(request.place())
-            .lock(rt)
-            .lock_publish_fill_tokens(&request.request, tokens)
+        let mut guard = self.part(request.place()).lock(rt);
+        let part = &mut *guard;
+        let result = part
+            .cache
+            .lock_publish_fill_tokens(&request.request, tokens);
+        part.log.adds(&part.cache, &mut request.sight);
+        result
     }
 }

@@ -1,4 +1,5 @@
 //! Look-ups, hits, and the end of a request.
+use crate::mark::Mark;
 use crate::request::SharedRequest;
 use crate::shared::SharedCache;
 use bytes::Bytes;
@@ -14,20 +15,17 @@ use pcache_store::memory::MemHitHandler;
 use std::sync::Wait;
 use std::thread::yield_now;
 
-impl<M: EvictionManager, K, const N: usize> SharedCache<M, K, N> {
-    ghost use Rattle.std.specs.Prelude.{◌≡◌, ◌⊎◌, false, IfOk, IfErr, IfSome, OnOk, OnErr, IsOk, IsSome, IsTrue, None, option_map};
+impl<M: EvictionManager, K: Mark, const N: usize> SharedCache<M, K, N> {
+    ghost use Rattle.std.specs.Prelude.{◌≡◌, true, false, IfErr, OnErr, IsOk, IsSome, IsTrue, option_map};
     ghost use Rattle.pcache_base.specs.declared.error.ErrorType.TheVariants.{NumbersExhausted, OutOfMemory};
-    ghost use Rattle.pcache_lock.specs.Locks.{MayFailLock};
+    ghost use Rattle.pcache_request.specs.Alone.{reads_alone};
     ghost use Rattle.pcache_request.specs.Phases.{IsDisabled, MayFinishHit, MayLookUp};
     ghost use Rattle.pcache_request.specs.Releasing.{MayDisable, disabled_for};
     ghost use Rattle.pcache_request.specs.Reports.{name_of};
-    ghost use Rattle.pcache_request.specs.Requests.{HoldsNothing, asks_for_hit, found_row, length_by, whole_by, without_reader};
-    ghost use Rattle.pcache_request.specs.Variants.{looked_for, seen_for};
-    ghost use Rattle.pcache_store.specs.Notes.{leave_noted, noted};
+    ghost use Rattle.pcache_request.specs.Requests.{HoldsNothing, asks_for_hit, length_by, whole_by, without_reader};
     ghost use Rattle.pcache_store.specs.Readers.{reader_of};
-    ghost use Rattle.pcache_cache.specs.Parts.{Adds};
-    ghost use Rattle.pcache_store.specs.Store.{left, read_of, reader_after};
-    ghost use Rattle.pcache_shared_cache.specs.Shared.{InPart, MovesPart};
+    ghost use Rattle.pcache_shared_cache.specs.Calls.{Disables, EndsHit, LetsGo, LooksUp, Reads, TakesFound};
+    ghost use Rattle.pcache_shared_cache.specs.Seen.{Goes, Sees};
 
     /// `Cache::cache_lookup` in the request's part: what its store has for the key; if nothing is handed on, the key's lock is
     /// asked for. No call of a shared request takes a policy into use, so there is none to ask. A pair that is handed on has to
@@ -40,18 +38,20 @@ impl<M: EvictionManager, K, const N: usize> SharedCache<M, K, N> {
         now: Moment,
     ) -> Result<Option<(CacheMeta, MemHitHandler)>>
         requires { MayLookUp request.old.cache.phase }
-        ensures looks { InPart self.now request.old.place (λ p. IfOk result (λ r.
-            option_map (λ f. (f.0, reader_of f.1)) r ≡ seen_for p.store request.old.cache)
-            × OnOk result (request.new.cache ≡ looked_for p.store p.locks request.old.cache)
-            × IfErr result (λ e. MayFailLock p.locks e)) }
-        ensures same { OnErr result (request.new ≡ request.old) }
+        ensures goes { Goes self.now K.names request.old.place request.old.seen request.new.seen
+            (LooksUp result now request.old.cache request.new.cache) }
+        ensures same { OnErr result (request.new.cache ≡ request.old.cache) }
         ensures phase { request.new.cache.phase ≡ request.old.cache.phase }
         ensures uses { request.new.cache.uses ≡ request.old.cache.uses }
         ensures place { request.new.place ≡ request.old.place }
     {
-        self.part(request.place())
-            .lock(rt)
-            .cache_lookup_without_policy(&mut request.request, now)
+        let mut guard = self.part(request.place()).lock(rt);
+        let part = &mut *guard;
+        let result = part
+            .cache
+            .cache_lookup_without_policy(&mut request.request, now);
+        part.log.adds(&part.cache, &mut request.sight);
+        result
     }
 
     /// `Cache::cache_found`: takes the pair that a look-up found.
@@ -66,29 +66,32 @@ impl<M: EvictionManager, K, const N: usize> SharedCache<M, K, N> {
         now: Moment,
     ) -> Result<()>
         requires { MayLookUp request.old.cache.phase }
-        ensures takes { InPart self.now request.old.place (λ p. OnOk result (request.new.cache
-            ≡ found_row status meta (reader_of hit) p.locks request.old.cache)
-            × IfErr result (λ e. MayFailLock p.locks e)) }
+        ensures goes { Goes self.now K.names request.old.place request.old.seen request.new.seen
+            (TakesFound result status meta (reader_of hit) now request.old.cache request.new.cache) }
         ensures numbers { IfErr result (λ e.
             e ≡ NumbersExhausted → IsTrue (asks_for_hit status request.old.cache)) }
-        ensures same { OnErr result (request.new ≡ request.old) }
+        ensures same { OnErr result (request.new.cache ≡ request.old.cache) }
         ensures place { request.new.place ≡ request.old.place }
     {
-        self.part(request.place())
-            .lock(rt)
-            .cache_found(&mut request.request, meta, hit, status, now)
+        let mut guard = self.part(request.place()).lock(rt);
+        let part = &mut *guard;
+        let result = part
+            .cache
+            .cache_found(&mut request.request, meta, hit, status, now);
+        part.log.adds(&part.cache, &mut request.sight);
+        result
     }
 
     /// `Cache::let_go`: lets go the reader that a look-up of the request found.
-    pub fn let_go<R: Wait>(&self, rt: &R, request: &SharedRequest<K, N>, hit: MemHitHandler)
-        ensures { MovesPart self.now request.now.place (λ p q.
-            (q.store ≡ left p.store (reader_of hit))
-            × Adds (noted (leave_noted (reader_of hit))) p.past q.past
-            × (q ≡ record p { store = q.store; past = q.past })) }
+    pub fn let_go<R: Wait>(&self, rt: &R, request: &mut SharedRequest<K, N>, hit: MemHitHandler)
+        ensures goes { Goes self.now K.names request.old.place request.old.seen request.new.seen
+            (LetsGo (reader_of hit)) }
+        ensures rest { request.new ≡ record request.old { seen = request.new.seen } }
     {
-        let mut part = self.part(request.place()).lock(rt);
-        part.let_go(hit);
-        part.is_kept(); // for the prover
+        let mut guard = self.part(request.place()).lock(rt);
+        let part = &mut *guard;
+        part.cache.let_go(hit);
+        part.log.adds(&part.cache, &mut request.sight);
     }
 
     /// `Cache::read_body`: reads on. Requires a reader. A request that follows a write gets `Pending` if there is nothing yet,
@@ -99,50 +102,60 @@ impl<M: EvictionManager, K, const N: usize> SharedCache<M, K, N> {
         request: &mut SharedRequest<K, N>,
     ) -> Result<Poll<Option<Bytes>>>
         requires { IsSome request.old.cache.reader }
-        ensures reads { InPart self.now request.old.place (λ p. IfOk result (λ b.
-            IfSome request.old.cache.reader (λ r. b ≡ read_of p.store r))
-            × OnOk result (request.new.cache
-            ≡ record request.old.cache {
-              reader = option_map (reader_after p.store)
-                  request.old.cache.reader;
-            })) }
-        ensures same { OnErr result (request.new ≡ request.old) }
+        ensures sees { Sees self.now K.names request.old.place request.old.seen request.new.seen
+            (Reads result request.old.cache request.new.cache) }
+        ensures same { OnErr result (request.new.cache ≡ request.old.cache) }
         ensures kind { IfErr result (λ e. e ≡ OutOfMemory) }
         ensures reader { IsSome request.new.cache.reader }
         ensures phase { request.new.cache.phase ≡ request.old.cache.phase }
         ensures place { request.new.place ≡ request.old.place }
     {
-        let part = self.part(request.place());
+        let lock = self.part(request.place());
         if request.request.cache.reads_alone() {
+            request.sight.is_log(); // for the prover
             return request.request.cache.read_body_alone();
         }
-        part.lock(rt).read_body(&mut request.request)
+        let mut guard = lock.lock(rt);
+        let part = &mut *guard;
+        let result = part.cache.read_body(&mut request.request);
+        part.log.shows(&mut request.sight);
+        result
     }
 
     /// `Cache::is_body_whole`: whether all was given that was to be read; `false` after the end says that the body was cut off. Of
     /// a complete body nothing is locked.
-    pub fn is_body_whole<R: Wait>(&self, rt: &R, request: &SharedRequest<K, N>) -> bool
-        ensures { InPart self.now request.now.place (λ p.
-            result ≡ whole_by request.now.cache.reader p.store) }
+    pub fn is_body_whole<R: Wait>(&self, rt: &R, request: &mut SharedRequest<K, N>) -> bool
+        ensures sees { Sees self.now K.names request.old.place request.old.seen request.new.seen
+            (λ p. result ≡ whole_by request.old.cache.reader p.store) }
+        ensures rest { request.new ≡ record request.old { seen = request.new.seen } }
     {
-        let part = self.part(request.place());
+        let lock = self.part(request.place());
         if request.request.cache.reads_alone() {
+            request.sight.is_log(); // for the prover
             return request.request.cache.is_body_whole_alone();
         }
-        part.lock(rt).is_body_whole(&request.request)
+        let mut guard = lock.lock(rt);
+        let part = &mut *guard;
+        part.log.shows(&mut request.sight);
+        part.cache.is_body_whole(&request.request)
     }
 
     /// `Cache::body_length`: the length of the body that is read, if its end is known, in bytes. Of a complete body nothing is
     /// locked.
-    pub fn body_length<R: Wait>(&self, rt: &R, request: &SharedRequest<K, N>) -> Option<usize>
-        ensures { InPart self.now request.now.place (λ p.
-            result ≡ length_by request.now.cache.reader p.store) }
+    pub fn body_length<R: Wait>(&self, rt: &R, request: &mut SharedRequest<K, N>) -> Option<usize>
+        ensures sees { Sees self.now K.names request.old.place request.old.seen request.new.seen
+            (λ p. result ≡ length_by request.old.cache.reader p.store) }
+        ensures rest { request.new ≡ record request.old { seen = request.new.seen } }
     {
-        let part = self.part(request.place());
+        let lock = self.part(request.place());
         if request.request.cache.reads_alone() {
+            request.sight.is_log(); // for the prover
             return request.request.cache.body_length_alone();
         }
-        part.lock(rt).body_length(&request.request)
+        let mut guard = lock.lock(rt);
+        let part = &mut *guard;
+        part.log.shows(&mut request.sight);
+        part.cache.body_length(&request.request)
     }
 
     /// Reads on, and asks up to so many times while there is nothing yet. In between other threads can run, and nothing is
@@ -178,16 +191,25 @@ impl<M: EvictionManager, K, const N: usize> SharedCache<M, K, N> {
         request: &mut SharedRequest<K, N>,
     ) -> Result<()>
         requires { MayFinishHit request.old.cache.phase }
-        ensures request { request.new
-            ≡ record request.old { cache = without_reader request.old.cache } }
+        ensures goes { reads_alone request.old.cache.reader ≡ false
+            → Goes self.now K.names request.old.place request.old.seen request.new.seen
+            (EndsHit request.old.cache) }
+        ensures alone { reads_alone request.old.cache.reader ≡ true
+            → request.new.seen ≡ request.old.seen }
+        ensures request { request.new.cache ≡ without_reader request.old.cache }
+        ensures place { request.new.place ≡ request.old.place }
         ensures answer { IsOk result }
     {
-        let part = self.part(request.place());
+        let lock = self.part(request.place());
         if request.request.cache.reads_alone() {
             request.request.cache.finish_hit_handler_alone();
             return Ok(());
         }
-        part.lock(rt).finish_hit_handler(&mut request.request)
+        let mut guard = lock.lock(rt);
+        let part = &mut *guard;
+        let result = part.cache.finish_hit_handler(&mut request.request);
+        part.log.adds(&part.cache, &mut request.sight);
+        result
     }
 
     /// `Cache::disable`: turns caching off, and gives back all that is held.
@@ -200,27 +222,35 @@ impl<M: EvictionManager, K, const N: usize> SharedCache<M, K, N> {
         reason: NoCacheReason,
     ) -> Option<LockName>
         requires { MayDisable reason request.old.cache }
-        ensures request { request.new
-            ≡ record request.old { cache = disabled_for reason request.old.cache } }
+        ensures goes { Goes self.now K.names request.old.place request.old.seen request.new.seen
+            (Disables reason request.old.cache) }
+        ensures request { request.new.cache ≡ disabled_for reason request.old.cache }
+        ensures place { request.new.place ≡ request.old.place }
         ensures off { IsDisabled request.new.cache.phase }
         ensures held { HoldsNothing request.new.cache }
         ensures released { result ≡ option_map name_of request.old.cache.held }
     {
-        self.part(request.place())
-            .lock(rt)
-            .disable(&mut request.request, reason)
+        let mut guard = self.part(request.place()).lock(rt);
+        let part = &mut *guard;
+        let result = part.cache.disable(&mut request.request, reason);
+        part.log.adds(&part.cache, &mut request.sight);
+        result
     }
 
     /// `Cache::end`: gives back all that a request holds. Nothing is locked if that is no lock, no write and no reader of a write.
     pub fn end<R: Wait>(&self, rt: &R, request: SharedRequest<K, N>) -> Option<LockName>
         ensures { result ≡ option_map name_of request.cache.held }
     {
-        let part = self.part(request.place());
+        let lock = self.part(request.place());
         let request = request.into_request();
         if request.cache.may_end_alone() {
             request.end_alone();
             return None;
         }
-        part.lock(rt).end(request)
+        let mut guard = lock.lock(rt);
+        let part = &mut *guard;
+        let result = part.cache.end(request);
+        part.log.notes(&part.cache);
+        result
     }
 }

@@ -1,4 +1,7 @@
 //! One part behind its lock.
+use crate::log::{PartLog, PartState, Sight};
+use crate::mark::Mark;
+use crate::opening::NewPart;
 use crate::portion::Portion;
 use pcache_base::seed::Seed;
 use pcache_cache::Cache;
@@ -13,92 +16,153 @@ use std::time::Duration;
 // sleeping thread takes far longer. The lock hands itself over to a sleeper, so once a thread sleeps the others queue behind it.
 const TRIES: u32 = 300;
 
-// One part behind its lock. A contract sees the limits of the part.
-//
-// Of the value that a lock lends only the type is known. Therefore the limits are kept beside the lock too, and the part is
-// lent only if it has the same ones. It has them at the first try: `new` puts such a part under the lock, and no call changes a
-// manager's limits.
+// One part: a cache, and the log of its states, which ends with the state that it has.
 #[derive(Drop)]
-pub(crate) struct PartLock<M: EvictionManager, K> {
+pub(crate) struct Part<M: EvictionManager, K: Mark> {
+    pub(crate) cache: Cache<Portion<M>, K>,
+    pub(crate) log: PartLog<K>,
+}
+
+impl<M: EvictionManager, K: Mark> Model for Part<M, K> {
+    ghost use Rattle.pcache_shared_cache.specs.Seen.{EndsWith, Held};
+    ghost use Rattle.pcache_shared_cache.specs.SeenCode.{held_code};
+
+    ghost Value = { Held };
+
+    ghost coded = { held_code };
+
+    ghost view = { λ p. record { place = p.log.place; log = p.log.log; now = p.cache } };
+
+    ghost invariant = { λ p. EndsWith p.log.log p.cache };
+}
+
+impl<M: EvictionManager, K: Mark> Part<M, K> {
+    ghost use Rattle.std.specs.Prelude.{◌≡◌};
+
+    // The cache itself.
+    fn into_cache(self) -> Cache<Portion<M>, K>
+        ensures { result ≡ self.now }
+    {
+        let Part { cache, log: _ } = self;
+        cache
+    }
+}
+
+// One part behind its lock, and its beginning. A contract sees the place and the limits of the part.
+//
+// Of the value that a lock lends only the type is known. Therefore the place and the limits are kept beside the lock too, and the
+// part is lent only if it has the same ones. It has them at the first try: `new` puts such a part under the lock, and no call
+// changes a manager's limits.
+#[derive(Drop)]
+pub(crate) struct PartLock<M: EvictionManager, K: Mark> {
     limit: usize,
     watermark: Option<usize>,
-    cache: Mutex<Cache<Portion<M>, K>>,
+    beginning: Sight<K>,
+    part: Mutex<Part<M, K>>,
 }
 
-impl<M: EvictionManager, K> Model for PartLock<M, K> {
-    ghost use Rattle.pcache_evict.specs.Tracked.{Limits, limits_of};
+impl<M: EvictionManager, K: Mark> Model for PartLock<M, K> {
+    ghost use Rattle.pcache_evict.specs.Tracked.{limits_of};
+    ghost use Rattle.pcache_shared_cache.specs.Seen.{Begun, StartsWith};
+    ghost use Rattle.pcache_shared_cache.specs.SeenCode.{begun_code};
 
-    ghost Value = { Limits };
+    ghost Value = { Begun };
 
-    ghost view = { λ p. limits_of p.limit p.watermark };
+    ghost coded = { begun_code };
+
+    ghost view = { λ p. record { place = p.beginning.place; limits = limits_of p.limit p.watermark; log = p.beginning.log } };
+
+    ghost invariant = { λ p. StartsWith p.beginning.log (limits_of p.limit p.watermark) };
 }
 
-impl<M: EvictionManager, K> PartLock<M, K> {
+impl<M: EvictionManager, K: Mark> PartLock<M, K> {
     ghost use Rattle.std.specs.Prelude.{◌≡◌, IfSome};
     ghost use Rattle.std.specs.Sync.Mutex.{mutex_guard_value};
     ghost use Rattle.pcache_cache.specs.Parts.{IsKept};
     ghost use Rattle.pcache_store.specs.Totals.{slots, stored_bytes};
     ghost use Rattle.pcache_shared_cache.specs.Managed.{managed};
+    ghost use Rattle.pcache_shared_cache.specs.Seen.{IsNamed, StartsWith};
     ghost use Rattle.pcache_shared_cache.specs.Shared.{OfPart};
 
-    // An empty part.
+    // An empty part at a place, whose keeper the mark names so if it names the place.
     pub(crate) fn new(
         alloc: Global,
         seed: Seed,
-        portion: Portion<M>,
+        place: usize,
+        new_part: NewPart<M>,
         age_timeout: Duration,
     ) -> PartLock<M, K>
-        ensures { result ≡ portion.limits }
+        requires { IsNamed (K.names place) new_part.name }
+        ensures place { result.place ≡ place }
+        ensures limits { result.limits ≡ new_part.portion.limits }
     {
+        let (portion, keeper) = new_part.into_both();
         let limit = portion.limit();
         let watermark = portion.watermark();
+        let cache = Cache::new(alloc, seed, portion, age_timeout);
+        let mut log = PartLog::new(place, keeper, &cache);
         PartLock {
             limit,
             watermark,
-            cache: Mutex::new(Cache::new(alloc, seed, portion, age_timeout)),
+            beginning: log.see(),
+            part: Mutex::new(Part { cache, log }),
         }
+    }
+
+    // What was seen of the part as it began.
+    pub(crate) fn beginning(&self) -> Sight<K>
+        ensures place { result.place ≡ self.now.place }
+        ensures log { result.log ≡ self.now.log }
+        ensures starts { StartsWith result.log self.now.limits }
+    {
+        self.beginning.again()
     }
 
     // The part, for the caller alone until the guard is dropped. It waits while another thread has
     // the part.
-    pub(crate) fn lock<R: Wait>(&self, rt: &R) -> MutexGuard<'_, Cache<Portion<M>, K>>
-        ensures limits { (mutex_guard_value result).limits ≡ self.now }
-        ensures kept { IsKept (mutex_guard_value result).limits (mutex_guard_value result).tracked
-            (mutex_guard_value result).store }
+    pub(crate) fn lock<R: Wait>(&self, rt: &R) -> MutexGuard<'_, Part<M, K>>
+        ensures place { (mutex_guard_value result).place ≡ self.now.place }
+        ensures limits { (mutex_guard_value result).now.limits ≡ self.now.limits }
+        ensures kept { IsKept (mutex_guard_value result).now.limits
+            (mutex_guard_value result).now.tracked (mutex_guard_value result).now.store }
     {
-        // The first round returns (see the type); the test provides the clause of the contract.
+        // The first round returns (see the type); the test provides the clauses of the contract.
         for _ in rt.forever() {
-            let cache = self.take(rt);
-            let portion = cache.manager();
-            if portion.limit() == self.limit && portion.watermark() == self.watermark {
-                cache.is_kept();
-                return cache;
+            let part = self.take(rt);
+            let portion = part.cache.manager();
+            if part.log.place() == self.beginning.place()
+                && portion.limit() == self.limit
+                && portion.watermark() == self.watermark
+            {
+                part.cache.is_kept();
+                return part;
             }
         }
         unreachable!()
     }
 
     // Tries for a while before it sleeps.
-    fn take<R: Wait>(&self, rt: &R) -> MutexGuard<'_, Cache<Portion<M>, K>> {
+    fn take<R: Wait>(&self, rt: &R) -> MutexGuard<'_, Part<M, K>> {
         for _ in 0..TRIES {
-            if let Some(cache) = self.cache.try_lock() {
-                return cache;
+            if let Some(part) = self.part.try_lock() {
+                return part;
             }
             spin_loop();
         }
-        self.cache.lock(rt)
+        self.part.lock(rt)
     }
 
     // The part's manager, if it has the limits that stand beside the lock (see the type): it has.
     pub(crate) fn into_portion(self) -> Option<Portion<M>>
-        ensures { IfSome result (λ portion. OfPart self (λ p. portion ≡ managed p)) }
+        ensures { IfSome result (λ portion. OfPart self.limits (λ p. portion ≡ managed p)) }
     {
         let PartLock {
             limit,
             watermark,
-            cache,
+            beginning: _,
+            part,
         } = self;
-        let cache = cache.into_inner();
+        let cache = part.into_inner().into_cache();
         cache.is_kept();
         let portion = cache.into_manager();
         if portion.limit() == limit && portion.watermark() == watermark {
@@ -110,16 +174,20 @@ impl<M: EvictionManager, K> PartLock<M, K> {
 
     // The lengths of the complete bodies, added up.
     pub(crate) fn stored_bytes<R: Wait>(&self, rt: &R) -> usize
-        ensures { OfPart self.now (λ p. result ≡ stored_bytes p.store) }
+        ensures { OfPart self.now.limits (λ p. result ≡ stored_bytes p.store) }
     {
         let _limit = self.limit; // for the prover: the limit is a `usize`
-        self.lock(rt).stored_bytes() as usize
+        let guard = self.lock(rt);
+        let part = &*guard;
+        part.cache.stored_bytes() as usize
     }
 
     // The number of complete bodies.
     pub(crate) fn slots<R: Wait>(&self, rt: &R) -> usize
-        ensures { OfPart self.now (λ p. result ≡ slots p.store) }
+        ensures { OfPart self.now.limits (λ p. result ≡ slots p.store) }
     {
-        self.lock(rt).slots()
+        let guard = self.lock(rt);
+        let part = &*guard;
+        part.cache.slots()
     }
 }

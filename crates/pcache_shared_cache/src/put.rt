@@ -1,5 +1,6 @@
 //! A put of a cache in parts.
-use crate::split::place_of;
+use crate::log::Sight;
+use crate::mark::Mark;
 use pcache_base::key::CacheKey;
 use pcache_base::moment::Moment;
 use pcache_cache::{LeftWrite, PendingPut};
@@ -11,35 +12,46 @@ use std::alloc::Global;
 use std::marker::Model;
 
 /// A put of the cache in `N` parts with the mark `K`: a response that is pushed in, in pieces. It is made with its key, which
-/// determines its part as for requests, and keeps both. It must be spent by `SharedCache::end_put`.
-pub struct SharedPut<C: CachePut, K, const N: usize> {
-    place: usize,
+/// determines its part as for requests, and keeps both. Like a request it knows all states that its part had up to the put's last
+/// call. It must be spent by `SharedCache::end_put`.
+pub struct SharedPut<C: CachePut, K: Mark, const N: usize> {
+    pub(crate) sight: Sight<K>,
     pub(crate) pending: PendingPut<C, K>,
 }
 
-impl<C: CachePut, K, const N: usize> Model for SharedPut<C, K, N> {
+impl<C: CachePut, K: Mark, const N: usize> Model for SharedPut<C, K, N> {
+    ghost use Rattle.std.specs.Coded.{codes};
     ghost use Rattle.std.specs.Prelude.{◌<◌};
+    ghost use Rattle.pcache_cache.specs.PartsCode.{parts_code};
     ghost use Rattle.pcache_shared_cache.specs.SharedPuts.{SeatedPut};
 
     ghost Value = { SeatedPut C };
 
-    ghost view = { λ p. record { place = p.place; put = p.pending.put } };
+    ghost coded = { Prim.hlevel (codes, parts_code) };
 
-    ghost invariant = { λ p. p.place < N };
+    ghost view = { λ p. record { place = p.sight.place; seen = p.sight.log; put = p.pending.put } };
+
+    ghost invariant = { λ p. p.sight.place < N };
 }
 
-impl<C: CachePut, K, const N: usize> SharedPut<C, K, N> {
+impl<C: CachePut, K: Mark, const N: usize> SharedPut<C, K, N> {
     ghost use Rattle.std.specs.Prelude.{◌≡◌, ◌<◌, [], List, None, Some};
     ghost use Rattle.pcache_put.specs.Progress.{AtHead};
     ghost use Rattle.pcache_put_ctx.specs.Puts.{Piece};
     ghost use Rattle.pcache_put_ctx.specs.Readings.{IfUnread, IsReadAt, MayFailRead, ReadsPiece};
     ghost use Rattle.pcache_put_ctx.specs.State.{InHead, HasTaken, write_in};
-    ghost use Rattle.pcache_shared_cache.specs.Portions.{place_of};
+    ghost use Rattle.pcache_shared_cache.specs.Seen.{IsLog};
 
-    // A put of a key, in the key's part.
-    pub(crate) fn new(alloc: Global, policy: C, key: CacheKey) -> SharedPut<C, K, N>
-        requires { 0 < N }
-        ensures place { result.place ≡ place_of N key }
+    // A put of a key, which has seen this of the key's part.
+    pub(crate) fn new(
+        alloc: Global,
+        policy: C,
+        key: CacheKey,
+        sight: Sight<K>,
+    ) -> SharedPut<C, K, N>
+        requires { sight.place < N }
+        ensures place { result.place ≡ sight.place }
+        ensures seen { result.seen ≡ sight.log }
         ensures put { result.put
             ≡ record {
               policy = policy;
@@ -50,9 +62,8 @@ impl<C: CachePut, K, const N: usize> SharedPut<C, K, N> {
             } }
         ensures taken { HasTaken (C.says policy) result.put [] None }
     {
-        let place = place_of::<N>(&key);
         SharedPut {
-            place,
+            sight,
             pending: PendingPut::new(alloc, policy, key),
         }
     }
@@ -62,7 +73,14 @@ impl<C: CachePut, K, const N: usize> SharedPut<C, K, N> {
         ensures place { result ≡ self.now.place }
         ensures in_range { self.now.place < N }
     {
-        self.place
+        self.sight.place()
+    }
+
+    /// States what is known of all states that it has seen, as `SharedRequest::headline`. The call does nothing.
+    pub fn headline(&self)
+        ensures { IsLog self.now.seen }
+    {
+        self.sight.is_log();
     }
 
     /// The put itself, for its getters.
@@ -96,7 +114,7 @@ impl<C: CachePut, K, const N: usize> SharedPut<C, K, N> {
     pub(crate) fn into_left(self) -> LeftWrite<K>
         ensures { result ≡ write_in self.put.stage }
     {
-        let SharedPut { place: _, pending } = self;
+        let SharedPut { sight: _, pending } = self;
         pending.into_left()
     }
 
@@ -107,6 +125,7 @@ impl<C: CachePut, K, const N: usize> SharedPut<C, K, N> {
         ensures at { IsReadAt self.new.put.stage result }
         ensures kind { IfUnread result (MayFailRead self.old.put.stage self.old.put.parser) }
         ensures place { self.new.place ≡ self.old.place }
+        ensures seen { self.new.seen ≡ self.old.seen }
     {
         self.pending.put.read_piece(piece, now)
     }

@@ -1,4 +1,5 @@
 //! Stale bodies that are still valid, and what responses vary on.
+use crate::mark::Mark;
 use crate::request::SharedRequest;
 use crate::shared::SharedCache;
 use pcache_base::error::Result;
@@ -10,17 +11,19 @@ use pcache_meta::meta::CacheMeta;
 use pcache_request::cache::LockName;
 use std::sync::Wait;
 
-impl<M: EvictionManager, K, const N: usize> SharedCache<M, K, N> {
-    ghost use Rattle.std.specs.Prelude.{◌≡◌, IfOk, IfErr, OnErr, IsTrue, option_map};
+impl<M: EvictionManager, K: Mark, const N: usize> SharedCache<M, K, N> {
+    ghost use Rattle.std.specs.Prelude.{◌≡◌, IfErr, option_map};
     ghost use Rattle.pcache_base.specs.declared.error.ErrorType.TheVariants.{OutOfMemory};
+    ghost use Rattle.pcache_lock.specs.declared.lock.status.LockStatus.TheVariants.{GiveUp};
     ghost use Rattle.pcache_meta.specs.Header.{shown};
-    ghost use Rattle.pcache_request.specs.Releasing.{MayRelease};
-    ghost use Rattle.pcache_request.specs.Renewals.{has_body, renewed};
+    ghost use Rattle.pcache_request.specs.Releasing.{MayRelease, status_for};
+    ghost use Rattle.pcache_request.specs.Renewals.{renewed};
     ghost use Rattle.pcache_request.specs.Reports.{name_of};
     ghost use Rattle.pcache_request.specs.Requests.{MayWrite};
     ghost use Rattle.pcache_request.specs.Stale.{MayRevalidate, uncacheable};
     ghost use Rattle.pcache_request.specs.Variants.{released_by_variance, varied};
-    ghost use Rattle.pcache_shared_cache.specs.Shared.{InPart};
+    ghost use Rattle.pcache_shared_cache.specs.Calls.{Releases, Renews, Varies};
+    ghost use Rattle.pcache_shared_cache.specs.Seen.{Goes};
 
     /// `Cache::revalidate_cache_meta`: takes the meta of a response that says that the stale body is still valid.
     /// Ask `may_revalidate` of the request.
@@ -31,16 +34,17 @@ impl<M: EvictionManager, K, const N: usize> SharedCache<M, K, N> {
         meta: CacheMeta,
     ) -> Result<bool>
         requires { MayRevalidate request.old.cache }
-        ensures request { request.new
-            ≡ record request.old { cache = renewed meta request.old.cache } }
-        ensures there { InPart self.now request.old.place (λ p.
-            IfOk result (λ b. b ≡ has_body p.store request.old.cache.key)
-            × OnErr result (IsTrue (has_body p.store request.old.cache.key))) }
+        ensures goes { Goes self.now K.names request.old.place request.old.seen request.new.seen
+            (Renews result meta request.old.cache) }
+        ensures request { request.new.cache ≡ renewed meta request.old.cache }
+        ensures place { request.new.place ≡ request.old.place }
         ensures kind { IfErr result (λ e. e ≡ OutOfMemory) }
     {
-        self.part(request.place())
-            .lock(rt)
-            .revalidate_cache_meta(&mut request.request, meta)
+        let mut guard = self.part(request.place()).lock(rt);
+        let part = &mut *guard;
+        let result = part.cache.revalidate_cache_meta(&mut request.request, meta);
+        part.log.adds(&part.cache, &mut request.sight);
+        result
     }
 
     /// `Cache::revalidate_uncacheable`: serves the stale body with this header, and does not store the new
@@ -56,13 +60,19 @@ impl<M: EvictionManager, K, const N: usize> SharedCache<M, K, N> {
     ) -> Option<LockName>
         requires stale { MayRevalidate request.old.cache }
         requires reason { MayRelease reason request.old.cache.held }
-        ensures request { request.new
-            ≡ record request.old { cache = uncacheable (shown header) reason request.old.cache } }
+        ensures goes { Goes self.now K.names request.old.place request.old.seen request.new.seen
+            (Releases (status_for (λ text. GiveUp) reason) request.old.cache) }
+        ensures request { request.new.cache ≡ uncacheable (shown header) reason request.old.cache }
+        ensures place { request.new.place ≡ request.old.place }
         ensures released { result ≡ option_map name_of request.old.cache.held }
     {
-        self.part(request.place())
-            .lock(rt)
-            .revalidate_uncacheable(&mut request.request, header, reason)
+        let mut guard = self.part(request.place()).lock(rt);
+        let part = &mut *guard;
+        let result = part
+            .cache
+            .revalidate_uncacheable(&mut request.request, header, reason);
+        part.log.adds(&part.cache, &mut request.sight);
+        result
     }
 
     /// `Cache::update_variance`: sets what the response varies on, before its write begins. Ask `may_write` of the request.
@@ -73,12 +83,16 @@ impl<M: EvictionManager, K, const N: usize> SharedCache<M, K, N> {
         variance: Option<HashBinary>,
     ) -> Option<LockName>
         requires { MayWrite request.old.cache }
-        ensures request { request.new
-            ≡ record request.old { cache = varied variance request.old.cache } }
+        ensures goes { Goes self.now K.names request.old.place request.old.seen request.new.seen
+            (Varies variance request.old.cache) }
+        ensures request { request.new.cache ≡ varied variance request.old.cache }
+        ensures place { request.new.place ≡ request.old.place }
         ensures released { result ≡ released_by_variance variance request.old.cache }
     {
-        self.part(request.place())
-            .lock(rt)
-            .update_variance(&mut request.request, variance)
+        let mut guard = self.part(request.place()).lock(rt);
+        let part = &mut *guard;
+        let result = part.cache.update_variance(&mut request.request, variance);
+        part.log.adds(&part.cache, &mut request.sight);
+        result
     }
 }

@@ -1,6 +1,7 @@
 //! A request of a cache in parts.
+use crate::log::Sight;
+use crate::mark::Mark;
 use crate::permit::SharedPermit;
-use crate::split::place_of;
 use pcache_base::error::Result;
 use pcache_base::key::{CacheKey, HashBinary};
 use pcache_cache::CacheRequest;
@@ -11,24 +12,28 @@ use std::alloc::Global;
 use std::marker::Model;
 
 /// A request of the cache in `N` parts with the mark `K`. It is made with its key, which determines its part, and keeps both: no
-/// call sets another key, and a variance does not change the part. It must be spent by `SharedCache::end`.
-pub struct SharedRequest<K, const N: usize> {
-    place: usize,
+/// call sets another key, and a variance does not change the part. It knows what it has seen of the part, which has no bytes: all
+/// states that the part had up to the request's last call. It must be spent by `SharedCache::end`.
+pub struct SharedRequest<K: Mark, const N: usize> {
+    pub(crate) sight: Sight<K>,
     pub(crate) request: CacheRequest<K>,
 }
 
-impl<K, const N: usize> Model for SharedRequest<K, N> {
+impl<K: Mark, const N: usize> Model for SharedRequest<K, N> {
     ghost use Rattle.std.specs.Prelude.{◌<◌};
+    ghost use Rattle.pcache_shared_cache.specs.SeenCode.{seated_code};
     ghost use Rattle.pcache_shared_cache.specs.Shared.{Seated};
 
     ghost Value = { Seated };
 
-    ghost view = { λ r. record { place = r.place; cache = r.request.cache } };
+    ghost coded = { seated_code };
 
-    ghost invariant = { λ r. r.place < N };
+    ghost view = { λ r. record { place = r.sight.place; seen = r.sight.log; cache = r.request.cache } };
+
+    ghost invariant = { λ r. r.sight.place < N };
 }
 
-impl<K, const N: usize> SharedRequest<K, N> {
+impl<K: Mark, const N: usize> SharedRequest<K, N> {
     ghost use Rattle.std.specs.Prelude.{◌≡◌, ◌<◌, None, Some, IsSome, IfErr, OnErr, OnOk, not, option_map, true, false};
     ghost use Rattle.std.specs.Option.{option_and_then};
     ghost use Rattle.pcache_base.specs.declared.error.ErrorType.TheVariants.{InternalError};
@@ -40,20 +45,20 @@ impl<K, const N: usize> SharedRequest<K, N> {
     ghost use Rattle.pcache_request.specs.Requests.{MayTakeMeta, enabled_with, missed, new_request, with_key, with_meta};
     ghost use Rattle.pcache_request.specs.Stale.{updating};
     ghost use Rattle.pcache_request.specs.Variants.{looks_for_variance, same_variance};
-    ghost use Rattle.pcache_shared_cache.specs.Portions.{place_of};
+    ghost use Rattle.pcache_shared_cache.specs.Seen.{IsLog};
 
-    // A request for a key, in the key's part.
-    pub(crate) fn new(alloc: Global, key: CacheKey) -> SharedRequest<K, N>
-        requires { 0 < N }
-        ensures place { result.place ≡ place_of N key }
+    // A request for a key, which has seen this of the key's part.
+    pub(crate) fn new(alloc: Global, key: CacheKey, sight: Sight<K>) -> SharedRequest<K, N>
+        requires { sight.place < N }
+        ensures place { result.place ≡ sight.place }
+        ensures seen { result.seen ≡ sight.log }
         ensures request { result.cache
             ≡ with_key key (enabled_with
             (record { eviction = true; predictor = false; lock = true }) new_request) }
     {
-        let place = place_of::<N>(&key);
         let mut request = CacheRequest::new(alloc);
         request.cache.set_cache_key(key);
-        SharedRequest { place, request }
+        SharedRequest { sight, request }
     }
 
     /// The place of its part.
@@ -61,7 +66,15 @@ impl<K, const N: usize> SharedRequest<K, N> {
         ensures place { result ≡ self.now.place }
         ensures in_range { self.now.place < N }
     {
-        self.place
+        self.sight.place()
+    }
+
+    /// States what is known of all states that it has seen: each is sound (see `Cache::headline`), and calls led from each to the
+    /// next, so that the part's limits are the same in all. The call does nothing.
+    pub fn headline(&self)
+        ensures { IsLog self.now.seen }
+    {
+        self.sight.is_log();
     }
 
     /// The request itself, for its getters.
@@ -187,16 +200,17 @@ impl<K, const N: usize> SharedRequest<K, N> {
         requires { IsSome (permit_in self.old.cache.held) }
         ensures permit { Some result.permit ≡ permit_in self.old.cache.held }
         ensures place { result.place ≡ self.old.place }
+        ensures seen { result.seen ≡ self.old.seen }
         ensures request { self.new ≡ record self.old { cache = unheld self.old.cache } }
     {
-        SharedPermit::new(self.place, self.request.cache.take_write_lock())
+        SharedPermit::new(self.sight.again(), self.request.cache.take_write_lock())
     }
 
     // The request of the part.
     pub(crate) fn into_request(self) -> CacheRequest<K>
         ensures { result.cache ≡ self.cache }
     {
-        let SharedRequest { place: _, request } = self;
+        let SharedRequest { sight: _, request } = self;
         request
     }
 }

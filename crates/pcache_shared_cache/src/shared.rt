@@ -1,10 +1,16 @@
 //! The cache, and its getters.
-ghost use Rattle.std.specs.Prelude.{◌≡◌, ◌<◌};
+ghost use Rattle.std.specs.Prelude.{◌≡◌, ◌<◌, IfErr, IfOk, length, map};
+ghost use Rattle.pcache_base.specs.declared.error.ErrorType.TheVariants.{OutOfMemory};
+ghost use Rattle.pcache_shared_cache.specs.Managed.{Unmade};
+ghost use Rattle.pcache_shared_cache.specs.Seen.{AreNamed, ArePlaced, Begun};
 
+use crate::mark::Mark;
+use crate::opening::{NewPart, Unused, new_parts};
 use crate::part::PartLock;
 use crate::portion::Portion;
 use crate::put::SharedPut;
 use crate::request::SharedRequest;
+use crate::split::place_of;
 use pcache_base::error::{Error, ErrorType, Result};
 use pcache_base::key::CacheKey;
 use pcache_base::seed::Seed;
@@ -21,25 +27,26 @@ use std::time::Duration;
 /// `K` is a mark, a type of the caller's that nothing else uses: a request of one cache cannot be used with the parts
 /// of another.
 #[derive(Drop)]
-pub struct SharedCache<M: EvictionManager, K, const N: usize> {
+pub struct SharedCache<M: EvictionManager, K: Mark, const N: usize> {
     alloc: Global,
     parts: Vec<PartLock<M, K>>,
     room: Vec<Portion<M>>,
 }
 
-impl<M: EvictionManager, K, const N: usize> Model for SharedCache<M, K, N> {
-    ghost use Rattle.std.specs.Prelude.{◌≡◌, ◌<◌, ◌≤◌, [], List, length, vec_capacity};
+impl<M: EvictionManager, K: Mark, const N: usize> Model for SharedCache<M, K, N> {
+    ghost use Rattle.std.specs.Prelude.{◌≡◌, ◌<◌, ◌≤◌, [], List, length, map, vec_capacity};
     ghost use Rattle.pcache_evict.specs.Tracked.{Limits};
+    ghost use Rattle.pcache_shared_cache.specs.Seen.{ArePlaced, Begun};
 
     ghost Value = { List Limits };
 
-    ghost view = { λ c. c.parts.items };
+    ghost view = { λ c. map (λ (p : Begun). p.limits) c.parts.items };
 
-    ghost invariant = { λ c. (0 < N) × (length c.parts.items ≡ N) × (c.room.items ≡ []) × (N ≤ vec_capacity c.room) };
+    ghost invariant = { λ c. (0 < N) × (length c.parts.items ≡ N) × ArePlaced c.parts.items × (c.room.items ≡ []) × (N ≤ vec_capacity c.room) };
 }
 
-impl<M: EvictionManager, K, const N: usize> SharedCache<M, K, N> {
-    ghost use Rattle.std.specs.Prelude.{◌≡◌, ◌<◌, ◌≤◌, [], true, false, None, Some, IfErr, IfOk, IfSome, length, map, slice_get, sum_by};
+impl<M: EvictionManager, K: Mark, const N: usize> SharedCache<M, K, N> {
+    ghost use Rattle.std.specs.Prelude.{◌≡◌, ◌<◌, ◌≤◌, ℕ, [], true, false, None, Some, IfErr, IfOk, IfSome, length, map, slice_get, sum_by};
     ghost use Rattle.pcache_base.specs.declared.error.ErrorType.TheVariants.{InternalError, OutOfMemory};
     ghost use Rattle.pcache_put.specs.Progress.{AtHead};
     ghost use Rattle.pcache_put_ctx.specs.State.{HasTaken, InHead};
@@ -47,10 +54,11 @@ impl<M: EvictionManager, K, const N: usize> SharedCache<M, K, N> {
     ghost use Rattle.pcache_store.specs.Totals.{slots, stored_bytes};
     ghost use Rattle.pcache_shared_cache.specs.Managed.{managed};
     ghost use Rattle.pcache_shared_cache.specs.Portions.{place_of, whole_watermark, whole_weight};
+    ghost use Rattle.pcache_shared_cache.specs.Seen.{StartsWith};
     ghost use Rattle.pcache_shared_cache.specs.Shared.{InParts};
 
-    /// An empty cache with a part for each of `N` managers. Permits age out after `age_timeout`. The tables hash under the
-    /// seed, on which no result depends. Fails when memory runs out.
+    /// An empty cache with a part for each of `N` managers, under a mark that names no place. Permits age out after `age_timeout`.
+    /// The tables hash under the seed, on which no result depends. Fails when memory runs out.
     pub fn new(
         alloc: Global,
         seed: Seed,
@@ -59,14 +67,29 @@ impl<M: EvictionManager, K, const N: usize> SharedCache<M, K, N> {
     ) -> Result<SharedCache<M, K, N>>
         requires some { 0 < N }
         requires count { length portions.items ≡ N }
+        requires unnamed { (place : ℕ) → K.names place ≡ None }
         ensures limits { IfOk result (λ c. c ≡ map (λ p. p.limits) portions.items) }
         ensures kind { IfErr result (λ e. e ≡ OutOfMemory) }
     {
-        let mut parts = Vec::with_capacity(alloc, portions.len())?;
-        let room = Vec::with_capacity(alloc, portions.len())?;
-        for portion in portions {
-            parts.push_reserved(PartLock::new(alloc, seed, portion, age_timeout));
-        }
+        let new_parts = new_parts(alloc, portions)?;
+        SharedCache::over(alloc, seed, Unused::unnamed(new_parts), age_timeout)
+    }
+
+    /// The same over parts that the mark names: see `over_parts`.
+    pub fn over(
+        alloc: Global,
+        seed: Seed,
+        unused: Unused<M, K>,
+        age_timeout: Duration,
+    ) -> Result<SharedCache<M, K, N>>
+        requires some { 0 < N }
+        requires count { length unused ≡ N }
+        ensures limits { IfOk result (λ c. c ≡ unused) }
+        ensures kind { IfErr result (λ e. e ≡ OutOfMemory) }
+    {
+        let new_parts = unused.into_parts();
+        let room = Vec::with_capacity(alloc, new_parts.len())?;
+        let parts = locks_of(alloc, seed, new_parts, age_timeout)?;
         Ok(SharedCache { alloc, parts, room })
     }
 
@@ -97,20 +120,24 @@ impl<M: EvictionManager, K, const N: usize> SharedCache<M, K, N> {
         self.alloc
     }
 
-    /// A request for a key, with caching turned on, which uses the eviction manager and the lock table. It takes no lock.
+    /// A request for a key, with caching turned on, which uses the eviction manager and the lock table. It takes no lock. It has
+    /// seen how its part began.
     pub fn request(&self, key: CacheKey) -> SharedRequest<K, N>
         ensures place { result.place ≡ place_of N key }
+        ensures seen { IfSome (slice_get self.now result.place) (StartsWith result.seen) }
         ensures request { result.cache
             ≡ with_key key (enabled_with
             (record { eviction = true; predictor = false; lock = true }) new_request) }
     {
         let _parts = &self.parts; // for the prover: once a field is used, the invariant is known
-        SharedRequest::new(self.alloc, key)
+        let sight = self.part(place_of::<N>(&key)).beginning();
+        SharedRequest::new(self.alloc, key, sight)
     }
 
-    /// A put of a key, with no limit on its body. It takes no lock.
+    /// A put of a key, with no limit on its body. It takes no lock. It has seen how its part began.
     pub fn put<C: CachePut>(&self, policy: C, key: CacheKey) -> SharedPut<C, K, N>
         ensures place { result.place ≡ place_of N key }
+        ensures seen { IfSome (slice_get self.now result.place) (StartsWith result.seen) }
         ensures put { result.put
             ≡ record {
               policy = policy;
@@ -122,7 +149,8 @@ impl<M: EvictionManager, K, const N: usize> SharedCache<M, K, N> {
         ensures taken { HasTaken (C.says policy) result.put [] None }
     {
         let _parts = &self.parts; // for the prover, as above
-        SharedPut::new(self.alloc, policy, key)
+        let begun = self.part(place_of::<N>(&key)).beginning();
+        SharedPut::new(self.alloc, policy, key, begun)
     }
 
     /// The sum of the lengths of the complete bodies, each part asked in turn: at most the whole limit.
@@ -152,9 +180,32 @@ impl<M: EvictionManager, K, const N: usize> SharedCache<M, K, N> {
     // The part of a request.
     pub(crate) fn part(&self, place: usize) -> &PartLock<M, K>
         requires { place < N }
-        ensures { slice_get self.now place ≡ Some result.now }
+        ensures limits { slice_get self.now place ≡ Some result.now.limits }
+        ensures place { result.now.place ≡ place }
     {
         let parts = &self.parts;
         &parts[place]
     }
+}
+
+// A part behind its lock for each of these, at its place.
+fn locks_of<M: EvictionManager, K: Mark>(
+    alloc: Global,
+    seed: Seed,
+    new_parts: Vec<NewPart<M>>,
+    age_timeout: Duration,
+) -> Result<Vec<PartLock<M, K>>>
+    requires { AreNamed K.names (map (λ (u : Unmade). u.name) new_parts.items) }
+    ensures made { IfOk result (λ v. (length v.items ≡ length new_parts.items)
+        × ArePlaced v.items
+        × (map (λ (p : Begun). p.limits) v.items
+        ≡ map (λ (u : Unmade). u.portion.limits) new_parts.items)) }
+    ensures kind { IfErr result (λ e. e ≡ OutOfMemory) }
+{
+    let mut parts = Vec::with_capacity(alloc, new_parts.len())?;
+    for new_part in new_parts {
+        let place = parts.len();
+        parts.push_reserved(PartLock::new(alloc, seed, place, new_part, age_timeout));
+    }
+    Ok(parts)
 }

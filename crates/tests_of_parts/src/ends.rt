@@ -87,8 +87,8 @@ fn stored_whole<R: Wait>(rt: &R, cache: &Lists) -> Result<bool> {
     }
     let mut reader = request_for(cache, "a")?;
     let is_read = is_read(rt, cache, &mut reader, b"hey");
-    let is_whole = cache.is_body_whole(rt, &reader);
-    let length = cache.body_length(rt, &reader);
+    let is_whole = cache.is_body_whole(rt, &mut reader);
+    let length = cache.body_length(rt, &mut reader);
     cache.end(rt, reader);
     Ok(is_read? && is_whole && length == Some(3))
 }

@@ -4,7 +4,7 @@ ghost use Rattle.tests_of_parts.specs.Lifetimes.{IsOneSecond};
 
 use crate::gates::Gate;
 use crate::lifetimes::{by_one_second, one_second};
-use crate::requests::{Lists, NOW, OfTest, fill, finds, lists_of};
+use crate::requests::{Lists, NOW, fill, finds, lists_of};
 use pcache_base::error::{ErrorType, Result};
 use pcache_base::key::CacheKey;
 use pcache_base::moment::Moment;
@@ -13,7 +13,7 @@ use pcache_control::{CacheMetaDefaults, RespCacheable};
 use pcache_meta::header::ResponseHeader;
 use pcache_put_ctx::policy::CachePut;
 use pcache_put_ctx::report::PutOutcome;
-use pcache_shared_cache::SharedPut;
+use pcache_shared_cache::{SharedPut, Unnamed};
 use std::alloc::Global;
 use std::sync::{Arc, Wait};
 use std::test::Fail;
@@ -41,7 +41,7 @@ impl CachePut for OneSecond {
     }
 }
 
-type Put = SharedPut<OneSecond, OfTest, 4>;
+type Put = SharedPut<OneSecond, Unnamed, 4>;
 
 fn put_of(cache: &Lists, gate: &Arc<Gate, Global>, name: &str) -> Result<Put> {
     let gate = Arc::try_clone(gate)?;

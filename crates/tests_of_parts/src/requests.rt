@@ -14,7 +14,7 @@ use pcache_evict::eviction::simple_lru::Manager;
 use pcache_meta::header::ResponseHeader;
 use pcache_meta::meta::CacheMeta;
 use pcache_request::HitStatus;
-use pcache_shared_cache::{SharedCache, SharedRequest};
+use pcache_shared_cache::{SharedCache, SharedRequest, Unnamed};
 use std::alloc::Global;
 use std::sync::Wait;
 use std::time::Duration;
@@ -22,17 +22,14 @@ use std::time::Duration;
 /// The moment of all calls.
 pub const NOW: Moment = Moment::EPOCH;
 
-/// Names the cache of a test.
-pub struct OfTest;
-
 /// A cache in four parts.
-pub type Parts<M> = SharedCache<M, OfTest, 4>;
+pub type Parts<M> = SharedCache<M, Unnamed, 4>;
 
 /// The same over recency lists.
 pub type Lists = Parts<Manager>;
 
 /// A request of it.
-pub type Request = SharedRequest<OfTest, 4>;
+pub type Request = SharedRequest<Unnamed, 4>;
 
 /// A cache with nothing stored, in which bodies may have `limit` bytes together.
 pub fn lists_of(alloc: Global, limit: usize) -> Result<Lists> {

@@ -1,5 +1,7 @@
+use Rattle.std.proofs.Common.{ap, ◌∙◌}
+use Rattle.pcache_shared_cache.specs.Seen.{Held}
 use Rattle.pcache_shared_cache.proofs.InPart.{held}
 use Rattle.pcache_shared_cache.proofs.part.PartLock.slots.Goals as goal
 
 pub returns : goal.returns
-returns g c = held c.args.self.now c.lock.result.value c.deref.result.now c.lock.ensures.limits c.lock.ensures.kept c.deref.ensures c.slots.ensures.value
+returns g c = held c.args.self.now.limits c.lock-guard.result.value.now c.part.inside.cache c.lock-guard.ensures.limits c.lock-guard.ensures.kept (ap (λ (h : Held). h.now) (c.part.view_is ∙ c.deref-part.ensures)) c.slots.ensures.value

@@ -1,12 +1,23 @@
-use Rattle.std.proofs.Common.{ap, sym, subst, IsSome, ◌∙◌}
-use Rattle.pcache_request.specs.LockUse.{read_in}
+use Rattle.std.proofs.Common.{ap, subst, ◌∙◌}
+use Rattle.pcache_shared_cache.specs.Calls.{Waits}
 use Rattle.pcache_shared_cache.specs.Shared.{Seated}
-use Rattle.pcache_shared_cache.proofs.InPart.{in_part}
-use Rattle.pcache_shared_cache.proofs.Waiting.{goes-on}
+use Rattle.pcache_shared_cache.proofs.Led.{asked_on}
+use Rattle.pcache_shared_cache.proofs.Logs.{goes_by, lent}
+use Rattle.pcache_shared_cache.proofs.Rows.{locks_same}
 use Rattle.pcache_shared_cache.proofs.shared.SharedCache.cache_lock_wait.Goals as goal
 
-pub returns-clause-waits : goal.returns-clause-waits
-returns-clause-waits g c = rw (← c.request.view_is) (in_part c.args.self.now c.request.inside.place c.place.result c.part.result.now c.lock.result.value c.deref_mut.result.now (c.place.ensures.place ∙ ap (λ (s : Seated). s.place) (sym c.request.view_is)) c.part.ensures c.lock.ensures.limits c.lock.ensures.kept c.deref_mut.ensures.value (c.cache_lock_wait.ensures.answer, c.cache_lock_wait.ensures.request))
+pub adds-requires-clause-leads : goal.adds-requires-clause-leads
+adds-requires-clause-leads g c =
+    let p = c.part-2.inside.cache in
+    let q = c.cache_lock_wait-result.new.self in
+    let row : Waits c.cache_lock_wait-result.result c.args.now c.request.inside.request.cache c.cache_lock_wait-result.new.request.cache p q = record { answer = c.cache_lock_wait-result.ensures.answer; request = c.cache_lock_wait-result.ensures.request; locks = c.cache_lock_wait-result.ensures.table; deeds = c.cache_lock_wait-result.ensures.deeds; same = locks_same c.cache_lock_wait-result.result p q c.cache_lock_wait-result.ensures.rest c.cache_lock_wait-result.ensures.same_table c.cache_lock_wait-result.ensures.same_deeds; rest = c.cache_lock_wait-result.ensures.rest } in
+    (p, c.part-2.invariant, asked_on c.cache_lock_wait-result.result c.args.now c.request.inside.request.cache c.cache_lock_wait-result.new.request.cache p q row)
 
-pub returns-clause-goes_on : goal.returns-clause-goes_on
-returns-clause-goes_on g c = goes-on c.deref_mut.result.now.locks c.args.now c.request.inside.request.cache c.cache_lock_wait.new.request.cache c.cache_lock_wait.result (subst (λ (s : Seated). IsSome (read_in s.cache.held)) (sym c.request.view_is) c.requires) c.cache_lock_wait.ensures.answer c.cache_lock_wait.ensures.request
+pub returns-clause-goes : goal.returns-clause-goes
+returns-clause-goes g c =
+    let p = c.part-2.inside.cache in
+    let q = c.cache_lock_wait-result.new.self in
+    let row : Waits c.cache_lock_wait-result.result c.args.now c.request.inside.request.cache c.cache_lock_wait-result.new.request.cache p q = record { answer = c.cache_lock_wait-result.ensures.answer; request = c.cache_lock_wait-result.ensures.request; locks = c.cache_lock_wait-result.ensures.table; deeds = c.cache_lock_wait-result.ensures.deeds; same = locks_same c.cache_lock_wait-result.result p q c.cache_lock_wait-result.ensures.rest c.cache_lock_wait-result.ensures.same_table c.cache_lock_wait-result.ensures.same_deeds; rest = c.cache_lock_wait-result.ensures.rest } in
+    let here = lent c.args.self.now c.part.result.now c.part.ensures.limits c.part.ensures.place c.place.ensures.place c.lock-guard.ensures.place c.lock-guard.ensures.limits (c.part-2.view_is ∙ c.deref_mut-part.ensures.value) in
+    goes_by c.args.self.now g.K.Mark.names c.part-2.inside.log.place c.args.request.now.place c.request.inside.sight.log c.args.request.now.seen c.adds.new.sight.log p q here (ap (λ (s : Seated). s.seen) c.request.view_is)
+    (c.adds.ensures.moves p c.part-2.invariant) (subst (λ (s : Seated). Waits c.cache_lock_wait-result.result c.args.now s.cache c.cache_lock_wait-result.new.request.cache p q) c.request.view_is row)

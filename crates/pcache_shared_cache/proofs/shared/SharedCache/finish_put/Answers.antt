@@ -1,21 +1,55 @@
 use Rattle.std.proofs.Common.{ap, refl, sym, ◌∙◌}
 use Rattle.pcache_cache.proofs.Ways.{each_put_end}
-use Rattle.pcache_shared_cache.specs.SharedPuts.{SeatedPut}
-use Rattle.pcache_shared_cache.proofs.InPart.{keeps_as, moves_part, not_so}
+use Rattle.pcache_shared_cache.specs.SharedPuts.{EndsPutOf, SeatedPut}
+use Rattle.pcache_shared_cache.proofs.InPart.{not_so}
+use Rattle.pcache_shared_cache.proofs.Led.{stayed}
+use Rattle.pcache_shared_cache.proofs.Logs.{goes_by, lent}
+use Rattle.pcache_shared_cache.proofs.Pushed.{put_ended}
 use Rattle.pcache_shared_cache.proofs.shared.SharedCache.finish_put.Goals as goal
 
-pub returns-then-not-may_end_put-clause-ends : goal.returns-then-not-may_end_put-clause-ends
-returns-then-not-may_end_put-clause-ends g c =
-    let p = c.deref.result.now in
-    rw (← c.put.view_is) (moves_part c.args.self.now c.put.inside.place c.place.result c.part.result.now c.lock-part.result.value p p (c.place.ensures.place ∙ ap (λ (s : SeatedPut g.row.C.Denot). s.place) (sym c.put.view_is)) c.part.ensures c.lock-part.ensures.limits c.lock-part.ensures.kept c.deref.ensures
-    refl (keeps_as c.lock-part.result.value p (sym c.deref.ensures) c.lock-part.ensures.kept) (λ may. not_so c.may_end_put.result c.if-not-may_end_put.true c.may_end_put.ensures may))
+pub adds-requires-clause-leads : goal.adds-requires-clause-leads
+adds-requires-clause-leads g c = let p = c.part-2.inside.cache in (p, c.part-2.invariant, stayed p p refl)
 
-pub returns-clause-ends : goal.returns-clause-ends
-returns-clause-ends g c =
-    let p = c.deref_mut.result.now in
+pub returns-then-not-may_end_put-clause-goes : goal.returns-then-not-may_end_put-clause-goes
+returns-then-not-may_end_put-clause-goes g c =
+    let p = c.part-2.inside.cache in
+    let here = lent c.args.self.now c.part.result.now c.part.ensures.limits c.part.ensures.place (c.place.ensures.place ∙ ap (λ (s : SeatedPut g.row.C.Denot). s.place) (sym c.put.view_is)) c.lock-guard.ensures.place c.lock-guard.ensures.limits (c.part-2.view_is ∙ c.deref_mut-part.ensures.value) in
+    rw (← c.put.view_is) (goes_by c.args.self.now g.K.Mark.names c.part-2.inside.log.place c.put.inside.sight.place c.put.inside.sight.log c.put.inside.sight.log c.adds.new.sight.log p p here refl (c.adds.ensures.moves p c.part-2.invariant)
+    (record {
+      ended = λ may. not_so c.may_end_put.result c.if-not-may_end_put.true c.may_end_put.ensures may;
+      withdrawn = λ may. not_so c.may_end_put.result c.if-not-may_end_put.true c.may_end_put.ensures may;
+      refused = λ no. (tt, c.new.ensures, refl, refl);
+      rest = refl;
+    }))
+
+pub adds-requires-2-clause-leads : goal.adds-requires-2-clause-leads
+adds-requires-2-clause-leads g c =
+    let p = c.part-2.inside.cache in
     let q = c.finish_put-outcome.new.self in
-    rw (← c.put.view_is) (moves_part c.args.self.now c.put.inside.place c.place.result c.part.result.now c.lock-part.result.value p q (c.place.ensures.place ∙ ap (λ (s : SeatedPut g.row.C.Denot). s.place) (sym c.put.view_is)) c.part.ensures c.lock-part.ensures.limits c.lock-part.ensures.kept c.deref_mut.ensures.value
-    c.finish_put-outcome.ensures.limits (keeps_as c.deref-2.result.now q c.deref-2.ensures c.is_kept.ensures) (λ may. each_put_end c.finish_put-outcome.result (λ how is. is.0) c.finish_put-outcome.ensures.ended))
+    let x = c.put.inside.pending.put in
+    let e = c.finish_put-outcome.ensures in
+    let row : EndsPutOf c.finish_put-outcome.result x c.finish_put-outcome.new.put.put p q = record {
+      ended = λ _. each_put_end c.finish_put-outcome.result (λ how is. (is.0, is.1, is.2, is.3)) e.ended;
+      withdrawn = λ _. e.withdrawn;
+      refused = λ no. absurd (no (c.may_end_put.ensures.0 c.if-not-may_end_put.false));
+      rest = λ i. record { store = q.store; past = q.past; tracked = q.tracked; evicted = q.evicted; limits = e.limits i; locks = e.locks i; deeds = e.deeds i };
+    } in
+    (p, c.part-2.invariant, put_ended c.finish_put-outcome.result x c.finish_put-outcome.new.put.put p q row (c.may_end_put.ensures.0 c.if-not-may_end_put.false))
+
+pub returns-clause-goes : goal.returns-clause-goes
+returns-clause-goes g c =
+    let p = c.part-2.inside.cache in
+    let q = c.finish_put-outcome.new.self in
+    let x = c.put.inside.pending.put in
+    let e = c.finish_put-outcome.ensures in
+    let row : EndsPutOf c.finish_put-outcome.result x c.finish_put-outcome.new.put.put p q = record {
+      ended = λ _. each_put_end c.finish_put-outcome.result (λ how is. (is.0, is.1, is.2, is.3)) e.ended;
+      withdrawn = λ _. e.withdrawn;
+      refused = λ no. absurd (no (c.may_end_put.ensures.0 c.if-not-may_end_put.false));
+      rest = λ i. record { store = q.store; past = q.past; tracked = q.tracked; evicted = q.evicted; limits = e.limits i; locks = e.locks i; deeds = e.deeds i };
+    } in
+    let here = lent c.args.self.now c.part.result.now c.part.ensures.limits c.part.ensures.place (c.place.ensures.place ∙ ap (λ (s : SeatedPut g.row.C.Denot). s.place) (sym c.put.view_is)) c.lock-guard.ensures.place c.lock-guard.ensures.limits (c.part-2.view_is ∙ c.deref_mut-part.ensures.value) in
+    rw (← c.put.view_is) (goes_by c.args.self.now g.K.Mark.names c.part-2.inside.log.place c.put.inside.sight.place c.put.inside.sight.log c.put.inside.sight.log c.adds-2.new.sight.log p q here refl (c.adds-2.ensures.moves p c.part-2.invariant) row)
 
 pub returns-clause-tells : goal.returns-clause-tells
 returns-clause-tells g c = rw (← c.put.view_is) (λ pieces f taken. each_put_end c.finish_put-outcome.result (λ how is. is.4 pieces f taken) c.finish_put-outcome.ensures.ended)

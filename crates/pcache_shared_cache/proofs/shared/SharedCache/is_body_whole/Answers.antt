@@ -1,12 +1,13 @@
-use Rattle.std.proofs.Common.{ap, sym, ◌∙◌}
+use Rattle.std.proofs.Common.{ap, refl, sym, ◌∙◌}
 use Rattle.pcache_shared_cache.specs.Shared.{Seated}
-use Rattle.pcache_shared_cache.proofs.InPart.{in_every_part, in_part}
+use Rattle.pcache_shared_cache.proofs.Logs.{sees_by, lent, sees_last}
 use Rattle.pcache_shared_cache.proofs.shared.SharedCache.is_body_whole.Goals as goal
 
-pub returns-then-reads_alone : goal.returns-then-reads_alone
-returns-then-reads_alone g c =
-    rw (← c.request.view_is) (in_every_part c.args.self.now c.request.inside.place c.place.result c.part-part.result.now (c.place.ensures.place ∙ ap (λ (s : Seated). s.place) (sym c.request.view_is)) c.part-part.ensures
-    (λ p. c.is_body_whole_alone.ensures p.store))
+pub returns-then-reads_alone-clause-sees : goal.returns-then-reads_alone-clause-sees
+returns-then-reads_alone-clause-sees g c = rw (← c.request.view_is) (sees_last c.args.self.now g.K.Mark.names c.request.inside.sight.place c.request.inside.sight.log c.is_log.ensures (λ p. c.is_body_whole_alone.ensures p.store))
 
-pub returns : goal.returns
-returns g c = rw (← c.request.view_is) (in_part c.args.self.now c.request.inside.place c.place.result c.part-part.result.now c.lock.result.value c.deref.result.now (c.place.ensures.place ∙ ap (λ (s : Seated). s.place) (sym c.request.view_is)) c.part-part.ensures c.lock.ensures.limits c.lock.ensures.kept c.deref.ensures c.is_body_whole.ensures)
+pub returns-clause-sees : goal.returns-clause-sees
+returns-clause-sees g c =
+    let p = c.part.inside.cache in
+    let here = lent c.args.self.now c.part-lock.result.now c.part-lock.ensures.limits c.part-lock.ensures.place (c.place.ensures.place ∙ ap (λ (s : Seated). s.place) (sym c.request.view_is)) c.lock-guard.ensures.place c.lock-guard.ensures.limits (c.part.view_is ∙ c.deref_mut-part.ensures.value) in
+    rw (← c.request.view_is) (sees_by c.args.self.now g.K.Mark.names c.part.inside.log.place c.request.inside.sight.place c.request.inside.sight.log c.request.inside.sight.log c.shows.new.sight.log p here refl (c.shows.ensures.looks p c.part.invariant) c.is_body_whole.ensures)

@@ -1,12 +1,23 @@
-use Rattle.std.proofs.Common.{ap}
-use Rattle.pcache_cache.specs.Parts.{Parts}
-use Rattle.pcache_shared_cache.proofs.InPart.{keeps_as, moves_part}
+use Rattle.std.proofs.Common.{ap, ◌∙◌}
+use Rattle.pcache_store.specs.Readers.{reader_of}
+use Rattle.pcache_shared_cache.specs.Calls.{LetsGo}
+use Rattle.pcache_shared_cache.specs.Shared.{Seated}
+use Rattle.pcache_shared_cache.proofs.Led.{let_go}
+use Rattle.pcache_shared_cache.proofs.Logs.{goes_by, lent}
 use Rattle.pcache_shared_cache.proofs.shared.SharedCache.let_go.Goals as goal
 
-pub returns : goal.returns
-returns g c =
-    let p = c.deref_mut.result.now in
+pub adds-requires-clause-leads : goal.adds-requires-clause-leads
+adds-requires-clause-leads g c =
+    let p = c.part-2.inside.cache in
     let q = c.let_go.new.self in
-    moves_part c.args.self.now c.args.request.now.place c.place.result c.part.result.now c.lock-part.result.value p q c.place.ensures.place c.part.ensures c.lock-part.ensures.limits c.lock-part.ensures.kept c.deref_mut.ensures.value
-    (ap (λ (x : Parts). x.limits) c.let_go.ensures.rest) (keeps_as c.deref.result.now q c.deref.ensures c.is_kept.ensures)
-    (c.let_go.ensures.store, c.let_go.ensures.past, c.let_go.ensures.rest)
+    let row : LetsGo (reader_of c.args.hit) p q = record { store = c.let_go.ensures.store; past = c.let_go.ensures.past; rest = c.let_go.ensures.rest } in
+    (p, c.part-2.invariant, let_go (reader_of c.args.hit) p q row)
+
+pub returns-clause-goes : goal.returns-clause-goes
+returns-clause-goes g c =
+    let p = c.part-2.inside.cache in
+    let q = c.let_go.new.self in
+    let row : LetsGo (reader_of c.args.hit) p q = record { store = c.let_go.ensures.store; past = c.let_go.ensures.past; rest = c.let_go.ensures.rest } in
+    let here = lent c.args.self.now c.part.result.now c.part.ensures.limits c.part.ensures.place c.place.ensures.place c.lock-guard.ensures.place c.lock-guard.ensures.limits (c.part-2.view_is ∙ c.deref_mut-part.ensures.value) in
+    goes_by c.args.self.now g.K.Mark.names c.part-2.inside.log.place c.args.request.now.place c.request.inside.sight.log c.args.request.now.seen c.adds.new.sight.log p q here (ap (λ (s : Seated). s.seen) c.request.view_is)
+    (c.adds.ensures.moves p c.part-2.invariant) row

@@ -1,7 +1,22 @@
-use Rattle.std.proofs.Common.{ap, sym, ◌∙◌}
+use Rattle.std.proofs.Common.{ap, subst, ◌∙◌}
+use Rattle.pcache_shared_cache.specs.Calls.{Renews}
 use Rattle.pcache_shared_cache.specs.Shared.{Seated}
-use Rattle.pcache_shared_cache.proofs.InPart.{in_part}
+use Rattle.pcache_shared_cache.proofs.Led.{renewed_body}
+use Rattle.pcache_shared_cache.proofs.Logs.{goes_by, lent}
 use Rattle.pcache_shared_cache.proofs.shared.SharedCache.revalidate_cache_meta.Goals as goal
 
-pub returns-clause-there : goal.returns-clause-there
-returns-clause-there g c = rw (← c.request.view_is) (in_part c.args.self.now c.request.inside.place c.place.result c.part.result.now c.lock.result.value c.deref_mut.result.now (c.place.ensures.place ∙ ap (λ (s : Seated). s.place) (sym c.request.view_is)) c.part.ensures c.lock.ensures.limits c.lock.ensures.kept c.deref_mut.ensures.value (c.revalidate_cache_meta.ensures.there, c.revalidate_cache_meta.ensures.something))
+pub adds-requires-clause-leads : goal.adds-requires-clause-leads
+adds-requires-clause-leads g c =
+    let p = c.part-2.inside.cache in
+    let q = c.revalidate_cache_meta-result.new.self in
+    let row : Renews c.revalidate_cache_meta-result.result c.args.meta c.request.inside.request.cache p q = record { there = c.revalidate_cache_meta-result.ensures.there; store = c.revalidate_cache_meta-result.ensures.store; past = c.revalidate_cache_meta-result.ensures.past; same_store = c.revalidate_cache_meta-result.ensures.same_store; same_past = c.revalidate_cache_meta-result.ensures.same_past; something = c.revalidate_cache_meta-result.ensures.something; locks = c.revalidate_cache_meta-result.ensures.table; deeds = c.revalidate_cache_meta-result.ensures.deeds; rest = c.revalidate_cache_meta-result.ensures.rest } in
+    (p, c.part-2.invariant, renewed_body c.revalidate_cache_meta-result.result c.args.meta c.request.inside.request.cache p q row)
+
+pub returns-clause-goes : goal.returns-clause-goes
+returns-clause-goes g c =
+    let p = c.part-2.inside.cache in
+    let q = c.revalidate_cache_meta-result.new.self in
+    let row : Renews c.revalidate_cache_meta-result.result c.args.meta c.request.inside.request.cache p q = record { there = c.revalidate_cache_meta-result.ensures.there; store = c.revalidate_cache_meta-result.ensures.store; past = c.revalidate_cache_meta-result.ensures.past; same_store = c.revalidate_cache_meta-result.ensures.same_store; same_past = c.revalidate_cache_meta-result.ensures.same_past; something = c.revalidate_cache_meta-result.ensures.something; locks = c.revalidate_cache_meta-result.ensures.table; deeds = c.revalidate_cache_meta-result.ensures.deeds; rest = c.revalidate_cache_meta-result.ensures.rest } in
+    let here = lent c.args.self.now c.part.result.now c.part.ensures.limits c.part.ensures.place c.place.ensures.place c.lock-guard.ensures.place c.lock-guard.ensures.limits (c.part-2.view_is ∙ c.deref_mut-part.ensures.value) in
+    goes_by c.args.self.now g.K.Mark.names c.part-2.inside.log.place c.args.request.now.place c.request.inside.sight.log c.args.request.now.seen c.adds.new.sight.log p q here (ap (λ (s : Seated). s.seen) c.request.view_is)
+    (c.adds.ensures.moves p c.part-2.invariant) (subst (λ (s : Seated). Renews c.revalidate_cache_meta-result.result c.args.meta s.cache p q) c.request.view_is row)

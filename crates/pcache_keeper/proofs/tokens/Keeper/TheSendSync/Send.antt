@@ -1,0 +1,7 @@
+use denote.RattleType.{RattleType}
+use denote.Param.Send.{IsSend}
+use Rattle.pcache_keeper.specs.contracts.tokens.Keeper.{the_row}
+use Rattle.pcache_keeper.proofs.Keyless.{top_keyless}
+
+pub send : (E : RattleType) → IsSend (the_row E)
+send E = record { owned = λ d vs. ((λ vss. (tt, ((λ uss. (tt, tt)), tt))), top_keyless E.coded.code d.name d.log); leaving = λ k f vs. tt }

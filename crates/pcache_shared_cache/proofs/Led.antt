@@ -1,0 +1,182 @@
+-- Each call led from the state that it found to the one that it left: the limits stay, and of the two pasts nothing is forgotten.
+use Rattle.std.proofs.Common.{◌≡◌, ◌⊎◌, ⊎_elim, inl, inr, ℕ, Bool, true, List, Option, None, Some, Result, Ok, Err, OnErr, OnOk, ap, option_map, sym, subst}
+use Rattle.pcache_base.specs.Key.{slot}
+use Rattle.pcache_base.specs.declared.error.ErrorType.{ErrorType}
+use Rattle.pcache_cache.proofs.Adding.{dropped_keeps, end_keeps, ends_request_keeps, found_keeps, handed_keeps, left_keeps, looked_keeps, published_keeps, searched_keeps, settled_keeps, taken_keeps, varied_keeps, waited_keeps, writing_keeps, begun_keeps, written_keeps}
+use Rattle.pcache_cache.proofs.Growing.{GrewFrom, grew_by, grew_if, grew_not, grew_same, kept_by_deeds, kept_by_notes}
+use Rattle.pcache_cache.specs.Growing.{Grew}
+use Rattle.pcache_cache.specs.Parts.{Adds, MayEnd, Parts, written_past}
+use Rattle.pcache_lock.specs.declared.lock.outcome.LockWaitOutcome.{LockWaitOutcome}
+use Rattle.pcache_lock.specs.declared.lock.permit.WritePermit.{WritePermit}
+use Rattle.pcache_lock.specs.declared.lock.status.LockStatus.{LockStatus}
+use Rattle.pcache_lock.specs.declared.lock.status.LockStatus.TheVariants.{Done, GiveUp}
+use Rattle.pcache_base.specs.declared.poll.Poll.{Poll}
+use Rattle.pcache_base.specs.declared.reason.NoCacheReason.{NoCacheReason}
+use Rattle.pcache_meta.specs.Meta.{Meta}
+use Rattle.pcache_request.specs.LockPasts.{end_deeds, found_deeds, handed_deeds, looked_deeds, published_deeds, settled_deeds, varied_deeds, waited_deeds}
+use Rattle.pcache_request.specs.Releasing.{status_for}
+use Rattle.pcache_request.specs.Renewals.{renewed_by}
+use Rattle.pcache_request.specs.Requests.{Request}
+use Rattle.pcache_request.specs.StorePasts.{begun_past, dropped_past, expired_past, left_past, purged_past, renewed_past, searched_past, taken_past, writing_past}
+use Rattle.pcache_request.specs.WriteEnds.{EndsAs}
+use Rattle.pcache_request.specs.declared.cache.finish.FinishReport.{FinishReport}
+use Rattle.pcache_request.specs.declared.cache.finish.WriteEnd.{WriteEnd}
+use Rattle.pcache_request.specs.declared.cache.finish.WriteEnd.TheVariants as end
+use Rattle.pcache_request.specs.declared.phase.HitStatus.{HitStatus}
+use Rattle.pcache_store.specs.Notes.{expiry_noted, leave_noted, noted}
+use Rattle.pcache_store.specs.Past.{MetaSet, Purged}
+use Rattle.pcache_store.specs.Readers.{in_memory}
+use Rattle.pcache_store.specs.Store.{Reader}
+use Rattle.pcache_store.specs.declared.memory.hit.MemHitHandler.{MemHitHandler}
+use Rattle.pcache_shared_cache.specs.Calls.{BeginsWrite, Disables, EndsHit, EndsWriteOf, Expires, LetsGo, LooksUp, Publishes, Purges, Releases, Renews, TakesFound, TakesPermit, Varies, Waits, Writes}
+use Rattle.pcache_shared_cache.specs.Seen.{Leads}
+
+err_ap : {A X Y : Type 0} (f : X → Y) (result : Result A ErrorType) (x y : X) → OnErr result (x ≡ y) → OnErr result (f x ≡ f y)
+err_ap f (Ok a) x y e = tt
+err_ap f (Err k) x y e = ap f e
+
+-- the part after a call that changed nothing of the locks, or nothing of the store
+same_deeds : (p q : Parts) → q.deeds ≡ p.deeds → Grew p.deeds q.deeds
+same_deeds p q is = grew_same p.deeds q.deeds is
+
+pub purged : (result : Result Bool ErrorType) (r : Request) (p q : Parts) → Purges result r p q → Leads p q
+purged result r p q row = record {
+  limits = ap (λ (x : Parts). x.limits) row.rest;
+  past = grew_if result (purged_past r.key) p.past q.past (kept_by_notes p.past (option_map (λ k. Purged (slot k)) r.key)) row.past (err_ap (λ (x : Parts). x.past) result q p row.same);
+  deeds = grew_same p.deeds q.deeds (ap (λ (x : Parts). x.deeds) row.rest);
+}
+
+pub expired : (result : Result Bool ErrorType) (now : ℕ) (r : Request) (p q : Parts) → Expires result now r p q → Leads p q
+expired result now r p q row = record {
+  limits = ap (λ (x : Parts). x.limits) row.rest;
+  past = grew_if result (expired_past now r.key) p.past q.past (kept_by_notes p.past (expiry_noted now (option_map slot r.key))) row.past (err_ap (λ (x : Parts). x.past) result q p row.same);
+  deeds = grew_same p.deeds q.deeds (ap (λ (x : Parts). x.deeds) row.rest);
+}
+
+pub written : (result : Result Bool ErrorType) (bytes : List ℕ) (eof : Bool) (r : Request) (p q : Parts) → Writes result bytes eof r p q → Leads p q
+written result bytes eof r p q row = record {
+  limits = ap (λ (x : Parts). x.limits) row.rest;
+  past = grew_if result (written_past p.store r.write bytes eof) p.past q.past (written_keeps (kept_by_notes p.past) p.store r.write bytes eof) row.past (err_ap (λ (x : Parts). x.past) result q p row.same);
+  deeds = grew_same p.deeds q.deeds (ap (λ (x : Parts). x.deeds) row.rest);
+}
+
+grew_as : {A : Type 0} (p q : List A) (x : Option (List A)) → Some q ≡ x → GrewFrom (Some p) x → Grew p q
+grew_as p q x is grew = subst (GrewFrom (Some p)) (sym is) grew
+
+looked_past : (result : Result (Option (Meta × MemHitHandler)) ErrorType) (now : ℕ) (r s : Request) (p q : Parts) → LooksUp result now r s p q → Grew p.past q.past
+looked_past (Ok f) now r s p q row = grew_by (searched_past p.store r) p.past q.past (searched_keeps (kept_by_notes p.past) p.store r) row.past
+looked_past (Err e) now r s p q row = ⊎_elim (λ same. grew_as p.past q.past (Some p.past) same.1 (grew_not p.past))
+    (λ gone. grew_as p.past q.past (searched_past p.store r (Some p.past)) gone.1 (searched_keeps (kept_by_notes p.past) p.store r (Some p.past) (grew_not p.past))) row.left
+
+looked_table : (result : Result (Option (Meta × MemHitHandler)) ErrorType) (now : ℕ) (r s : Request) (p q : Parts) → LooksUp result now r s p q → Grew p.deeds q.deeds
+looked_table (Ok f) now r s p q row = grew_by (looked_deeds p.store now p.locks r) p.deeds q.deeds (looked_keeps (kept_by_deeds p.deeds) p.store now p.locks r) row.deeds
+looked_table (Err e) now r s p q row = grew_same p.deeds q.deeds row.same_deeds
+
+pub looked : (result : Result (Option (Meta × MemHitHandler)) ErrorType) (now : ℕ) (r s : Request) (p q : Parts) → LooksUp result now r s p q → Leads p q
+looked result now r s p q row = record { limits = ap (λ (x : Parts). x.limits) row.rest; past = looked_past result now r s p q row; deeds = looked_table result now r s p q row }
+
+grew_either : {A R : Type 0} (result : Result R ErrorType) (f h : Option (List A) → Option (List A)) (p q : List A) → ((x : Option (List A)) → GrewFrom (Some p) x → GrewFrom (Some p) (f x)) → ((x : Option (List A)) → GrewFrom (Some p) x → GrewFrom (Some p) (h x))
+    → OnOk result (Adds f p q) → OnErr result (Adds h p q) → Grew p q
+grew_either (Ok a) f h p q keeps keeps' ok err = grew_by f p q keeps ok
+grew_either (Err e) f h p q keeps keeps' ok err = grew_by h p q keeps' err
+
+pub taken : (result : Result (Unit {0}) ErrorType) (status : HitStatus) (m : Meta) (h : Reader) (now : ℕ) (r s : Request) (p q : Parts) → TakesFound result status m h now r s p q → Leads p q
+taken result status m h now r s p q row = record {
+  limits = row.limits;
+  past = grew_either result (taken_past status h r) (noted (leave_noted h)) p.past q.past (taken_keeps (kept_by_notes p.past) status h r) (kept_by_notes p.past (leave_noted h)) row.past row.left_past;
+  deeds = grew_if result (found_deeds status now p.locks r) p.deeds q.deeds (found_keeps (kept_by_deeds p.deeds) status now p.locks r) row.deeds row.same_deeds;
+}
+
+pub let_go : (h : Reader) (p q : Parts) → LetsGo h p q → Leads p q
+let_go h p q row = record {
+  limits = ap (λ (x : Parts). x.limits) row.rest;
+  past = grew_by (noted (leave_noted h)) p.past q.past (kept_by_notes p.past (leave_noted h)) row.past;
+  deeds = grew_same p.deeds q.deeds (ap (λ (x : Parts). x.deeds) row.rest);
+}
+
+pub hit_ended : (r : Request) (p q : Parts) → EndsHit r p q → Leads p q
+hit_ended r p q row = record {
+  limits = ap (λ (x : Parts). x.limits) row.rest;
+  past = grew_by (left_past r.reader) p.past q.past (left_keeps (kept_by_notes p.past) r.reader) row.past;
+  deeds = grew_same p.deeds q.deeds (ap (λ (x : Parts). x.deeds) row.rest);
+}
+
+pub disabled : (reason : NoCacheReason) (r : Request) (p q : Parts) → Disables reason r p q → Leads p q
+disabled reason r p q row = record {
+  limits = ap (λ (x : Parts). x.limits) row.rest;
+  past = grew_by (λ l. left_past r.reader (dropped_past r.write l)) p.past q.past (λ x is. left_keeps (kept_by_notes p.past) r.reader (dropped_past r.write x) (dropped_keeps (kept_by_notes p.past) r.write x is)) row.past;
+  deeds = grew_by (settled_deeds (status_for (λ text. GiveUp) reason) r.held) p.deeds q.deeds (settled_keeps (kept_by_deeds p.deeds) (status_for (λ text. GiveUp) reason) r.held) row.deeds;
+}
+
+pub asked_on : (result : Result (Poll LockWaitOutcome) ErrorType) (now : ℕ) (r s : Request) (p q : Parts) → Waits result now r s p q → Leads p q
+asked_on result now r s p q row = record {
+  limits = ap (λ (x : Parts). x.limits) row.rest;
+  past = grew_same p.past q.past (ap (λ (x : Parts). x.past) row.rest);
+  deeds = grew_if result (waited_deeds p.locks now r.held r) p.deeds q.deeds (waited_keeps (kept_by_deeds p.deeds) p.locks now r.held r) row.deeds (err_ap (λ (x : Parts). x.deeds) result q p row.same);
+}
+
+pub released : (status : LockStatus) (r : Request) (p q : Parts) → Releases status r p q → Leads p q
+released status r p q row = record {
+  limits = ap (λ (x : Parts). x.limits) row.rest;
+  past = grew_same p.past q.past (ap (λ (x : Parts). x.past) row.rest);
+  deeds = grew_by (settled_deeds status r.held) p.deeds q.deeds (settled_keeps (kept_by_deeds p.deeds) status r.held) row.deeds;
+}
+
+pub permit_taken : (permit : WritePermit) (r : Request) (p q : Parts) → TakesPermit permit r p q → Leads p q
+permit_taken permit r p q row = record {
+  limits = ap (λ (x : Parts). x.limits) row.rest;
+  past = grew_same p.past q.past (ap (λ (x : Parts). x.past) row.rest);
+  deeds = grew_by (handed_deeds permit r) p.deeds q.deeds (handed_keeps (kept_by_deeds p.deeds) permit r) row.deeds;
+}
+
+pub published : {A : Type 0} (result : Result A ErrorType) (tokens : List ℕ) (r : Request) (p q : Parts) → Publishes result tokens r p q → Leads p q
+published result tokens r p q row = record {
+  limits = ap (λ (x : Parts). x.limits) row.rest;
+  past = grew_same p.past q.past (ap (λ (x : Parts). x.past) row.rest);
+  deeds = grew_if result (published_deeds tokens r.held) p.deeds q.deeds (published_keeps (kept_by_deeds p.deeds) tokens r.held) row.deeds (err_ap (λ (x : Parts). x.deeds) result q p row.same);
+}
+
+pub renewed_body : (result : Result Bool ErrorType) (m : Meta) (r : Request) (p q : Parts) → Renews result m r p q → Leads p q
+renewed_body result m r p q row = record {
+  limits = ap (λ (x : Parts). x.limits) row.rest;
+  past = grew_if result (renewed_past m r) p.past q.past (kept_by_notes p.past (option_map (λ k. MetaSet (slot k) (renewed_by m r.meta)) r.key)) row.past row.same_past;
+  deeds = grew_by (settled_deeds Done r.held) p.deeds q.deeds (settled_keeps (kept_by_deeds p.deeds) Done r.held) row.deeds;
+}
+
+pub varied_on : (variance : Option (List ℕ)) (r : Request) (p q : Parts) → Varies variance r p q → Leads p q
+varied_on variance r p q row = record {
+  limits = ap (λ (x : Parts). x.limits) row.rest;
+  past = grew_same p.past q.past (ap (λ (x : Parts). x.past) row.rest);
+  deeds = grew_by (varied_deeds variance r) p.deeds q.deeds (varied_keeps (kept_by_deeds p.deeds) variance r) row.deeds;
+}
+
+begun_notes : (result : Result (Unit {0}) ErrorType) (r s : Request) (p q : Parts) → BeginsWrite result r s p q → Grew p.past q.past
+begun_notes (Ok a) r s p q row = grew_by (writing_past true p.store r) p.past q.past (writing_keeps (kept_by_notes p.past) true p.store r) row.past
+begun_notes (Err e) r s p q row = ⊎_elim (λ same. grew_as p.past q.past (Some p.past) same.2 (grew_not p.past))
+    (λ gone. grew_as p.past q.past (begun_past p.store r (Some p.past)) gone.2 (begun_keeps (kept_by_notes p.past) p.store r (Some p.past) (grew_not p.past))) row.failed
+
+begun_deeds : (result : Result (Unit {0}) ErrorType) (r s : Request) (p q : Parts) → BeginsWrite result r s p q → Grew p.deeds q.deeds
+begun_deeds (Ok a) r s p q row = grew_by (settled_deeds Done r.held) p.deeds q.deeds (settled_keeps (kept_by_deeds p.deeds) Done r.held) row.deeds
+begun_deeds (Err e) r s p q row = ⊎_elim (λ same. grew_as p.deeds q.deeds (Some p.deeds) same.4 (grew_not p.deeds))
+    (λ gone. grew_as p.deeds q.deeds (settled_deeds Done r.held (Some p.deeds)) gone.4 (settled_keeps (kept_by_deeds p.deeds) Done r.held (Some p.deeds) (grew_not p.deeds))) row.failed
+
+pub begun : (result : Result (Unit {0}) ErrorType) (r s : Request) (p q : Parts) → BeginsWrite result r s p q → Leads p q
+begun result r s p q row = record { limits = ap (λ (x : Parts). x.limits) row.rest; past = begun_notes result r s p q row; deeds = begun_deeds result r s p q row }
+
+-- what holds of each way in which a write can have ended
+ended_any : {X : Type 0} {P : WriteEnd → Type 0} (result : Result (Option FinishReport) ErrorType) → EndsAs result P → ((how : WriteEnd) → P how → X) → X
+ended_any (Ok None) is so = so end.Nothing is
+ended_any (Ok (Some f)) is so = so (end.Stored f) is
+ended_any (Err e) (inl is) so = so (end.Dropped e) is
+ended_any (Err e) (inr is) so = so (end.Withdrawn e) is
+
+pub ended : (result : Result (Option FinishReport) ErrorType) (r : Request) (p q : Parts) → EndsWriteOf result r p q → MayEnd p.store r → Leads p q
+ended result r p q row may = record {
+  limits = row.limits;
+  past = ended_any result (row.ended may) (λ how is. ends_request_keeps (kept_by_notes p.past) in_memory r.key r.write how (Some p.past) (Some q.past) is.1 (grew_not p.past));
+  deeds = ended_any result (row.ended may) (λ how is. grew_by (end_deeds r.write r.held how) p.deeds q.deeds (end_keeps (kept_by_deeds p.deeds) r.write r.held how) is.2);
+}
+
+-- nothing changed
+pub stayed : (p q : Parts) → q ≡ p → Leads p q
+stayed p q same = record { limits = ap (λ (x : Parts). x.limits) same; past = grew_same p.past q.past (ap (λ (x : Parts). x.past) same); deeds = grew_same p.deeds q.deeds (ap (λ (x : Parts). x.deeds) same) }

@@ -1,0 +1,63 @@
+-- Logs that go on, and what was seen of them.
+use Rattle.std.proofs.Common.{◌≡◌, inl, inr, ℕ, Option, Some, None, List, [], ◌∷◌, ◌++◌, append_assoc, slice_get, refl, sym, ap, subst, ◌∙◌}
+use Rattle.std.proofs.lemmas.List.{append-nil}
+use mathlib.Core.List.{IsPrefix}
+use Rattle.pcache_cache.specs.Parts.{Parts}
+use Rattle.pcache_evict.specs.Tracked.{Limits}
+use Rattle.pcache_shared_cache.specs.Seen.{Begins, Begun, EndsWith, Goes, Held, IsLog, IsNamed, IsSound, Leads, Looks, Moves, Sees, goes_on}
+
+goes : (x : Parts) (l : List Parts) (p q : Parts) → goes_on x (l ++ p ∷ []) → Leads p q → IsSound q → goes_on x ((l ++ p ∷ []) ++ q ∷ [])
+goes x [] p q is leads sound = (is.0, ((leads, sound), tt))
+goes x (y ∷ l) p q is leads sound = (is.0, goes y l p q is.1 leads sound)
+
+added : (earlier : List Parts) (p q : Parts) → IsLog (earlier ++ p ∷ []) → Leads p q → IsSound q → IsLog ((earlier ++ p ∷ []) ++ q ∷ [])
+added [] p q is leads sound = (is.0, ((leads, sound), tt))
+added (x ∷ l) p q is leads sound = (is.0, goes x l p q is.1 leads sound)
+
+-- a log is a log with one more state
+pub log_added : (log : List Parts) (p q : Parts) → EndsWith log p → IsLog log → Leads p q → IsSound q → IsLog (log ++ q ∷ [])
+log_added log p q ends is leads sound = subst (λ (l : List Parts). IsLog (l ++ q ∷ [])) (sym ends.1) (added ends.0 p q (subst IsLog ends.1 is) leads sound)
+
+pub log_as : (a b : List Parts) → a ≡ b → IsLog b → IsLog a
+log_as a b e is = subst IsLog (sym e) is
+
+last_from : (x : Parts) (l : List Parts) → (p : Parts) × EndsWith (x ∷ l) p
+last_from x [] = (x, ([], refl))
+last_from x (y ∷ l) = let r = last_from y l in (r.0, (x ∷ r.1.0, ap (λ (m : List Parts). x ∷ m) r.1.1))
+
+-- it ends with a state
+pub last : (log : List Parts) → IsLog log → (p : Parts) × EndsWith log p
+last [] is = absurd is
+last (x ∷ l) is = last_from x l
+
+-- two tokens of the names that the mark has are of one keeper
+pub begins : (named : Option ℕ) (a b : ℕ) (old log : List Parts) → IsNamed named a → IsNamed named b → (a ≡ b → IsPrefix old log) → Begins named old log
+begins None a b old log an bn is = tt
+begins (Some n) a b old log an bn is = is (an ∙ sym bn)
+
+pub begins_self : (named : Option ℕ) (log : List Parts) → Begins named log log
+begins_self None log = tt
+begins_self (Some n) log = ([], append-nil log)
+
+-- what was seen of a log is a beginning of the log with one more state
+pub begins_more : (named : Option ℕ) (old log : List Parts) (p : Parts) → Begins named old log → Begins named old (log ++ p ∷ [])
+begins_more None old log p is = tt
+begins_more (Some n) old log p is = (is.0 ++ p ∷ [], sym (append_assoc old is.0 (p ∷ [])) ∙ ap (λ (l : List Parts). l ++ p ∷ []) is.1)
+
+-- the part that a lock lends is at the place that was asked for, and has its limits
+pub lent : (limits : List Limits) (lock : Begun) {asked place : ℕ} {guard part : Held} → slice_get limits asked ≡ Some lock.limits → lock.place ≡ asked → asked ≡ place → guard.place ≡ lock.place → guard.now.limits ≡ lock.limits → part ≡ guard → (slice_get limits place ≡ Some part.now.limits) × (part.place ≡ place)
+lent limits lock {asked} {place} {guard} {part} has at is there same lends = (
+  subst (λ (n : ℕ). slice_get limits n ≡ Some part.now.limits) is (has ∙ ap Some (sym (ap (λ (h : Held). h.now.limits) lends ∙ same))),
+  ap (λ (h : Held). h.place) lends ∙ there ∙ at ∙ is,
+)
+
+-- a call that had the part at a place led from p to q, and its caller sees that
+pub goes_by : {P : Parts → Parts → Type 0} (limits : List Limits) (names : ℕ → Option ℕ) (at place : ℕ) (old seen new : List Parts) (p q : Parts) → (slice_get limits place ≡ Some p.limits) × (at ≡ place) → old ≡ seen → Moves (names at) old new p q → P p q → Goes limits names place seen new P
+goes_by limits names at place old seen new p q here same moves so = (p, q, here.0, subst (λ (n : ℕ). Moves (names n) seen new p q) here.1 (subst (λ (l : List Parts). Moves (names at) l new p q) same moves), so)
+
+pub sees_by : {P : Parts → Type 0} (limits : List Limits) (names : ℕ → Option ℕ) (at place : ℕ) (old seen new : List Parts) (p : Parts) → (slice_get limits place ≡ Some p.limits) × (at ≡ place) → old ≡ seen → Looks (names at) old new p → P p → Sees limits names place seen new P
+sees_by limits names at place old seen new p here same looks so = (p, inl here.0, subst (λ (n : ℕ). Looks (names n) seen new p) here.1 (subst (λ (l : List Parts). Looks (names at) l new p) same looks), so)
+
+-- nothing was asked of the part: what holds of each state holds of the last one that was seen
+pub sees_last : {P : Parts → Type 0} (limits : List Limits) (names : ℕ → Option ℕ) (place : ℕ) (seen : List Parts) → IsLog seen → ((p : Parts) → P p) → Sees limits names place seen seen P
+sees_last limits names place seen is so = let p = last seen is in (p.0, inr refl, (begins_self (names place) seen, p.1), so p.0)

@@ -1,0 +1,8 @@
+use Rattle.std.proofs.Common.{◌+◌, ◌≤◌, length}
+use Rattle.std.specs.Prelude.{vec_len, vec_capacity}
+use Rattle.pcache_shared_cache.proofs.Placing.{Made}
+use Rattle.pcache_shared_cache.proofs.shared.locks_of.Given as goal
+
+-- the parts that were taken so far have their locks, and there is room for the rest
+abbrev pub invariant-loop-new_part : goal.invariant-loop-new_part
+invariant-loop-new_part g l = (vec_len l.parts + length l.new_part-iterator.rest.items ≤ vec_capacity l.parts) × Made l.fn.new_parts.items l.new_part-iterator.rest.items l.parts.items

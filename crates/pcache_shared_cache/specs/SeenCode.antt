@@ -1,0 +1,29 @@
+-- Encodings of what contracts see of a part and of its requests, which the values of models need (own).
+use denote.Builtin.{unit}
+use Rattle.std.specs.Prelude.{ℕ, List, Option, refl}
+use Rattle.std.specs.Coded.{Coded, code_by, coded×, coded_list, coded_ℕ, coded_option}
+use Rattle.pcache_cache.specs.Parts.{Parts}
+use Rattle.pcache_cache.specs.PartsCode.{parts_code}
+use Rattle.pcache_cache.specs.contracts.request.CacheRequest as request_row
+use Rattle.pcache_request.specs.Requests.{Request}
+use Rattle.pcache_shared_cache.specs.Seen.{Begun, Held, Placed}
+use Rattle.pcache_shared_cache.specs.Shared.{Seated}
+
+abbrev pub placed_code : Coded Placed
+placed_code = code_by (ℕ × List Parts) (coded× coded_ℕ (coded_list parts_code)) (λ p. (p.place, p.log)) (λ q. record { place = q.0; log = q.1 }) (λ _. refl)
+
+abbrev pub held_code : Coded Held
+held_code = code_by (ℕ × (List Parts × Parts)) (coded× coded_ℕ (coded× (coded_list parts_code) parts_code)) (λ p. (p.place, (p.log, p.now))) (λ q. record { place = q.0; log = q.1.0; now = q.1.1 }) (λ _. refl)
+
+abbrev pub begun_code : Coded Begun
+begun_code =
+    code_by (ℕ × ((ℕ × Option ℕ) × List Parts)) (coded× coded_ℕ (coded× (coded× coded_ℕ (coded_option coded_ℕ)) (coded_list parts_code)))
+    (λ p. (p.place, ((p.limits.weight, p.limits.watermark), p.log))) (λ q. record { place = q.0; limits = record { weight = q.1.0.0; watermark = q.1.0.1 }; log = q.1.1 }) (λ _. refl)
+
+abbrev request_code : Coded Request
+request_code = code_by ((request_row.the_row unit).Denot) ((request_row.the_row unit).coded) (λ r. record { cache = r; of = record {} }) (λ d. d.cache) (λ _. refl)
+
+abbrev pub seated_code : Coded Seated
+seated_code =
+    code_by (ℕ × (List Parts × Request)) (coded× coded_ℕ (coded× (coded_list parts_code) request_code)) (λ s. (s.place, (s.seen, s.cache))) (λ q. record { place = q.0; seen = q.1.0; cache = q.1.1 })
+    (λ _. refl)
