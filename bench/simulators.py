@@ -4,7 +4,7 @@
     bench/simulators.py PROGRAM           # hand-made and Zipf traces, hit for hit
     bench/simulators.py --trace SEED REQUESTS KEYS > FILE
 
-LRU; FIFO; CLOCK (Corbató, A paging experiment with the Multics system, 1968), as a circle with a hand; SIEVE (Zhang, Yang, Yue, Vigfusson, Rashmi, NSDI 2024); S3-FIFO (Yang, Zhang, Qiu, Yue, Vigfusson, SOSP 2023). Each takes requests of (key, size) and tells hits.
+LRU; FIFO; CLOCK (Corbató, A paging experiment with the Multics system, 1968), as a circle with a hand; SIEVE (Zhang, Yang, Yue, Vigfusson, Rashmi, NSDI 2024); S3-FIFO (Yang, Zhang, Qiu, Yue, Vigfusson, SOSP 2023); 2Q (Johnson, Shasha, VLDB 1994). Each takes requests of (key, size) and tells hits.
 With a time to live, a body past its time is a miss: its entry is used, or removed and admitted anew. Nothing here is shared with the crates of this repository.
 """
 import bisect
@@ -250,6 +250,61 @@ class S3Fifo:
         del self.freq[key]
 
 
+class TwoQueues:
+    """The full version of 2Q, by the paper's procedures `On accessing a page X` and `reclaimfor`, the oldest entry first
+    in each queue. What the paper leaves open: A1in has a quarter of the bytes (Kin), and A1out as many keys as half of
+    the entries when one is added (Kout); Am gives way only if it has an entry; a key leaves A1out when it comes in to
+    Am."""
+
+    def __init__(self, limit):
+        self.limit, self.used, self.evicted = limit, 0, 0
+        self.a1in, self.a1out, self.am, self.a1in_used = {}, {}, {}, 0
+
+    def request(self, key, size):
+        if key in self.am:
+            self.am[key] = self.am.pop(key)
+            return True
+        if key in self.a1in:
+            return True
+        came_out = key in self.a1out
+        while (self.a1in or self.am) and self.used + size > self.limit:
+            self.reclaim()
+        if size > self.limit:
+            self.evicted += 1
+            return False
+        if came_out:
+            self.a1out.pop(key, None)
+            self.am[key] = size
+        else:
+            self.a1in[key] = size
+            self.a1in_used += size
+        self.used += size
+        return False
+
+    def reclaim(self):
+        self.evicted += 1
+        if self.a1in and (self.a1in_used > self.limit / 4 or not self.am):
+            count = len(self.a1in) + len(self.am)
+            oldest = next(iter(self.a1in))
+            self.remove(oldest)
+            self.a1out.pop(oldest, None)
+            self.a1out[oldest] = True
+            while len(self.a1out) > count // 2:
+                del self.a1out[next(iter(self.a1out))]
+        else:
+            self.remove(next(iter(self.am)))
+
+    def has(self, key):
+        return key in self.a1in or key in self.am
+
+    def remove(self, key):
+        if key in self.am:
+            self.used -= self.am.pop(key)
+        else:
+            self.a1in_used -= self.a1in[key]
+            self.used -= self.a1in.pop(key)
+
+
 def most_hits(keys, limit):
     """Belady (1966): of one body too many, the one goes that is asked for last; what is not asked for again is not kept."""
     places = collections.defaultdict(collections.deque)
@@ -282,7 +337,7 @@ def most_hits_of_all(keys, limit):
     return max(best.values())
 
 
-POLICIES = {"lru": Lru, "sieve": Sieve, "s3-fifo": S3Fifo, "fifo": Fifo, "clock": Clock}
+POLICIES = {"lru": Lru, "sieve": Sieve, "s3-fifo": S3Fifo, "fifo": Fifo, "clock": Clock, "2q": TwoQueues}
 
 
 def simulate(policy, limit, trace, passes_by, ttl=None, replaces=False):

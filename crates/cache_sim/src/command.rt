@@ -18,7 +18,7 @@ fn caches<'a>(alloc: Global, command: Command<'a>) -> Result<Command<'a>, AllocE
     command
         .arg(
             option(alloc, "policy", "NAMES").default_value("lru").help(
-                "lru, sharded:16, sieve, s3-fifo, fifo or clock, with commas; and belady, the most hits that any can have, of bodies of one size",
+                "lru, sharded:16, sieve, s3-fifo, fifo, clock or 2q, with commas; and belady, the most hits that any can have, of bodies of one size",
             ),
         )?
         .arg(

@@ -7,6 +7,7 @@ use Rattle.pcache_evict.specs.Policy.{Policy, lru, sharded}
 use Rattle.pcache_policies.specs.Sieve.{sieve_policy}
 use Rattle.pcache_policies.specs.S3Fifo.{s3_fifo_policy}
 use Rattle.pcache_policies.specs.OneQueue.{fifo, clock}
+use Rattle.pcache_policies.specs.TwoQueues.{two_queues_policy}
 use Rattle.cache_simulation.specs.declared.cache.AnyRun.{AnyRun}
 use Rattle.cache_simulation.specs.declared.cache.AnyRun.TheVariants as run
 use Rattle.cache_simulation.specs.declared.cache.Cache.{Cache}
@@ -49,6 +50,7 @@ RanBy named.Sieve = RanAs sieve_policy
 RanBy named.S3Fifo = RanAs s3_fifo_policy
 RanBy named.Fifo = RanAs fifo
 RanBy named.Clock = RanAs clock
+RanBy named.TwoQueues = RanAs two_queues_policy
 
 abbrev pub Ran : List Request → List Request → Rules → Option Fresh → Told → Type 0
 Ran before asked rules start told = RanBy told.policy before asked rules start told
@@ -69,6 +71,7 @@ Stands before asked rules start base (run.Sieve r) = StandsAs sieve_policy befor
 Stands before asked rules start base (run.S3Fifo r) = StandsAs s3_fifo_policy before asked rules start base (rules_of r.manager.limits r.most r.replaces) r.counts r.manager.evicted.count (place r.manager.fifos r.freshness)
 Stands before asked rules start base (run.Fifo r) = StandsAs fifo before asked rules start base (rules_of r.manager.limits r.most r.replaces) r.counts r.manager.evicted.count (place r.manager.queue r.freshness)
 Stands before asked rules start base (run.Clock r) = StandsAs clock before asked rules start base (rules_of r.manager.limits r.most r.replaces) r.counts r.manager.evicted.count (place r.manager.queue r.freshness)
+Stands before asked rules start base (run.TwoQueues r) = StandsAs two_queues_policy before asked rules start base (rules_of r.manager.limits r.most r.replaces) r.counts r.manager.evicted.count (place r.manager.queues r.freshness)
 
 abbrev pub policy_of : AnyRun → Named
 policy_of (run.Lru r) = named.Lru
@@ -77,6 +80,7 @@ policy_of (run.Sieve r) = named.Sieve
 policy_of (run.S3Fifo r) = named.S3Fifo
 policy_of (run.Fifo r) = named.Fifo
 policy_of (run.Clock r) = named.Clock
+policy_of (run.TwoQueues r) = named.TwoQueues
 
 -- the size of the largest body that a cache with this limit stores
 abbrev pub most_in : Setting → ℕ → ℕ

@@ -17,7 +17,7 @@ use pcache_base::error::Result;
 use pcache_base::seed::Seed;
 use pcache_evict::eviction::ordered::OrderedManager;
 use pcache_evict::eviction::{sharded_lru, simple_lru};
-use pcache_policies::{clock, fifo, s3_fifo, sieve};
+use pcache_policies::{clock, fifo, s3_fifo, sieve, two_queues};
 use std::alloc::Global;
 use std::time::Duration;
 
@@ -36,6 +36,8 @@ pub enum AnyRun {
     Fifo(Run<fifo::Manager>),
     /// Over one queue that spares what was used.
     Clock(Run<clock::Manager>),
+    /// Over a queue of new entries and one in the order of uses, with ghosts.
+    TwoQueues(Run<two_queues::Manager>),
 }
 
 /// What a run tells.
@@ -102,6 +104,12 @@ impl AnyRun {
                 let manager = clock::Manager::new_with_watermark(alloc, seed, limit, watermark)?;
                 Ok(AnyRun::Clock(Run::new(alloc, manager, most, time, replaces)))
             }
+            Policy::TwoQueues => {
+                let manager = two_queues::Manager::new_with_watermark(
+                    alloc, seed, limit, watermark,
+                )?;
+                Ok(AnyRun::TwoQueues(Run::new(alloc, manager, most, time, replaces)))
+            }
         }
     }
 
@@ -122,6 +130,7 @@ impl AnyRun {
             AnyRun::S3Fifo(run) => run.play(requests),
             AnyRun::Fifo(run) => run.play(requests),
             AnyRun::Clock(run) => run.play(requests),
+            AnyRun::TwoQueues(run) => run.play(requests),
         }
     }
 
@@ -139,6 +148,7 @@ impl AnyRun {
             AnyRun::S3Fifo(run) => run.mark(),
             AnyRun::Fifo(run) => run.mark(),
             AnyRun::Clock(run) => run.mark(),
+            AnyRun::TwoQueues(run) => run.mark(),
         }
     }
 
@@ -157,6 +167,7 @@ impl AnyRun {
             AnyRun::S3Fifo(run) => told_of(Policy::S3Fifo, run, gone),
             AnyRun::Fifo(run) => told_of(Policy::Fifo, run, gone),
             AnyRun::Clock(run) => told_of(Policy::Clock, run, gone),
+            AnyRun::TwoQueues(run) => told_of(Policy::TwoQueues, run, gone),
         }
     }
 }

@@ -26,6 +26,8 @@ pub enum Policy {
     Fifo,
     /// Those that came in first, or were not used since they were spared.
     Clock,
+    /// New ones soon, then those that were not used for the longest time.
+    TwoQueues,
 }
 
 impl Policy {
@@ -38,6 +40,7 @@ impl Policy {
             "s3-fifo" => Some(Policy::S3Fifo),
             "fifo" => Some(Policy::Fifo),
             "clock" => Some(Policy::Clock),
+            "2q" => Some(Policy::TwoQueues),
             _ => None,
         }
     }
@@ -51,6 +54,7 @@ impl Policy {
             Policy::S3Fifo => "s3-fifo",
             Policy::Fifo => "fifo",
             Policy::Clock => "clock",
+            Policy::TwoQueues => "2q",
         }
     }
 }
@@ -295,7 +299,7 @@ fn read_setting<'a>(words: &Words<'a>) -> Result<Setting, Unusable<'a>> {
 }
 
 const POLICIES: &str =
-    "lru, sharded:16, sieve, s3-fifo, fifo, clock or belady, or several of them with commas";
+    "lru, sharded:16, sieve, s3-fifo, fifo, clock, 2q or belady, or several of them with commas";
 
 // The name of what is no policy, but the most hits that one can have.
 const BELADY: &str = "belady";

@@ -257,8 +257,8 @@ pub fn draw<W: Write>(out: &mut W, rows: &[Row], sizes: usize) -> io::Result<()>
     writeln!(out, "</svg>")
 }
 
-const COLOURS: [&str; 6] = [
-    "#1b6ca8", "#c0392b", "#27864d", "#8e44ad", "#b7791f", "#4a5568",
+const COLOURS: [&str; 7] = [
+    "#1b6ca8", "#c0392b", "#27864d", "#8e44ad", "#b7791f", "#4a5568", "#d53f8c",
 ];
 
 fn draw_point<W: Write>(
@@ -270,7 +270,7 @@ fn draw_point<W: Write>(
 ) -> io::Result<()>
     requires { 0 < places }
 {
-    let colour = COLOURS[policy % 6];
+    let colour = COLOURS[policy % 7];
     let x = 60 + (place as u128 * 540) / (places as u128);
     let y = 360 - (row.hit_ratio().min(10_000) * 340) / 10_000;
     writeln!(

@@ -54,35 +54,7 @@ pub fn simulate<C: Clock + Files, R: Read + Drop, W: Write + Drop, E: Write>(
         return Err(Stop::Memory);
     };
     let mut rows = Vec::new(alloc);
-    let read = match &options.trace {
-        Some(path) => {
-            let progress = Progress::start(rt, length(rt, path.as_str()))?;
-            let file = fs::open(rt, path.as_str()).map_err(Stop::Io)?;
-            let reader = Reader::new(alloc, options, file)?;
-            read_trace(
-                rt,
-                options,
-                &mut player,
-                &mut rows,
-                reader,
-                progress,
-                errors,
-            )?
-        }
-        None => {
-            let progress = Progress::start(rt, length(rt, "/dev/stdin"))?;
-            let reader = Reader::new(alloc, options, input)?;
-            read_trace(
-                rt,
-                options,
-                &mut player,
-                &mut rows,
-                reader,
-                progress,
-                errors,
-            )?
-        }
-    };
+    let read = read_input(rt, alloc, options, &mut player, &mut rows, input, errors)?;
     read.check()?;
     if player.until().is_ok_and(|lines| lines <= options.warmup) {
         return Err(Stop::NoneCounted);
@@ -103,6 +75,27 @@ pub fn simulate<C: Clock + Files, R: Read + Drop, W: Write + Drop, E: Write>(
         Some(lines) => Err(Stop::BadLines(lines)),
         None => Ok(()),
     }
+}
+
+// Plays the trace that the options name, or `input` if they name no file.
+fn read_input<C: Clock + Files, R: Read + Drop, E: Write>(
+    rt: &C,
+    alloc: Global,
+    options: &Options,
+    player: &mut Player,
+    rows: &mut Vec<Row>,
+    input: R,
+    errors: &mut E,
+) -> Result<Taken, Stop> {
+    let Some(path) = &options.trace else {
+        let progress = Progress::start(rt, length(rt, "/dev/stdin"))?;
+        let reader = Reader::new(alloc, options, input)?;
+        return read_trace(rt, options, player, rows, reader, progress, errors);
+    };
+    let progress = Progress::start(rt, length(rt, path.as_str()))?;
+    let file = fs::open(rt, path.as_str()).map_err(Stop::Io)?;
+    let reader = Reader::new(alloc, options, file)?;
+    read_trace(rt, options, player, rows, reader, progress, errors)
 }
 
 // What was read of a trace.

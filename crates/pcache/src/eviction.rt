@@ -6,4 +6,4 @@ pub use pcache_evict::eviction::{
 pub use pcache_files as files;
 pub use pcache_files::device::{CountedRead, CountedWrite};
 pub use pcache_files::saved::SavedManager;
-pub use pcache_policies::{s3_fifo, sieve};
+pub use pcache_policies::{clock, fifo, s3_fifo, sieve, two_queues};

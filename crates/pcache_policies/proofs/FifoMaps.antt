@@ -28,10 +28,10 @@ use Rattle.pcache_policies.proofs.FifoRooms.{map-entered, weight-entered}
 -- ---- room that is made is made by entries that leave
 
 -- the small queue with its oldest entry, behind what comes
-split_small : (coming s a m : Queue) (e : E) → a ≡ s ++ e ∷ [] → coming ++ (a ++ m) ≡ (coming ++ s) ++ e ∷ m
+pub split_small : (coming s a m : Queue) (e : E) → a ≡ s ++ e ∷ [] → coming ++ (a ++ m) ≡ (coming ++ s) ++ e ∷ m
 split_small coming s a m e is = ap (λ a. coming ++ (a ++ m)) is ∙ ap (λ q. coming ++ q) (append_assoc s (e ∷ []) m) ∙ sym (append_assoc coming s (e ∷ m))
 
-split_main : (coming a m q : Queue) (e : E) → m ≡ q ++ e ∷ [] → coming ++ (a ++ m) ≡ (coming ++ (a ++ q)) ++ e ∷ []
+pub split_main : (coming a m q : Queue) (e : E) → m ≡ q ++ e ∷ [] → coming ++ (a ++ m) ≡ (coming ++ (a ++ q)) ++ e ∷ []
 split_main coming a m q e is = ap (λ m. coming ++ (a ++ m)) is ∙ ap (λ r. coming ++ r) (sym (append_assoc a q (e ∷ []))) ∙ sym (append_assoc coming (a ++ q) (e ∷ []))
 
 -- an entry whose uses are forgotten in place

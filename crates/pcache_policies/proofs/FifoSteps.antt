@@ -28,7 +28,7 @@ pub record Far (limits : Limits) (size count : ℕ) (old now : Kept) : Type 0 wh
 pub far-none : (limits : Limits) (size count : ℕ) (old : Kept) → old.ring.leaving ≡ [] → Far limits size count old old
 far-none limits size count old none = record { run = λ rest t m. subst (λ (g : Queue). MakesRoom limits size count (left_of old) (reverse (keys_of g) ++ rest) t) (sym none) m; same = refl }
 
-reverse-cons : (x : CacheEntryKey) (xs : List CacheEntryKey) → reverse (x ∷ xs) ≡ reverse xs ++ x ∷ []
+pub reverse-cons : (x : CacheEntryKey) (xs : List CacheEntryKey) → reverse (x ∷ xs) ≡ reverse xs ++ x ∷ []
 reverse-cons x xs = reverse-append (x ∷ []) xs
 
 -- what was chosen so far goes before what goes later
@@ -48,13 +48,13 @@ at limits size count a b p q g h rest t ab pq gh m =
 moved_map : (a b g h p r : Queue) (k : CacheEntryKey) (v : Seen) → IsOnce (a ++ (g ++ p)) → a ≡ b ++ (k, v) ∷ [] → h ≡ g → r ≡ (k, unused v.weight) ∷ p → map_of (plain (b ++ (h ++ r))) ≡ map_of (plain (a ++ (g ++ p)))
 moved_map a b g h p r k v once is hs rs = ap (λ h. map_of (plain (b ++ (h ++ r)))) hs ∙ ap (λ r. map_of (plain (b ++ (g ++ r)))) rs ∙ same-passed a b g p (k, v) (unused v.weight) once is refl
 
-left_map : (a b g h p r : Queue) (e : E) → a ≡ b ++ e ∷ [] → h ≡ e ∷ g → r ≡ p → map_of (plain (b ++ (h ++ r))) ≡ map_of (plain (a ++ (g ++ p)))
+pub left_map : (a b g h p r : Queue) (e : E) → a ≡ b ++ e ∷ [] → h ≡ e ∷ g → r ≡ p → map_of (plain (b ++ (h ++ r))) ≡ map_of (plain (a ++ (g ++ p)))
 left_map a b g h p r e is hs rs = ap (λ h. map_of (plain (b ++ (h ++ r)))) hs ∙ ap (λ r. map_of (plain (b ++ ((e ∷ g) ++ r)))) rs ∙ ap (λ q. map_of (plain q)) (sym (last_ahead a b g p e is))
 
 again_map : (a b g h p q r : Queue) (e : E) (v : Seen) → IsOnce (a ++ (g ++ p)) → p ≡ q ++ e ∷ [] → v.weight ≡ e.1.weight → h ≡ g → b ≡ a → r ≡ (e.0, v) ∷ q → map_of (plain (b ++ (h ++ r))) ≡ map_of (plain (a ++ (g ++ p)))
 again_map a b g h p q r e v once is w hs bs rs = ap (λ h. map_of (plain (b ++ (h ++ r)))) hs ∙ ap (λ b. map_of (plain (b ++ (g ++ r)))) bs ∙ ap (λ r. map_of (plain (a ++ (g ++ r)))) rs ∙ (again a g p q e v once is w).1
 
-gone_map : (a b g h p q : Queue) (e : E) → IsOnce (a ++ (g ++ p)) → p ≡ q ++ e ∷ [] → h ≡ e ∷ g → b ≡ a → map_of (plain (b ++ (h ++ q))) ≡ map_of (plain (a ++ (g ++ p)))
+pub gone_map : (a b g h p q : Queue) (e : E) → IsOnce (a ++ (g ++ p)) → p ≡ q ++ e ∷ [] → h ≡ e ∷ g → b ≡ a → map_of (plain (b ++ (h ++ q))) ≡ map_of (plain (a ++ (g ++ p)))
 gone_map a b g h p q e once is hs bs = ap (λ h. map_of (plain (b ++ (h ++ q)))) hs ∙ ap (λ b. map_of (plain (b ++ ((e ∷ g) ++ q)))) bs ∙ (chosen_last a g p q e once is).1
 
 pub far-more : (limits : Limits) (size count : ℕ) (old now new : Kept) → Far limits size count old now → ¬ Room limits size count now → IsOnce (all now.ring) → Steps limits.weight now true new → Far limits size count old new

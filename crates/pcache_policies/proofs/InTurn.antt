@@ -7,18 +7,18 @@ use Rattle.std.specs.Map.{keys_of}
 use Rattle.pcache_evict.specs.declared.eviction.entry_key.CacheEntryKey.{CacheEntryKey}
 use Rattle.pcache_evict.specs.Entry.{entry_eq}
 use Rattle.pcache_evict.specs.Tracked.{Limits}
-use Rattle.pcache_evict.specs.Recency.{weight, IsWithinAsList}
+use Rattle.pcache_evict.specs.Recency.{weight}
 use Rattle.pcache_evict.specs.Listed.{map_of}
 use Rattle.pcache_evict.proofs.Recency.{same_key, laws}
 use Rattle.pcache_policies.specs.declared.queue.Seen.{Seen}
-use Rattle.pcache_policies.specs.Queue.{Queue, plain, IsOnce, seen_of, rest_of, reseen, unused}
+use Rattle.pcache_policies.specs.Queue.{Queue, plain, IsOnce, seen_of, unused}
 use Rattle.pcache_policies.specs.Leaving.{HasRoom}
 use Rattle.pcache_policies.specs.Sieve as hand
 use Rattle.pcache_policies.specs.Sieve.{Sieve, sieve, whole, entries}
 use Rattle.pcache_policies.specs.OneQueue.{MakesRoom, rests, spares, goes}
-use Rattle.pcache_policies.specs.Ring.{Ring, ring, all, shown, left_of, chosen, in_turn, SameEntries}
+use Rattle.pcache_policies.specs.Ring.{Ring, all, shown, left_of, in_turn, SameEntries}
 use Rattle.pcache_policies.proofs.Queues.{E, plain-append, length-plain}
-use Rattle.pcache_policies.proofs.Rings.{Apart, none_apart, apart_none, apart_front, apart_back, apart_both, once_swap, map-swap, reseen-append, rest-append}
+use Rattle.pcache_policies.proofs.Rings.{Apart, none_apart, apart_none, apart_front, apart_back, apart_both, once_swap, map-swap}
 use Rattle.pcache_policies.proofs.SieveRooms.{absent_same, whole_weight}
 
 -- ---- two parts of a queue in the other order
@@ -104,14 +104,3 @@ weight_turn old new d e same =
     let were = weight_swap old.ahead (old.leaving ++ old.passed) in
     let are = weight_swap new.ahead new.passed in
     omega arith
-
-pub within_turn : (limits : Limits) (a p : Queue) → IsWithinAsList limits (plain (a ++ p)) → IsWithinAsList limits (plain (p ++ a))
-within_turn limits a p w =
-    record { weight = subst (λ n. n ≤ limits.weight) (weight_swap a p) w.weight; count = subst (λ n. IfSome limits.watermark (λ most. n ≤ most)) (plain_length_swap a p) w.count }
-
--- a change of the parts is one of the queue
-pub reseen_turn : (k : CacheEntryKey) (v : Seen) (a g p : Queue) → in_turn (shown (ring (reseen k v a) (reseen k v g) (reseen k v p))) ≡ reseen k v (in_turn (shown (ring a g p)))
-reseen_turn k v a g p = ap (λ q. q ++ reseen k v a) (sym (reseen-append k v g p)) ∙ sym (reseen-append k v (g ++ p) a)
-
-pub rest_turn : (k : CacheEntryKey) (a g p : Queue) → in_turn (shown (ring (rest_of k a) (rest_of k g) (rest_of k p))) ≡ rest_of k (in_turn (shown (ring a g p)))
-rest_turn k a g p = ap (λ q. q ++ rest_of k a) (sym (rest-append k g p)) ∙ sym (rest-append k (g ++ p) a)

@@ -7,6 +7,10 @@ pub mod Leavings
 pub mod QueueMaps
 pub mod QueueRooms
 pub mod Queues
+pub mod ReclaimMaps
+pub mod ReclaimRooms
+pub mod ReclaimSteps
+pub mod Renewed
 pub mod Rings
 pub mod SieveMaps
 pub mod SieveRooms

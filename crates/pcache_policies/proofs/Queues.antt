@@ -322,7 +322,7 @@ found-small k (e ∷ q) v h a =
       | false ↦ λ h. found-small k q v h (All-tail IsSmall e q a)
     ] h
 
-none-in-rest : (k : CacheEntryKey) (q : Queue) → AllByRecursion (λ y. entry_eq k y ≡ false) (keys_of (rest_of k q))
+pub none-in-rest : (k : CacheEntryKey) (q : Queue) → AllByRecursion (λ y. entry_eq k y ≡ false) (keys_of (rest_of k q))
 none-in-rest k [] = tt
 none-in-rest k (e ∷ q) =
     elim (entry_eq k e.0) as (λ b. entry_eq k e.0 ≡ b → AllByRecursion (λ y. entry_eq k y ≡ false) (keys_of (cond (not b) (e ∷ rest_of k q) (rest_of k q)))) [

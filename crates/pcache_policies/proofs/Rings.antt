@@ -46,7 +46,7 @@ reseen-all k v a g p = reseen-append k v a (g ++ p) ∙ ap (λ q. reseen k v a +
 pub rest-all : (k : CacheEntryKey) (a g p : Queue) → rest_of k (a ++ (g ++ p)) ≡ rest_of k a ++ (rest_of k g ++ rest_of k p)
 rest-all k a g p = rest-append k a (g ++ p) ∙ ap (λ q. rest_of k a ++ q) (rest-append k g p)
 
-few_rest : (k : CacheEntryKey) (q : Queue) → length (rest_of k q) ≤ length q
+pub few_rest : (k : CacheEntryKey) (q : Queue) → length (rest_of k q) ≤ length q
 few_rest k [] = omega arith
 few_rest k (e ∷ q) = elim (entry_eq k e.0) as (λ b. length (cond (not b) (e ∷ rest_of k q) (rest_of k q)) ≤ length (e ∷ q)) [ true ↦ (let less = few_rest k q in omega arith) | false ↦ (let less = few_rest k q in omega arith) ]
 

@@ -26,7 +26,7 @@ pub none_some : (o : Option Seen) → is_some o ≡ false → o ≡ None
 none_some None h = refl
 none_some (Some v) h = cc
 
-found_same : (k : CacheEntryKey) (q r : Queue) → map_of (plain r) ≡ map_of (plain q) → is_some (seen_of k r) ≡ is_some (seen_of k q)
+pub found_same : (k : CacheEntryKey) (q r : Queue) → map_of (plain r) ≡ map_of (plain q) → is_some (seen_of k r) ≡ is_some (seen_of k q)
 found_same k q r same =
     sym (some-plain k r) ∙ ap is_some (sym (get-map_of (plain r) k)) ∙ ap (λ m. is_some (fin.get m k)) same ∙ ap is_some (get-map_of (plain q) k) ∙ some-plain k q
 
@@ -153,7 +153,7 @@ map-reseen k v l there = fin.same_map entries_total exact_entries _ _ (λ q.
     ∙ sym (fin.get-insert entries_total (map_of (plain l)) k v.weight q ∙ ap (λ o. cond (tied q k) (Some v.weight) o) (get-map_of (plain l) q)))
 
 -- an entry set to what it had is as it was
-same_put : (k : CacheEntryKey) (n w : ℕ) (m : tracked.Tracked) → fin.get m k ≡ Some w → fin.insert (fin.insert m k n) k w ≡ m
+pub same_put : (k : CacheEntryKey) (n w : ℕ) (m : tracked.Tracked) → fin.get m k ≡ Some w → fin.insert (fin.insert m k n) k w ≡ m
 same_put k n w m is = fin.same_map entries_total exact_entries _ _ (λ q.
     fin.get-insert entries_total (fin.insert m k n) k w q
     ∙ ap (cond (tied q k) (Some w)) (fin.get-insert entries_total m k n q)

@@ -2,6 +2,8 @@ pub mod Fifos
 pub mod Leaving
 pub mod OneQueue
 pub mod Queue
+pub mod Reclaim
 pub mod Ring
 pub mod S3Fifo
 pub mod Sieve
+pub mod TwoQueues

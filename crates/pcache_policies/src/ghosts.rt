@@ -1,5 +1,5 @@
 //! The keys of evicted entries.
-ghost use Rattle.std.specs.Prelude.{◌≡◌, [], IfOk, IfErr, OnOk};
+ghost use Rattle.std.specs.Prelude.{◌≡◌, ◌∷◌, [], take, IfOk, IfErr, OnOk};
 ghost use Rattle.pcache_base.specs.declared.error.ErrorType.TheVariants.{OutOfMemory};
 ghost use Rattle.pcache_policies.specs.S3Fifo.{is_ghost, forgotten, ghosted};
 
@@ -56,9 +56,17 @@ impl Ghosts {
         ensures ok { OnOk result (self.new ≡ ghosted key count self.old) }
         ensures kind { IfErr result (λ e. e ≡ OutOfMemory) }
     {
+        self.add_within(key, count - count / 10)
+    }
+
+    /// Adds a key as the newest, and keeps the `most` newest ones.
+    pub(crate) fn add_within(&mut self, key: CacheEntryKey, most: usize) -> Result<()>
+        ensures ok { OnOk result (self.new ≡ take most (key ∷ forgotten key self.old)) }
+        ensures kind { IfErr result (λ e. e ≡ OutOfMemory) }
+    {
         self.queue.remove(&key);
         self.queue.push(key, Seen::unused(0))?;
-        self.queue.keep(count - count / 10);
+        self.queue.keep(most);
         Ok(())
     }
 }

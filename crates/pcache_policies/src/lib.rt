@@ -9,6 +9,8 @@
 //! - `ordered`: the orders that these keep, as `OrderedManager` promises them
 //! - `s3_fifo`: a small queue for new entries, and a main queue for entries that were used or come
 //!   in again
+//! - `two_queues`: 2Q, a queue for new entries, and one in the order of uses for entries that come in
+//!   again
 
 pub mod clock;
 mod evictions;
@@ -18,7 +20,9 @@ mod ghosts;
 pub mod one_queue;
 mod ordered;
 mod queue;
+mod reclaim;
 mod ring;
 pub mod s3_fifo;
 pub mod sieve;
 mod turns;
+pub mod two_queues;

@@ -1,7 +1,7 @@
 //! The order in which these managers keep their entries, for callers that know no manager.
 
 use crate::one_queue::Uses;
-use crate::{one_queue, s3_fifo, sieve};
+use crate::{one_queue, s3_fifo, sieve, two_queues};
 use pcache_base::error::Result;
 use pcache_base::moment::Moment;
 use pcache_evict::eviction::CacheEntryKey;
@@ -97,6 +97,53 @@ impl OrderedManager for s3_fifo::Manager {
         fresh_until: Moment,
     ) -> Result<bool> {
         let was = s3_fifo::Manager::access(self, item, size, fresh_until)?;
+        Ok(was)
+    }
+}
+
+impl OrderedManager for two_queues::Manager {
+    ghost use Rattle.std.specs.Prelude.{refl};
+    ghost use Rattle.pcache_policies.specs.TwoQueues.{TwoQueues, two_queues_policy};
+
+    ghost Order = { TwoQueues };
+
+    ghost policy = { two_queues_policy };
+
+    ghost order = { λ m. m.queues };
+
+    ghost listed = { λ m. refl };
+
+    fn admit_in_order(
+        &mut self,
+        item: CacheEntryKey,
+        size: usize,
+        fresh_until: Moment,
+    ) -> Result<Vec<CacheEntryKey>> {
+        let out = two_queues::Manager::admit(self, item, size, fresh_until)?;
+        Ok(out)
+    }
+
+    fn increment_in_order(
+        &mut self,
+        item: &CacheEntryKey,
+        delta: usize,
+        max_weight: Option<usize>,
+    ) -> Result<Vec<CacheEntryKey>> {
+        let out = two_queues::Manager::increment_weight(self, item, delta, max_weight)?;
+        Ok(out)
+    }
+
+    fn remove_in_order(&mut self, item: &CacheEntryKey) {
+        two_queues::Manager::remove(self, item);
+    }
+
+    fn access_in_order(
+        &mut self,
+        item: &CacheEntryKey,
+        size: usize,
+        fresh_until: Moment,
+    ) -> Result<bool> {
+        let was = two_queues::Manager::access(self, item, size, fresh_until)?;
         Ok(was)
     }
 }

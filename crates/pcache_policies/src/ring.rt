@@ -1,5 +1,5 @@
 //! A list of entries with a hand, in three queues.
-ghost use Rattle.std.specs.Prelude.{◌≡◌, ◌≢◌, ◌↔◌, IsTrue, Some, ◌∷◌, ◌++◌, ◌+◌, ◌≤◌, ◌<◌, ◌^◌, ◌-◌, [], true, false, None, is_some, length, OnOk, OnErr, IfOk, IfErr, IfSome, IfNone};
+ghost use Rattle.std.specs.Prelude.{◌≡◌, ◌≢◌, ◌↔◌, IsTrue, Some, ◌∷◌, ◌++◌, ◌+◌, ◌≤◌, ◌<◌, ◌^◌, ◌-◌, [], true, false, None, is_some, length, IsSome, OnOk, OnErr, IfOk, IfErr, IfSome, IfNone};
 ghost use Rattle.std.specs.Vec.{vec_capacity};
 ghost use Rattle.pcache_base.specs.declared.error.ErrorType.TheVariants.{OutOfMemory};
 ghost use Rattle.lru.specs.LruCache.{last_entry};
@@ -364,6 +364,30 @@ impl Ring {
         ensures { result ≡ weight (plain self.now.ahead) }
     {
         self.ahead.weight()
+    }
+
+    /// The weight of the entries that were passed.
+    pub(crate) fn passed_weight(&self) -> u128
+        ensures { result ≡ weight (plain self.now.passed) }
+    {
+        self.passed.weight()
+    }
+
+    /// Whether an entry is ahead.
+    pub(crate) fn is_ahead(&self, item: &CacheEntryKey) -> bool
+        ensures { result ≡ is_some (seen_of item.now self.now.ahead) }
+    {
+        self.ahead.get(item).is_some()
+    }
+
+    /// An entry ahead becomes the newest there, with this record.
+    pub(crate) fn renew_ahead(&mut self, item: &CacheEntryKey, seen: Seen)
+        requires { IsSome (seen_of item.now self.old.ahead) }
+        ensures { self.new
+            ≡ ring ((item.now, seen) ∷ rest_of item.now self.old.ahead) self.old.leaving
+            self.old.passed }
+    {
+        self.ahead.requeue(item, seen);
     }
 
     /// Adds a new entry as the newest ahead.

@@ -5,7 +5,7 @@ use pcache_base::moment::Moment;
 use pcache_base::seed::Seed;
 use pcache_base::text::Text;
 use pcache_evict::eviction::{CacheEntryKey, EvictionManager};
-use pcache_policies::{clock, fifo, s3_fifo, sieve};
+use pcache_policies::{clock, fifo, s3_fifo, sieve, two_queues};
 use std::alloc::Global;
 
 const NEVER_READ: Moment = Moment::EPOCH;
@@ -91,5 +91,12 @@ fn fifo_is_a_manager(rt: HostRuntime) {
 fn clock_is_a_manager(rt: HostRuntime) {
     let alloc = rt.alloc();
     let manager = clock::Manager::new_with_watermark(alloc, Seed::fixed(), 4, Some(2));
+    assert!(rt; is_one(alloc, manager));
+}
+
+#[test]
+fn two_queues_are_a_manager(rt: HostRuntime) {
+    let alloc = rt.alloc();
+    let manager = two_queues::Manager::new_with_watermark(alloc, Seed::fixed(), 4, Some(2));
     assert!(rt; is_one(alloc, manager));
 }

@@ -111,9 +111,9 @@ fn tell_sizes(options: &Options, told: &mut Told) {
 }
 
 const READ: &str = "
-    policy lru,sharded:16,sieve,s3-fifo,fifo,clock -> [Lru, Sharded, Sieve, S3Fifo, Fifo, Clock]
+    policy lru,sharded:16,sieve,s3-fifo,fifo,clock,2q -> [Lru, Sharded, Sieve, S3Fifo, Fifo, Clock, TwoQueues]
     policy lru, sieve -> [Lru, Sieve]
-    policy lru,arc -> --policy cannot be \"arc\"; it is lru, sharded:16, sieve, s3-fifo, fifo, clock or belady, or several of them with commas
+    policy lru,arc -> --policy cannot be \"arc\"; it is lru, sharded:16, sieve, s3-fifo, fifo, clock, 2q or belady, or several of them with commas
     policy lru,belady; trace a.csv; ignore-size -> [Lru] and at most
     policy belady; trace a.csv -> --policy cannot be \"belady\"; it is belady only with --trace and --ignore-size, and without --ttl, --watermark and --interval
     policy belady; ignore-size -> --policy cannot be \"belady\"; it is belady only with --trace and --ignore-size, and without --ttl, --watermark and --interval

@@ -12,7 +12,7 @@ use pcache_base::seed::Seed;
 use pcache_base::text::Text;
 use pcache_evict::eviction::ordered::OrderedManager;
 use pcache_evict::eviction::{CacheEntryKey, EvictionManager, sharded_lru, simple_lru};
-use pcache_policies::{clock, fifo, s3_fifo, sieve};
+use pcache_policies::{clock, fifo, s3_fifo, sieve, two_queues};
 use std::alloc::Global;
 use std::process::Abort;
 use std::time::Duration;
@@ -47,6 +47,10 @@ impl Desk for Made {
             }
             "clock" => {
                 let manager = clock::Manager::new(alloc, seed, limit);
+                tell_run(alloc, manager, cache, requests, told);
+            }
+            "2q" => {
+                let manager = two_queues::Manager::new(alloc, seed, limit);
                 tell_run(alloc, manager, cache, requests, told);
             }
             _ => {
@@ -149,9 +153,14 @@ const USED: &str = "
     s3-fifo 3 pass: a 1, b 1, c 1, a 1, a 1, d 1, b 1, e 1, a 1, c 1, f 1, b 1, a 1, g 1, d 1, a 1, a 1, b 1 -> ---++---+---+--++- | 18 of 18, 12 of 12 missed, 9 went, 3 tracked
     fifo 3 pass: a 1, b 1, c 1, a 1, a 1, d 1, b 1, e 1, a 1, c 1, f 1, b 1, a 1, g 1, d 1, a 1, a 1, b 1 -> ---++-+--------++- | 18 of 18, 13 of 13 missed, 10 went, 3 tracked
     clock 3 pass: a 1, b 1, c 1, a 1, a 1, d 1, b 1, e 1, a 1, c 1, f 1, b 1, a 1, g 1, d 1, a 1, a 1, b 1 -> ---++----------++- | 18 of 18, 14 of 14 missed, 11 went, 3 tracked
+    2q 3 pass: a 1, b 1, c 1, a 1, a 1, d 1, b 1, e 1, a 1, c 1, f 1, b 1, a 1, g 1, d 1, a 1, a 1, b 1 -> ---++-+--------++- | 18 of 18, 13 of 13 missed, 10 went, 3 tracked
     # an entry that was used is spared once, or not at all
     fifo 3 pass: a 1, b 1, c 1, a 1, b 1, d 1, a 1, b 1, e 1, f 1, b 1 -> ---++-----+ | 11 of 11, 8 of 8 missed, 5 went, 3 tracked
-    clock 3 pass: a 1, b 1, c 1, a 1, b 1, d 1, a 1, b 1, e 1, f 1, b 1 -> ---++-++--+ | 11 of 11, 6 of 6 missed, 3 went, 3 tracked";
+    clock 3 pass: a 1, b 1, c 1, a 1, b 1, d 1, a 1, b 1, e 1, f 1, b 1 -> ---++-++--+ | 11 of 11, 6 of 6 missed, 3 went, 3 tracked
+    # what came in again outlives a scan, and of that the least recently used goes; what came in once goes though it was used
+    2q 4 pass: a 1, b 1, c 1, d 1, e 1, a 1, f 1, g 1, h 1, i 1, a 1, b 1, a 1 -> ----------+-+ | 13 of 13, 11 of 11 missed, 7 went, 4 tracked
+    2q 4 pass: c 1, a 1, f 1, e 1, d 1, g 1, c 1, d 1, a 1, b 1, b 1, g 1, d 1, g 1, b 1, c 1, d 1, f 1 -> -------+--++--+-+- | 18 of 18, 13 of 13 missed, 9 went, 4 tracked
+    2q 4 pass: a 1, b 1, c 1, d 1, a 1, a 1, e 1, a 1 -> ----++-- | 8 of 8, 6 of 6 missed, 2 went, 4 tracked";
 
 #[test]
 fn each_policy_keeps_its_own(rt: HostRuntime) {
@@ -164,6 +173,7 @@ const WEIGHED: &str = "
     s3-fifo 8 pass: a 5, b 3, a 5, c 4, a 5, b 3, a 5, d 2, b 3, c 4, b 3, d 2, c 4, a 5, e 9, d 2 -> --+---+-+------- | 16 of 64, 13 of 51 missed, 10 went, 7 tracked
     fifo 8 pass: a 5, b 3, a 5, c 4, a 5, b 3, a 5, d 2, b 3, c 4, b 3, d 2, c 4, a 5, e 9, d 2 -> --+---+-+------- | 16 of 64, 13 of 51 missed, 10 went, 7 tracked
     clock 8 pass: a 5, b 3, a 5, c 4, a 5, b 3, a 5, d 2, b 3, c 4, b 3, d 2, c 4, a 5, e 9, d 2 -> --+---+---+----- | 16 of 64, 13 of 51 missed, 10 went, 7 tracked
+    2q 8 pass: a 5, b 3, a 5, c 4, a 5, b 3, a 5, d 2, b 3, c 4, b 3, d 2, c 4, a 5, e 9, d 2 -> --+---+--------- | 16 of 64, 14 of 54 missed, 11 went, 7 tracked
     # bodies above the limit
     lru 8 pass: a 2, b 3, z 50, a 2, b 3, z 50, c 4, a 2 -> ---++--- | 8 of 116, 6 of 111 missed, 2 went, 6 tracked
     lru 8 evict: a 2, b 3, z 50, a 2, b 3, z 50, c 4, a 2 -> -------- | 8 of 116, 8 of 116 missed, 6 went, 6 tracked
@@ -172,7 +182,8 @@ const WEIGHED: &str = "
     s3-fifo 8 pass: a 2, b 3, z 50, a 2, b 3, z 50, c 4, a 2 -> ---++--- | 8 of 116, 6 of 111 missed, 2 went, 6 tracked
     s3-fifo 8 evict: a 2, b 3, z 50, a 2, b 3, z 50, c 4, a 2 -> -------- | 8 of 116, 8 of 116 missed, 6 went, 6 tracked
     fifo 8 evict: a 2, b 3, z 50, a 2, b 3, z 50, c 4, a 2 -> -------- | 8 of 116, 8 of 116 missed, 6 went, 6 tracked
-    clock 8 evict: a 2, b 3, z 50, a 2, b 3, z 50, c 4, a 2 -> -------- | 8 of 116, 8 of 116 missed, 6 went, 6 tracked";
+    clock 8 evict: a 2, b 3, z 50, a 2, b 3, z 50, c 4, a 2 -> -------- | 8 of 116, 8 of 116 missed, 6 went, 6 tracked
+    2q 8 evict: a 2, b 3, z 50, a 2, b 3, z 50, c 4, a 2 -> -------- | 8 of 116, 8 of 116 missed, 6 went, 6 tracked";
 
 #[test]
 fn bodies_have_weights(rt: HostRuntime) {
@@ -205,6 +216,8 @@ const PAST: &str = "
     fifo 3 pass 10 use: a 1 0, b 1 0, c 1 0, a 1 11, d 1 11, a 1 11 -> ------ | 6 of 6, 6 of 6 missed, 2 went, 3 tracked
     fifo 3 pass 10 replace: a 1 0, b 1 0, c 1 0, a 1 11, d 1 11, a 1 11 -> -----+ | 6 of 6, 5 of 5 missed, 1 went, 3 tracked
     clock 3 pass 10 use: a 1 0, b 1 0, c 1 0, a 1 11, d 1 11, a 1 11 -> -----+ | 6 of 6, 5 of 5 missed, 1 went, 3 tracked
+    2q 3 pass 10 use: a 1 0, b 1 0, c 1 0, a 1 11, d 1 11, a 1 11 -> ------ | 6 of 6, 6 of 6 missed, 2 went, 3 tracked
+    2q 3 pass 10 replace: a 1 0, b 1 0, c 1 0, a 1 11, d 1 11, a 1 11 -> -----+ | 6 of 6, 5 of 5 missed, 1 went, 3 tracked
     # a size that changed: a hit counts as it was asked for and leaves the weight, and what comes in anew has the new one
     lru 9 pass 10 use: a 2 0, a 5 1, a 5 11 -> -+- | 3 of 12, 2 of 7 missed, 0 went, 5 tracked
     lru 9 pass 10 use: a 2 0, a 5 1 -> -+ | 2 of 7, 1 of 2 missed, 0 went, 2 tracked

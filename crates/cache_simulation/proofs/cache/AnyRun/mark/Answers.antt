@@ -3,6 +3,7 @@ use Rattle.pcache_evict.specs.Policy.{lru, sharded}
 use Rattle.pcache_policies.specs.Sieve.{sieve_policy}
 use Rattle.pcache_policies.specs.S3Fifo.{s3_fifo_policy}
 use Rattle.pcache_policies.specs.OneQueue.{fifo, clock}
+use Rattle.pcache_policies.specs.TwoQueues.{two_queues_policy}
 use Rattle.cache_simulation.specs.declared.cache.AnyRun.{AnyRun}
 use Rattle.cache_simulation.specs.Caches.{Stands}
 use Rattle.cache_simulation.proofs.Marks.{marked}
@@ -62,3 +63,12 @@ returns-in-Clock-clause-served c = λ before asked rules start base stands.
     (rules-same _ _ _ _ _ _ (ap (λ m. m.limits) c.mark-in-Clock.ensures.manager) c.mark-in-Clock.ensures.most c.mark-in-Clock.ensures.replaces)
     c.mark-in-Clock.ensures.evicted c.mark-in-Clock.ensures.served
     (subst (λ (r : AnyRun). Stands before asked rules start base r) c.in-Clock.is stands)
+
+pub returns-in-TwoQueues-clause-served : goal.returns-in-TwoQueues-clause-served
+returns-in-TwoQueues-clause-served c = λ before asked rules start base stands.
+    let old = c.in-TwoQueues.run' in
+    let new = c.mark-in-TwoQueues.new.self in
+    marked two_queues_policy before asked rules _ _ start base c.mark-in-TwoQueues.result _ _ _ _ _ _
+    (rules-same _ _ _ _ _ _ (ap (λ m. m.limits) c.mark-in-TwoQueues.ensures.manager) c.mark-in-TwoQueues.ensures.most c.mark-in-TwoQueues.ensures.replaces)
+    c.mark-in-TwoQueues.ensures.evicted c.mark-in-TwoQueues.ensures.served
+    (subst (λ (r : AnyRun). Stands before asked rules start base r) c.in-TwoQueues.is stands)

@@ -3,6 +3,7 @@ use Rattle.pcache_evict.specs.Policy.{lru, sharded}
 use Rattle.pcache_policies.specs.Sieve.{sieve_policy}
 use Rattle.pcache_policies.specs.S3Fifo.{s3_fifo_policy}
 use Rattle.pcache_policies.specs.OneQueue.{fifo, clock}
+use Rattle.pcache_policies.specs.TwoQueues.{two_queues_policy}
 use Rattle.cache_simulation.specs.declared.cache.AnyRun.{AnyRun}
 use Rattle.cache_simulation.specs.declared.options.Policy.{Policy as Named}
 use Rattle.cache_simulation.specs.Caches.{RanBy, Stands}
@@ -50,3 +51,10 @@ returns-in-Clock-clause-ran c = λ before asked rules start stands.
     subst (λ (q : Named). RanBy q before asked rules start told) (sym c.told_of-in-Clock.ensures.policy)
     (told-as clock before asked rules _ start c.args.gone _ _ _ told c.told_of-in-Clock.ensures.counts c.told_of-in-Clock.ensures.evicted c.told_of-in-Clock.ensures.tracked
     (subst (λ (r : AnyRun). Stands before asked rules start c.args.gone r) c.in-Clock.is stands))
+
+pub returns-in-TwoQueues-clause-ran : goal.returns-in-TwoQueues-clause-ran
+returns-in-TwoQueues-clause-ran c = λ before asked rules start stands.
+    let told = c.told_of-in-TwoQueues.result in
+    subst (λ (q : Named). RanBy q before asked rules start told) (sym c.told_of-in-TwoQueues.ensures.policy)
+    (told-as two_queues_policy before asked rules _ start c.args.gone _ _ _ told c.told_of-in-TwoQueues.ensures.counts c.told_of-in-TwoQueues.ensures.evicted c.told_of-in-TwoQueues.ensures.tracked
+    (subst (λ (r : AnyRun). Stands before asked rules start c.args.gone r) c.in-TwoQueues.is stands))

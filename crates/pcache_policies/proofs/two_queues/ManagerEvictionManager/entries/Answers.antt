@@ -1,0 +1,10 @@
+use Rattle.std.proofs.Common.{sym, subst}
+use Rattle.std.specs.List.{IsDistinct}
+use Rattle.std.specs.Map.{keys_of}
+use Rattle.pcache_evict.specs.Entry.{entry_eq}
+use Rattle.pcache_policies.specs.TwoQueues.{whole}
+use Rattle.pcache_policies.proofs.Queues.{once-plain}
+use Rattle.pcache_policies.proofs.two_queues.ManagerEvictionManager.entries.Goals as goal
+
+pub returns-clause-once : goal.returns-clause-once
+returns-clause-once c = subst (λ l. IsDistinct entry_eq (keys_of l)) (sym c.in_ok-all.ensures.ok) (once-plain (whole c.args.self.now.queues) c.entries.ensures.once)

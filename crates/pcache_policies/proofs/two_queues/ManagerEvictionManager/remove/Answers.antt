@@ -1,0 +1,8 @@
+use Rattle.std.proofs.Common.{◌∙◌, ap}
+use Rattle.pcache_evict.specs.Listed.{map_of}
+use Rattle.pcache_policies.specs.TwoQueues.{entries}
+use Rattle.pcache_policies.proofs.ReclaimMaps.{map-rest-in}
+use Rattle.pcache_policies.proofs.two_queues.ManagerEvictionManager.remove.Goals as goal
+
+pub returns-clause-tracked : goal.returns-clause-tracked
+returns-clause-tracked c = ap (λ s. map_of (entries s.queues)) c.remove.ensures ∙ map-rest-in c.args.item.now c.args.self.now.queues

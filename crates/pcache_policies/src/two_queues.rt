@@ -1,0 +1,434 @@
+//! An eviction manager that evicts most new entries soon, and keeps those that came in again: 2Q
+//! (Johnson, Shasha, VLDB 1994).
+ghost use Rattle.std.specs.Prelude.{◌≡◌, ◌-◌, ◌^◌, true, false, None, Some, is_some, length, OnOk, OnErr, IfOk, IfErr, IsOk, IsSome, min};
+ghost use Rattle.pcache_base.specs.declared.error.ErrorType.TheVariants.{OutOfMemory};
+ghost use Rattle.pcache_evict.specs.Tracked.{raised};
+ghost use Rattle.pcache_evict.specs.Recency.{weight, IsWithinAsList};
+ghost use Rattle.pcache_policies.specs.Queue.{IsOnce, seen_of};
+ghost use Rattle.pcache_policies.specs.S3Fifo.{is_ghost};
+ghost use Rattle.pcache_policies.specs.TwoQueues.{Queued, entries, whole, entered, touched, reseen_in, rest_in, accessed, empty_queues, Admits, KeepsLimits, Admission, Increment, HasFailed, HasFailedWith};
+
+use crate::evictions::{Evictions, let_go, raised_weight};
+use crate::queue::Seen;
+use crate::reclaim::Queues;
+use pcache_base::error::Result;
+use pcache_base::moment::Moment;
+use pcache_base::seed::Seed;
+use pcache_evict::eviction::{CacheEntryKey, EvictionManager};
+use std::alloc::Global;
+use std::marker::Model;
+
+/// Entries with weights in a main queue and one of new entries, the keys of those that went from the
+/// new ones (their ghosts), and limits on the sum of the weights and on the number of entries.
+///
+/// An entry is added to the new ones, or to the main queue if its key is a ghost. Before that, room
+/// is made: the oldest of the new entries goes if these weigh more than a quarter of the limit,
+/// otherwise the oldest of the main queue does. A use of an entry of the main queue makes it the
+/// newest there; a use of a new one changes nothing. The ghosts are at most half as many as the
+/// entries. A contract sees the queues with the ghosts, the limits and the totals of evictions. Each
+/// call takes a constant number of look-ups, and some for each entry that goes.
+#[derive(Drop)]
+pub struct Manager {
+    alloc: Global,
+    limit: usize,
+    watermark: Option<usize>,
+    queues: Queues,
+    evicted: Evictions,
+}
+
+impl Model for Manager {
+    ghost use Rattle.pcache_policies.specs.Reclaim.{shown};
+    ghost use Rattle.pcache_policies.specs.TwoQueues.{Queued};
+
+    ghost Value = { Queued };
+
+    ghost view = { λ a. record {
+      queues = shown a.queues;
+      limits = record { weight = a.limit; watermark = a.watermark };
+      evicted = record { weight = a.evicted.weight; count = a.evicted.count };
+    } };
+}
+
+impl Manager {
+    /// An empty manager whose entries weigh at most `limit` after each eviction. Its lists hash under the
+    /// seed, on which no result depends.
+    pub fn new(alloc: Global, seed: Seed, limit: usize) -> Result<Manager>
+        ensures ok { IfOk result (λ m. m ≡ empty_queues limit None) }
+        ensures kind { IfErr result (λ e. e ≡ OutOfMemory) }
+    {
+        Manager::new_with_watermark(alloc, seed, limit, None)
+    }
+
+    /// An empty manager whose entries weigh at most `limit` after each eviction, and number at most
+    /// `items_watermark` if that is given.
+    pub fn new_with_watermark(
+        alloc: Global,
+        seed: Seed,
+        limit: usize,
+        items_watermark: Option<usize>,
+    ) -> Result<Manager>
+        ensures ok { IfOk result (λ m. m ≡ empty_queues limit items_watermark) }
+        ensures kind { IfErr result (λ e. e ≡ OutOfMemory) }
+    {
+        Ok(Manager {
+            alloc,
+            limit,
+            watermark: items_watermark,
+            queues: Queues::new(alloc, seed)?,
+            evicted: Evictions::none(),
+        })
+    }
+
+    /// The sum of the entries' weights; the largest `usize` if it is larger.
+    pub fn total_size(&self) -> usize
+        ensures value { result ≡ min (weight (entries self.now.queues)) (2 ^ 64 - 1) }
+        ensures once { IsOnce (whole self.now.queues) }
+    {
+        usize::try_from(self.queues.ring.weight()).unwrap_or(usize::MAX)
+    }
+
+    /// The number of entries.
+    pub fn total_items(&self) -> usize
+        ensures value { result ≡ length (whole self.now.queues) }
+        ensures once { IsOnce (whole self.now.queues) }
+    {
+        self.queues.ring.len()
+    }
+
+    /// The sum of the weights of all entries evicted so far; the largest `usize` if it is larger.
+    pub fn evicted_size(&self) -> usize
+        ensures { result ≡ self.now.evicted.weight }
+    {
+        self.evicted.weight
+    }
+
+    /// The number of entries evicted so far; the largest `usize` if it is larger.
+    pub fn evicted_items(&self) -> usize
+        ensures { result ≡ self.now.evicted.count }
+    {
+        self.evicted.count
+    }
+
+    /// The entries with their weights, the newest first.
+    pub fn entries(&self) -> Result<Vec<(CacheEntryKey, usize)>>
+        ensures ok { IfOk result (λ list. list.items ≡ entries self.now.queues) }
+        ensures once { IsOnce (whole self.now.queues) }
+        ensures kind { IfErr result (λ e. e ≡ OutOfMemory) }
+    {
+        let mut list = Vec::with_capacity(self.alloc, self.queues.ring.len())?;
+        self.queues.ring.copy_into(&mut list)?;
+        Ok(list)
+    }
+
+    /// Whether an entry is tracked. That does not count as a use.
+    pub fn peek(&self, item: &CacheEntryKey) -> bool
+        ensures { result ≡ is_some (seen_of item.now (whole self.now.queues)) }
+    {
+        self.queues.ring.get(item).is_some()
+    }
+
+    /// Makes room for an entry, which is then added as the newest of its queue; one that is tracked
+    /// gets its weight, which is a use, and then entries go until the limits hold. Returns the
+    /// evicted entries, in the order in which they went; an entry above the limit goes itself, last
+    /// of all. `fresh_until` is not read.
+    pub fn admit(
+        &mut self,
+        item: CacheEntryKey,
+        size: usize,
+        _fresh_until: Moment,
+    ) -> Result<Vec<CacheEntryKey>>
+        ensures ok { IfOk result (λ out.
+            Admission (seen_of item (whole self.old.queues)) self.old item size self.new out.items) }
+        ensures once { IsOnce (whole self.old.queues) }
+        ensures kind { IfErr result (λ e. e ≡ OutOfMemory) }
+        ensures err { OnErr result (HasFailed self.old self.new) }
+    {
+        match self.queues.ring.get(&item) {
+            Some(before) => {
+                let weight = size;
+                self.admit_again(&item, before, Seen { weight, ..before })
+            }
+            None => self.admit_new(item, size),
+        }
+    }
+
+    /// Adds to the weight of an entry in place, up to `max_weight` (the largest `usize` if that is
+    /// `None`), which is no use; then entries go until the limits hold. A weight never decreases; an
+    /// entry that is not tracked is added with this weight, at least 1. Does not fail if the entry is
+    /// tracked and nothing is evicted.
+    pub fn increment_weight(
+        &mut self,
+        item: &CacheEntryKey,
+        delta: usize,
+        max_weight: Option<usize>,
+    ) -> Result<Vec<CacheEntryKey>>
+        ensures ok { IfOk result (λ out. Increment (seen_of item.now (whole self.old.queues))
+            self.old item.now delta max_weight self.new out.items) }
+        ensures within { (v : Seen)
+            → seen_of item.now (whole self.old.queues) ≡ Some v
+            → IsWithinAsList self.old.limits (entries (reseen_in item.now
+            (record v { weight = raised delta max_weight (Some v.weight) }) self.old.queues))
+            → IsOk result }
+        ensures once { IsOnce (whole self.old.queues) }
+        ensures kind { IfErr result (λ e. e ≡ OutOfMemory) }
+        ensures err { OnErr result (HasFailed self.old self.new) }
+    {
+        match self.queues.ring.get(item) {
+            Some(before) => {
+                let weight = raised_weight(Some(before.weight), delta, max_weight);
+                self.reweigh(item, before, Seen { weight, ..before })
+            }
+            None => {
+                let copy = item.copied()?;
+                self.admit_new(copy, raised_weight(None, delta, max_weight))
+            }
+        }
+    }
+
+    /// Removes an entry, if it is tracked. That is no eviction.
+    pub fn remove(&mut self, item: &CacheEntryKey)
+        ensures { self.new ≡ record self.old { queues = rest_in item.now self.old.queues } }
+    {
+        self.queues.ring.remove(item);
+    }
+
+    /// A use of an entry; one that is not tracked is added as the newest of its queue with this
+    /// weight. Returns whether it was tracked. Nothing is evicted; `fresh_until` is not read. Does
+    /// not fail if the entry is tracked.
+    pub fn access(
+        &mut self,
+        item: &CacheEntryKey,
+        size: usize,
+        _fresh_until: Moment,
+    ) -> Result<bool>
+        ensures was { IfOk result (λ was. was ≡ is_some (seen_of item.now (whole self.old.queues))) }
+        ensures ok { OnOk result (self.new
+            ≡ record self.old {
+              queues = accessed (seen_of item.now (whole self.old.queues)) item.now
+                  size self.old.queues;
+            }) }
+        ensures there { IsSome (seen_of item.now (whole self.old.queues)) → IsOk result }
+        ensures once { IsOnce (whole self.old.queues) }
+        ensures kind { IfErr result (λ e. e ≡ OutOfMemory) }
+        ensures err { OnErr result (HasFailed self.old self.new) }
+    {
+        let Some(seen) = self.queues.ring.get(item) else {
+            return self.add(item, size);
+        };
+        self.touch(item, seen);
+        Ok(true)
+    }
+
+    // Adds a new entry.
+    fn add(&mut self, item: &CacheEntryKey, size: usize) -> Result<bool>
+        requires { seen_of item.now (whole self.old.queues) ≡ None }
+        ensures was { IfOk result (λ was. was ≡ false) }
+        ensures ok { OnOk result (self.new
+            ≡ record self.old {
+              queues = entered (is_ghost item.now self.old.queues.ghosts) item.now
+                  size self.old.queues;
+            }) }
+        ensures kind { IfErr result (λ e. e ≡ OutOfMemory) }
+        ensures err { OnErr result (HasFailed self.old self.new) }
+    {
+        let copy = item.copied()?;
+        self.queues.ring.settle()?;
+        let again = self.queues.comes_again(item);
+        self.queues.enter(copy, size, again)?;
+        Ok(false)
+    }
+
+    // Makes room, and then adds a new entry; if there is no room although no entry is left, it goes
+    // itself.
+    fn admit_new(&mut self, item: CacheEntryKey, size: usize) -> Result<Vec<CacheEntryKey>>
+        requires { seen_of item (whole self.old.queues) ≡ None }
+        ensures ok { IfOk result (λ out. Admits self.old item size self.new out.items) }
+        ensures kind { IfErr result (λ e. e ≡ OutOfMemory) }
+        ensures err { OnErr result (HasFailed self.old self.new) }
+    {
+        self.queues.ring.len(); // for the prover: its contract says that no entry occurs twice
+        let again = self.queues.comes_again(&item);
+        let out = self
+            .queues
+            .prepare(self.alloc, size, 1, self.limit, self.watermark)?;
+        if self
+            .queues
+            .ring
+            .has_room(size, 1, self.limit, self.watermark)
+        {
+            self.queues.enter(item, size, again)?;
+            return Ok(let_go(&mut self.queues.ring, &mut self.evicted, out));
+        }
+        let mut out = let_go(&mut self.queues.ring, &mut self.evicted, out);
+        self.evicted.add(size as u128, 1);
+        out.push_reserved(item);
+        Ok(out)
+    }
+
+    // A use of an entry, which has another record then; and entries go until the limits hold.
+    fn admit_again(
+        &mut self,
+        item: &CacheEntryKey,
+        before: Seen,
+        after: Seen,
+    ) -> Result<Vec<CacheEntryKey>>
+        requires { seen_of item.now (whole self.old.queues) ≡ Some before }
+        ensures ok { IfOk result (λ out.
+            KeepsLimits self.old (touched item.now after self.old.queues) self.new out.items) }
+        ensures kind { IfErr result (λ e. e ≡ OutOfMemory) }
+        ensures err { OnErr result (HasFailed self.old self.new) }
+    {
+        self.total_items(); // for the prover: its contract says that no entry occurs twice
+        self.touch(item, after);
+        self.keep_limits_or_set(item, before)
+    }
+
+    // Sets what is known of an entry in place, and then lets entries go until the limits hold.
+    fn reweigh(
+        &mut self,
+        item: &CacheEntryKey,
+        before: Seen,
+        after: Seen,
+    ) -> Result<Vec<CacheEntryKey>>
+        requires { seen_of item.now (whole self.old.queues) ≡ Some before }
+        ensures ok { IfOk result (λ out.
+            KeepsLimits self.old (reseen_in item.now after self.old.queues) self.new out.items) }
+        ensures within { IsWithinAsList self.old.limits
+            (entries (reseen_in item.now after self.old.queues))
+            → IsOk result }
+        ensures kind { IfErr result (λ e. e ≡ OutOfMemory) }
+        ensures err { OnErr result (HasFailed self.old self.new) }
+    {
+        self.set(item, after);
+        self.keep_limits_or_set(item, before)
+    }
+
+    // A use of an entry, which has this record then.
+    fn touch(&mut self, item: &CacheEntryKey, seen: Seen)
+        ensures { self.new ≡ record self.old { queues = touched item.now seen self.old.queues } }
+    {
+        self.queues.touch(item, seen);
+    }
+
+    // Sets what is known of an entry in place.
+    fn set(&mut self, item: &CacheEntryKey, seen: Seen)
+        ensures { self.new ≡ record self.old { queues = reseen_in item.now seen self.old.queues } }
+    {
+        self.queues.ring.set(item, seen);
+    }
+
+    // Evicts until the limits hold. If that fails, what is known of an entry is set.
+    fn keep_limits_or_set(
+        &mut self,
+        item: &CacheEntryKey,
+        before: Seen,
+    ) -> Result<Vec<CacheEntryKey>>
+        requires { IsSome (seen_of item.now (whole self.old.queues)) }
+        ensures ok { IfOk result (λ out. KeepsLimits self.old self.old.queues self.new out.items) }
+        ensures within { IsWithinAsList self.old.limits (entries self.old.queues) → IsOk result }
+        ensures kind { IfErr result (λ e. e ≡ OutOfMemory) }
+        ensures err { OnErr result (HasFailedWith item.now before self.old self.new) }
+    {
+        match self.keep_limits() {
+            Ok(out) => Ok(out),
+            Err(error) => {
+                self.set(item, before);
+                Err(error)
+            }
+        }
+    }
+
+    // Evicts until the limits hold.
+    fn keep_limits(&mut self) -> Result<Vec<CacheEntryKey>>
+        ensures ok { IfOk result (λ out. KeepsLimits self.old self.old.queues self.new out.items) }
+        ensures within { IsWithinAsList self.old.limits (entries self.old.queues) → IsOk result }
+        ensures kind { IfErr result (λ e. e ≡ OutOfMemory) }
+        ensures err { OnErr result (HasFailed self.old self.new) }
+    {
+        self.queues.ring.len(); // for the prover: its contract says that no entry occurs twice
+        if self.is_within() {
+            self.evicted.add(0, 0); // for the prover: its contract says that the totals stop at the largest number
+            return Ok(Vec::new(self.alloc));
+        }
+        let out = self
+            .queues
+            .prepare(self.alloc, 0, 0, self.limit, self.watermark)?;
+        Ok(let_go(&mut self.queues.ring, &mut self.evicted, out))
+    }
+
+    // Whether the limits hold.
+    fn is_within(&self) -> bool
+        ensures yes { result ≡ true → IsWithinAsList self.now.limits (entries self.now.queues) }
+        ensures not { result ≡ false → ¬ IsWithinAsList self.now.limits (entries self.now.queues) }
+    {
+        self.queues.ring.weight() <= self.limit as u128
+            && self
+                .watermark
+                .is_none_or(|most| self.queues.ring.len() <= most)
+    }
+}
+
+impl EvictionManager for Manager {
+    ghost use Rattle.pcache_evict.specs.Listed.{map_of};
+    ghost use Rattle.pcache_policies.specs.TwoQueues.{entries};
+
+    ghost tracked = { λ m. map_of (entries m.queues) };
+
+    ghost limits = { λ m. m.limits };
+
+    ghost evicted = { λ m. m.evicted };
+
+    fn total_size(&self) -> usize {
+        Manager::total_size(self)
+    }
+
+    fn total_items(&self) -> usize {
+        Manager::total_items(self)
+    }
+
+    fn evicted_size(&self) -> usize {
+        Manager::evicted_size(self)
+    }
+
+    fn evicted_items(&self) -> usize {
+        Manager::evicted_items(self)
+    }
+
+    fn entries(&self) -> Result<Vec<(CacheEntryKey, usize)>> {
+        let all = Manager::entries(self)?;
+        Ok(all)
+    }
+
+    fn admit(
+        &mut self,
+        item: CacheEntryKey,
+        size: usize,
+        fresh_until: Moment,
+    ) -> Result<Vec<CacheEntryKey>> {
+        let out = Manager::admit(self, item, size, fresh_until)?;
+        Ok(out)
+    }
+
+    fn increment_weight(
+        &mut self,
+        item: &CacheEntryKey,
+        delta: usize,
+        max_weight: Option<usize>,
+    ) -> Result<Vec<CacheEntryKey>> {
+        let out = Manager::increment_weight(self, item, delta, max_weight)?;
+        Ok(out)
+    }
+
+    fn remove(&mut self, item: &CacheEntryKey) {
+        Manager::remove(self, item);
+    }
+
+    fn access(&mut self, item: &CacheEntryKey, size: usize, fresh_until: Moment) -> Result<bool> {
+        let was = Manager::access(self, item, size, fresh_until)?;
+        Ok(was)
+    }
+
+    fn peek(&self, item: &CacheEntryKey) -> bool {
+        Manager::peek(self, item)
+    }
+}
