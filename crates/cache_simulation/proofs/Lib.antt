@@ -4,3 +4,4 @@ pub mod ReadLines
 pub mod Replaying
 pub mod Standing
 pub mod Tells
+pub mod ToldApart

@@ -9,8 +9,8 @@ use crate::cache::{Cache, Span};
 use crate::options::{Options, Policy, Setting, Size};
 use crate::report::Row;
 use crate::run::Request;
-use pcache_base::error::Result;
 use crate::side_by_side::play_each;
+use pcache_base::error::Result;
 use std::alloc::Global;
 use std::thread::Threads;
 

@@ -26,7 +26,14 @@ pub(crate) fn play_each<R: Threads + Sync>(
         return play_in_turn(requests, caches);
     }
     let (some, others) = caches.split_at_mut(caches.len() / 2);
-    play_both(rt, threads / 2, threads - threads / 2, requests, some, others)
+    play_both(
+        rt,
+        threads / 2,
+        threads - threads / 2,
+        requests,
+        some,
+        others,
+    )
 }
 
 // Makes them to these caches in one thread, and to the others in another one.

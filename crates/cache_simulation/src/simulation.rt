@@ -2,8 +2,8 @@
 
 use crate::bounds::{Bound, find_bounds, write_bounds};
 use crate::layout::Refused;
-use crate::options::{Options, Policy};
 use crate::names::front;
+use crate::options::{Options, Policy};
 use crate::player::Player;
 use crate::progress::Progress;
 use crate::reader::Reader;
