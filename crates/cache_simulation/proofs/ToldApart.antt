@@ -1,9 +1,8 @@
 -- Keys that stand by themselves are told apart, from each other and from longer ones.
-use Rattle.std.proofs.Common.{◌≡◌, ◌∙◌, ℕ, ◌+◌, ◌-◌, ◌≤◌, ◌<◌, ◌++◌, ◌∷◌, [], List, Option, None, Some, true, false, cond, ap, sym, refl, length, take, drop, replicate, length-append, arith}
+use Rattle.std.proofs.Common.{⊎_elim, ◌≡◌, ◌∙◌, ℕ, ◌+◌, ◌-◌, ◌≤◌, ◌<◌, ◌++◌, ◌∷◌, [], List, Option, None, Some, true, false, cond, ap, sym, refl, length, take, drop, replicate, length-append, arith}
 use Rattle.std.specs.Prelude.{nat_le}
-use Rattle.core.proofs.str.Laws.{order}
 use Rattle.std.proofs.Math.Seq.{drop-append_seam, take-append_seam}
-use Rattle.std.proofs.lemmas.Bool.{le-leb, lt-leb}
+use Rattle.std.proofs.lemmas.Bool.{le-leb, lt-leb, cases_lt}
 use Rattle.std.proofs.lemmas.List.{append_assoc, length-replicate, length-drop, take-append-drop}
 use Rattle.pcache_base.specs.Blake2b.{blake2b_128}
 use Rattle.pcache_base.specs.declared.key.CompactCacheKey.{CompactCacheKey}
@@ -26,37 +25,39 @@ long a many = ap (λ t. cond t (by_itself a) (without_tag (blake2b_128 a) (Some 
 
 -- what is read off them
 
-head_of : List ℕ → ℕ
+abbrev head_of : List ℕ → ℕ
 head_of [] = 0
 head_of (x ∷ xs) = x
 
-parts_of : Option (List ℕ) → ℕ
+abbrev parts_of : Option (List ℕ) → ℕ
 parts_of None = 0
 parts_of (Some x) = 1
 
-second_of : Option (List ℕ) → List ℕ
+abbrev second_of : Option (List ℕ) → List ℕ
 second_of None = []
 second_of (Some x) = x
 
 ends : (part : List ℕ) → length part ≤ 15 → drop 15 (padded part) ≡ length part ∷ []
 ends part few =
-    let zeros = replicate (15 - length part) 0 in
+    let zeros : List ℕ = replicate (15 - length part) 0 in
     let joined = length-append part zeros in
-    let filled = length-replicate (15 - length part) 0 in
+    let filled : length zeros ≡ 15 - length part = length-replicate (15 - length part) 0 in
     let whole : length (part ++ zeros) ≡ 15 = omega arith in
-    ap (λ n. drop n (padded part)) (sym whole) ∙ ap (drop (length (part ++ zeros))) (sym (append_assoc part zeros (length part ∷ []))) ∙ drop-append_seam (part ++ zeros) (length part ∷ [])
+    ap (λ n. drop n (padded part)) (sym whole) ∙ drop-append_seam (part ++ zeros) (length part ∷ [])
 
 padded-same : (a b : List ℕ) → length a ≤ 15 → length b ≤ 15 → padded a ≡ padded b → a ≡ b
 padded-same a b few_a few_b same =
     let long : length a ≡ length b = ap head_of (sym (ends a few_a) ∙ ap (drop 15) same ∙ ends b few_b) in
-    sym (take-append_seam a (replicate (15 - length a) 0 ++ length a ∷ [])) ∙ ap (take (length a)) same ∙ ap (λ n. take n (padded b)) long ∙ take-append_seam b (replicate (15 - length b) 0 ++ length b ∷ [])
+    let front : (c : List ℕ) → take (length c) (padded c) ≡ c = λ c.
+        ap (take (length c)) (append_assoc {A = ℕ} c (replicate (15 - length c) 0) (length c ∷ [])) ∙ take-append_seam c (replicate (15 - length c) 0 ++ length c ∷ []) in
+    sym (front a) ∙ ap (take (length a)) same ∙ ap (λ n. take n (padded b)) long ∙ front b
 
 -- a key above fifteen bytes has a second part
 has-second : (b : List ℕ) → 15 < length b → parts_of (stands_by b).variance ≡ 1
-has-second b many = ⊎_elim (λ m. ap (λ k. parts_of k.variance) (long b m)) (λ few. ap (λ k. parts_of k.variance) (middle b many few)) (order 31 (length b))
+has-second b many = ⊎_elim (λ m. ap (λ k. parts_of k.variance) (long b m)) (λ few. ap (λ k. parts_of k.variance) (middle b many few)) (cases_lt 31 (length b))
 
 pub told-apart : (a b : List ℕ) → length a ≤ 31 → stands_by a ≡ stands_by b → a ≡ b
-told-apart a b few same = ⊎_elim of_middle of_short (order 15 (length a))
+told-apart a b few same = ⊎_elim of_middle of_short (cases_lt 15 (length a))
   where
     of_short : length a ≤ 15 → a ≡ b
     of_short few_a =
@@ -64,7 +65,7 @@ told-apart a b few same = ⊎_elim of_middle of_short (order 15 (length a))
         ⊎_elim
         (λ many_b. let one = ap (λ k. parts_of k.variance) is ∙ has-second b many_b in absurd (omega arith))
         (λ few_b. padded-same a b few_a few_b (ap (λ k. k.primary) (is ∙ short b few_b)))
-        (order 15 (length b))
+        (cases_lt 15 (length b))
 
     of_middle : 15 < length a → a ≡ b
     of_middle many_a =
@@ -83,5 +84,5 @@ told-apart a b few same = ⊎_elim of_middle of_short (order 15 (length a))
         let rest = padded-same (drop 16 a) (drop 16 b) few_a few_b (ap (λ k. second_of k.variance) both) in
         sym (take-append-drop 16 a) ∙ ap (λ x. x ++ drop 16 a) (ap (λ k. k.primary) both) ∙ ap (λ x. take 16 b ++ x) rest ∙ take-append-drop 16 b)
         (λ few_b. let none = ap (λ k. parts_of k.variance) (is ∙ short b few_b) in absurd (omega arith))
-        (order 15 (length b)))
-        (order 31 (length b))
+        (cases_lt 15 (length b)))
+        (cases_lt 31 (length b))

@@ -1,6 +1,6 @@
 //! What a key of a trace stands by: by itself if it is short, so that it is told apart from all others and nothing has to be
 //! hashed; otherwise by its hash.
-ghost use Rattle.std.specs.Prelude.{◌≡◌, ◌≤◌, length};
+ghost use Rattle.std.specs.Prelude.{◌≡◌, ◌≤◌, [], length};
 ghost use Rattle.cache_simulation.specs.Names.{padded, stands_by, by_hash, by_itself};
 ghost use Rattle.cache_simulation.specs.Reading.{front_of};
 

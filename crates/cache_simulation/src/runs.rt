@@ -61,7 +61,8 @@ impl Runs {
         ensures setting { self.new.setting ≡ self.old.setting }
         ensures kind { IfErr result (λ e. (e ≡ OutOfMemory) ⊎ (e ≡ NumbersExhausted)) }
     {
-        play_each(rt, self.threads, requests, self.caches.as_mut_slice())
+        play_each(rt, self.threads, requests, self.caches.as_mut_slice())?;
+        Ok(())
     }
 
     /// Counts anew from here on.

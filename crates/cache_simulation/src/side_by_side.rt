@@ -1,5 +1,5 @@
 //! Caches that are played side by side, each in one thread at a time.
-ghost use Rattle.std.specs.Prelude.{◌≡◌, List, OnOk, IfErr, ◌⊎◌};
+ghost use Rattle.std.specs.Prelude.{◌≡◌, ◌<◌, List, OnOk, IfErr, ◌⊎◌};
 ghost use Rattle.pcache_base.specs.declared.error.ErrorType.TheVariants.{OutOfMemory, NumbersExhausted};
 ghost use Rattle.cache_simulation.specs.declared.run.Request.{Request};
 ghost use Rattle.cache_simulation.specs.Caches.{MakesEach};
@@ -33,7 +33,8 @@ pub(crate) fn play_each<R: Threads + Sync>(
         requests,
         some,
         others,
-    )
+    )?;
+    Ok(())
 }
 
 // Makes them to these caches in one thread, and to the others in another one.
@@ -46,23 +47,25 @@ fn play_both<R: Threads + Sync>(
     some: &mut [Cache],
     others: &mut [Cache],
 ) -> Result<()>
+    requires { (0 < here) × (0 < there) }
     ensures some { OnOk result (MakesEach requests.now some.old some.new) }
     ensures others { OnOk result (MakesEach requests.now others.old others.new) }
     ensures kind { IfErr result (λ e. (e ≡ OutOfMemory) ⊎ (e ≡ NumbersExhausted)) }
 {
     let mut first = || -> Result<()>
         requires { IsSync R.row }
-        ensures { OnOk result (MakesEach requests.entry.now some.entry.now some.exit.now)
-            × IfErr result (λ e. (e ≡ OutOfMemory) ⊎ (e ≡ NumbersExhausted)) }
+        ensures made { OnOk result (MakesEach requests.entry.now some.entry.now some.exit.now) }
+        ensures kind { IfErr result (λ e. (e ≡ OutOfMemory) ⊎ (e ≡ NumbersExhausted)) }
     { play_each(rt, here, requests, some) };
     let mut second = || -> Result<()>
         requires { IsSync R.row }
-        ensures { OnOk result (MakesEach requests.entry.now others.entry.now others.exit.now)
-            × IfErr result (λ e. (e ≡ OutOfMemory) ⊎ (e ≡ NumbersExhausted)) }
+        ensures made { OnOk result (MakesEach requests.entry.now others.entry.now others.exit.now) }
+        ensures kind { IfErr result (λ e. (e ≡ OutOfMemory) ⊎ (e ≡ NumbersExhausted)) }
     { play_each(rt, there, requests, others) };
     let (done, too) = join_mut(rt, &mut first, &mut second);
     done?;
-    too
+    too?;
+    Ok(())
 }
 
 // Makes these requests to one cache after the other.
