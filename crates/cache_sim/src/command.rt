@@ -94,6 +94,9 @@ fn report<'a>(alloc: Global, command: Command<'a>) -> Result<Command<'a>, AllocE
                 .default_value("table")
                 .help("table, csv, or json with an object a line"),
         )?
+        .arg(option(alloc, "threads", "NUMBER").help(
+            "how many threads play at most; as many as there are processors without it",
+        ))?
         .arg(option(alloc, "plot", "FILE").help(
             "a file for a drawing in SVG: the ratio of hits by size",
         ))
@@ -124,5 +127,6 @@ pub fn words<'a>(matches: &ArgMatches<'a>) -> Words<'a> {
         format: matches.get_str("format").unwrap_or(""),
         plot: matches.get_str("plot"),
         bad_lines: matches.get_str("bad-lines").unwrap_or(""),
+        threads: matches.get_str("threads"),
     }
 }

@@ -9,6 +9,8 @@ use cache_simulation::simulation::{Stop, simulate};
 use clap::ArgMatches;
 use std::alloc::Global;
 use std::process::ExitCode;
+use std::rt::{Clock, Files};
+use std::thread::Threads;
 use std::{env, io};
 
 fn main(rt: HostRuntime) -> ExitCode {
@@ -22,7 +24,7 @@ fn main(rt: HostRuntime) -> ExitCode {
         return ExitCode::FAILURE;
     };
     match command.try_get_matches_from(args.as_slice()) {
-        Ok(matches) => run(&rt, rt.alloc(), &matches),
+        Ok(matches) => run(&rt, &rt, rt.alloc(), &matches),
         Err(error) => {
             let _ = error.print(&rt);
             ExitCode::from(error.exit_code() as u8)
@@ -40,13 +42,19 @@ fn ended(rt: &HostRuntime, end: Result<(), Stop>) -> ExitCode {
     }
 }
 
-fn run(rt: &HostRuntime, alloc: Global, matches: &ArgMatches<'_>) -> ExitCode {
+// The runtime is passed a second time for its threads, which it has in `main` alone.
+fn run<C: Clock + Files + Threads + Sync>(
+    rt: &HostRuntime,
+    host: &C,
+    alloc: Global,
+    matches: &ArgMatches<'_>,
+) -> ExitCode {
     let words = command::words(matches);
     match options::read(alloc, &words) {
         Ok(options) => {
             let mut errors = rt.stderr();
             let end = simulate(
-                rt,
+                host,
                 alloc,
                 &options,
                 rt.reader(),

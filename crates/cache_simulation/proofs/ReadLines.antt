@@ -2,33 +2,31 @@
 use Rattle.std.proofs.Common.{◌≡◌, ℕ, ◌+◌, length, List, [], ◌++◌, ◌∷◌, ap, sym, subst, ◌∙◌}
 use Rattle.std.specs.List.{cons_option}
 use Rattle.std.proofs.lemmas.List.Elements.{filter_map-append}
-use Rattle.pcache_base.specs.Blake2b.{blake2b_128}
 use Rattle.cache_simulation.specs.declared.cache.Span.{Span}
 use Rattle.cache_simulation.specs.declared.options.Setting.{Setting}
 use Rattle.cache_simulation.specs.declared.player.Player.{Player}
 use Rattle.cache_simulation.specs.declared.report.Row.{Row}
 use Rattle.cache_simulation.specs.declared.run.Request.{Request}
 use Rattle.cache_simulation.specs.declared.runs.Runs.{Runs}
-use Rattle.cache_simulation.specs.declared.sample.Sample.{Sample}
 use Rattle.cache_simulation.specs.Caches.{HasPlayed, IsRow}
-use Rattle.cache_simulation.specs.Reading.{Line, line, request_by, request_of, requests_of, bytes_in, HasAsked, IsRowOf}
+use Rattle.cache_simulation.specs.Reading.{Line, request_of, requests_of, bytes_in, HasAsked, IsRowOf}
 use Rattle.cache_simulation.specs.Sampled.{expected, expected_bytes}
 
-pub moved-on : (s t : Sample) (before lines : List Line) (runs : Runs) → t ≡ s → HasPlayed (requests_of s before ++ requests_of s lines) [] runs → HasPlayed (requests_of t (before ++ lines)) [] runs
+pub moved-on : (s t : Setting) (before lines : List Line) (runs : Runs) → t ≡ s → HasPlayed (requests_of s before ++ requests_of s lines) [] runs → HasPlayed (requests_of t (before ++ lines)) [] runs
 moved-on s t before lines runs same h =
     subst (λ (r : List Request). HasPlayed r [] runs) (sym (filter_map-append (request_of s) before lines) ∙ ap (λ x. requests_of x (before ++ lines)) (sym same)) h
 
 -- one more line
-pub read-on : (s t : Sample) (before lines : List Line) (key hash : List ℕ) (size second : ℕ) (p : Player) → t ≡ s → hash ≡ blake2b_128 key → HasAsked (requests_of s before) (requests_of s lines ++ cons_option (request_by s hash size second) []) p → HasAsked (requests_of t before) (requests_of t (lines ++ line key size second ∷ [])) p
-read-on s t before lines key hash size second p same is h =
-    subst (λ (x : Sample). HasAsked (requests_of x before) (requests_of x (lines ++ line key size second ∷ [])) p) (sym same)
-    (subst (λ (r : List Request). HasAsked (requests_of s before) r p) (ap (λ k. requests_of s lines ++ cons_option (request_by s k size second) []) is ∙ sym (filter_map-append (request_of s) lines (line key size second ∷ []))) h)
+pub read-on : (s t : Setting) (before lines : List Line) (l : Line) (p : Player) → t ≡ s → HasAsked (requests_of s before) (requests_of s lines ++ cons_option (request_of s l) []) p → HasAsked (requests_of t before) (requests_of t (lines ++ l ∷ [])) p
+read-on s t before lines l p same h =
+    subst (λ (x : Setting). HasAsked (requests_of x before) (requests_of x (lines ++ l ∷ [])) p) (sym same)
+    (subst (λ (r : List Request). HasAsked (requests_of s before) r p) (sym (filter_map-append (request_of s) lines (l ∷ []))) h)
 
 -- a row of the requests made is a row of the lines that were read
 pub row-of : (setting other : Setting) (span : Span) (before lines : List Line) (row : Row) → other ≡ setting → span.from ≡ length before → span.until ≡ length before + length lines → span.all.requests ≡ length lines → span.all.bytes ≡ bytes_in lines
-    → IsRow other span (requests_of setting.sample before) (requests_of setting.sample lines) row → IsRowOf setting before lines row
+    → IsRow other span (requests_of setting before) (requests_of setting lines) row → IsRowOf setting before lines row
 row-of setting other span before lines row same begins ends requests bytes is =
-    let h = subst (λ (x : Setting). IsRow x span (requests_of setting.sample before) (requests_of setting.sample lines) row) same is in
+    let h = subst (λ (x : Setting). IsRow x span (requests_of setting before) (requests_of setting lines) row) same is in
     record {
       by = h.by;
       ran = h.ran;
@@ -38,6 +36,6 @@ row-of setting other span before lines row same begins ends requests bytes is =
       bytes = h.bytes ∙ ap (expected_bytes setting.sample.rate) bytes;
     }
 
--- the same requests of the same sample
-pub kept-on : (s t : Sample) (before lines : List Line) (p : Player) → t ≡ s → HasAsked (requests_of s before) (requests_of s lines) p → HasAsked (requests_of t before) (requests_of t lines) p
-kept-on s t before lines p same h = subst (λ (x : Sample). HasAsked (requests_of x before) (requests_of x lines) p) (sym same) h
+-- the same requests of the same setting
+pub kept-on : (s t : Setting) (before lines : List Line) (p : Player) → t ≡ s → HasAsked (requests_of s before) (requests_of s lines) p → HasAsked (requests_of t before) (requests_of t lines) p
+kept-on s t before lines p same h = subst (λ (x : Setting). HasAsked (requests_of x before) (requests_of x lines) p) (sym same) h

@@ -102,6 +102,10 @@ StandsIn setting before asked c = Stands before asked (rules_in setting c.size) 
 abbrev pub shape_of : Cache → Named × ℕ
 shape_of c = (policy_of c.run, c.size)
 
+-- each of these caches had these requests made to it after those that it had
+pub record MakesEach (requests : List Request) (old new : List Cache) : Type 0 where
+  pub each : (setting : Setting) (before asked : List Request) → All (StandsIn setting before asked) old → All (StandsIn setting before (asked ++ requests)) new
+
 -- all caches have
 abbrev pub HasPlayed : List Request → List Request → Runs → Type 0
 HasPlayed before asked runs = All (StandsIn runs.setting before asked) runs.caches.items

@@ -1,7 +1,7 @@
 //! The most hits that caches can have if all bodies have one size, beside the rows of the policies.
 
+use crate::names::front;
 use crate::options::{Options, Output, Setting};
-use crate::player::front;
 use crate::reader::Reader;
 use crate::report::{ratio, write_part, write_setting, write_settings};
 use crate::simulation::Stop;

@@ -1,10 +1,11 @@
 //! Laws of all runs of a manager over a trace.
-ghost use Rattle.std.specs.Prelude.{◌≡◌, List, []};
+ghost use Rattle.std.specs.Prelude.{◌≡◌, ◌≤◌, ℕ, List, [], length};
 ghost use Rattle.std.specs.FinMap as map;
 ghost use Rattle.pcache_evict.specs.Tracked.{Tracked, Limits, IsWithin};
 ghost use Rattle.pcache_evict.specs.Entry.{entry_cmp};
 ghost use Rattle.cache_simulation.specs.declared.run.Request.{Request};
 ghost use Rattle.cache_simulation.specs.Events.{Event, RunsTo, HitsStand};
+ghost use Rattle.cache_simulation.specs.Names.{stands_by};
 ghost use Rattle.cache_simulation.specs.Plays.{Rules, State, Plays};
 
 /// In every run that begins empty, a hit is of an entry that was added before and has not left
@@ -28,4 +29,9 @@ pub fn plays_are_runs()
     ensures { (rules : Rules) (s t : State) (requests : List Request) (es : List Event)
         → Plays rules s requests es t
         → RunsTo rules.limits s.tracked es t.tracked }
+{}
+
+/// A key of at most 31 bytes is told apart from all other keys, where none goes by its hash.
+pub fn short_keys_are_told_apart()
+    ensures { (short other : List ℕ) → length short ≤ 31 → stands_by short ≡ stands_by other → short ≡ other }
 {}

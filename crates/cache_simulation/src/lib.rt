@@ -8,6 +8,7 @@
 //! - `laws`: laws of all runs
 //! - `layout`: how the lines of a trace are read
 //! - `lines`: the lines of a reader, one after the other
+//! - `names`: what a key of a trace stands by
 //! - `options`: the words of the command line
 //! - `player`: the requests of a trace, on their way to the caches
 //! - `progress`: the progress of a simulation
@@ -26,6 +27,7 @@ pub mod freshness;
 pub mod laws;
 pub mod layout;
 mod lines;
+pub mod names;
 pub mod options;
 pub mod player;
 mod progress;
@@ -34,5 +36,6 @@ pub mod report;
 pub mod run;
 pub mod runs;
 pub mod sample;
+mod side_by_side;
 pub mod simulation;
 pub mod trace;

@@ -3,10 +3,13 @@ ghost use Rattle.std.specs.Prelude.{◌≡◌, option_map};
 ghost use Rattle.std.specs.Duration.{as_nanos};
 ghost use Rattle.cache_simulation.specs.Caches.{start_in, most_in};
 ghost use Rattle.cache_simulation.specs.Fresh.{none_fresh};
+ghost use Rattle.cache_simulation.specs.Reading.{named_in};
 ghost use Rattle.cache_simulation.specs.Sampled.{expected};
 
+use crate::names::{front, hashed, named};
 use crate::sample::{Sample, WHOLE};
 use crate::trace::{Columns, TraceType, is_digits};
+use pcache_base::key::{CompactCacheKey, hash_key};
 use std::alloc::{AllocError, Global};
 use std::fmt;
 use std::time::Duration;
@@ -132,6 +135,8 @@ pub struct Words<'a> {
     pub plot: Option<&'a str>,
     /// How many lines may be bad.
     pub bad_lines: &'a str,
+    /// How many threads play at most.
+    pub threads: Option<&'a str>,
 }
 
 /// The options that all caches of a simulation have in common.
@@ -150,9 +155,26 @@ pub struct Setting {
     pub ignores_size: bool,
     /// How many entries a cache may have, if that is limited.
     pub watermark: Option<usize>,
+    /// Whether a policy has shards, which go by the hashes of keys.
+    pub has_shards: bool,
 }
 
 impl Setting {
+    /// What a key stands by, if it is in the sample: by its hash if the sample or a policy goes by hashes, and
+    /// otherwise by itself if it is short.
+    pub fn named(&self, alloc: Global, key: &[u8]) -> Option<CompactCacheKey>
+        ensures { result ≡ named_in self.now key.now }
+    {
+        if self.sample.is_all() && !self.has_shards {
+            return Some(named(alloc, key));
+        }
+        let hash = hash_key(key);
+        if !self.sample.has(front(hash)) {
+            return None;
+        }
+        Some(hashed(alloc, hash))
+    }
+
     /// How many entries a cache of the sample may have, if that is limited.
     pub fn scaled_watermark(&self) -> Option<usize>
         ensures { result ≡ option_map (expected self.now.sample.rate) self.now.watermark }
@@ -210,6 +232,8 @@ pub struct Options {
     pub trace_type: Option<TraceType>,
     /// The columns of lines with commas, if they are given.
     pub columns: Option<Columns>,
+    /// How many threads play at most, if that is given.
+    pub threads: Option<usize>,
 }
 
 impl Options {
@@ -279,6 +303,7 @@ pub fn read<'a>(alloc: Global, words: &Words<'a>) -> Result<Options, Unusable<'a
         interval: interval(words.interval, words.plot)?,
         trace_type: trace_type(words.trace_type)?,
         columns: columns(words.columns)?,
+        threads: threads(words.threads)?,
     })
 }
 
@@ -295,6 +320,7 @@ fn read_setting<'a>(words: &Words<'a>) -> Result<Setting, Unusable<'a>> {
         passes_by: value("large", words.large, "pass or evict", large(words.large))?,
         ignores_size: words.ignores_size,
         watermark: watermark(words.watermark)?,
+        has_shards: has_shards(words.policy),
     })
 }
 
@@ -317,6 +343,8 @@ const SIZES: &str =
 
 const INTERVAL: &str =
     "a whole number from 1 and below 2^64, without --plot, which draws the whole trace";
+
+const THREADS: &str = "a whole number from 1 and below 2^64";
 
 const TRACE_TYPES: &str = "csv, cdn, twitter or oracleGeneral";
 
@@ -377,6 +405,21 @@ fn interval<'a>(text: Option<&'a str>, plot: Option<&'a str>) -> Result<Option<u
         });
     }
     Ok(Some(every))
+}
+
+fn threads(text: Option<&str>) -> Result<Option<usize>, Unusable<'_>> {
+    let Some(text) = text else {
+        return Ok(None);
+    };
+    let number = value("threads", text, THREADS, size_number(text))?;
+    if number == 0 {
+        return Err(Unusable::Value {
+            option: "threads",
+            value: text,
+            choices: THREADS,
+        });
+    }
+    Ok(Some(number))
 }
 
 fn trace_type(text: Option<&str>) -> Result<Option<TraceType>, Unusable<'_>> {
@@ -453,6 +496,12 @@ fn policies(alloc: Global, names: &str) -> Result<Vec<Policy>, Unusable<'_>> {
         }
     }
     Ok(policies)
+}
+
+fn has_shards(names: &str) -> bool {
+    names
+        .split(',')
+        .any(|name| Policy::named(name.trim()) == Some(Policy::Sharded))
 }
 
 // Whether the most hits are wanted, which are told of a file whose bodies have one size and no end.

@@ -4,7 +4,8 @@ ghost use Rattle.std.specs.List.{All, cons_option};
 ghost use Rattle.pcache_base.specs.declared.error.ErrorType.TheVariants.{OutOfMemory, NumbersExhausted};
 ghost use Rattle.cache_simulation.specs.declared.run.Request.{Request};
 ghost use Rattle.cache_simulation.specs.Caches.{HasPlayed};
-ghost use Rattle.cache_simulation.specs.Reading.{Line, line, request_with, HasAsked, HasRead, IsRowOf, front_of, request_by, request_of};
+ghost use Rattle.cache_simulation.specs.Reading.{Line, line, request_with, HasAsked, HasRead, IsRowOf, request_of};
+ghost use Rattle.pcache_base.specs.declared.key.CompactCacheKey.{CompactCacheKey};
 
 use crate::cache::Span;
 use crate::counts::Counts;
@@ -13,14 +14,14 @@ use crate::report::Row;
 use crate::run::Request;
 use crate::runs::Runs;
 use pcache_base::error::{Error, ErrorType, Result};
-use pcache_base::key::{CompactCacheKey, HashBinary, hash_key};
+use pcache_base::key::CompactCacheKey;
 use pcache_base::moment::Moment;
-use pcache_base::text::Text;
 use pcache_evict::eviction::CacheEntryKey;
 use std::alloc::Global;
+use std::thread::Threads;
 
 // How many requests are read before they are made to each cache in turn.
-const BATCH: usize = 1024;
+const BATCH: usize = 4096;
 
 /// The caches of a simulation, with the requests that are still to be made to them.
 ///
@@ -39,14 +40,14 @@ pub struct Player {
 
 impl Player {
     /// The caches that the options ask for, over a trace whose bodies have `distinct` bytes
-    /// altogether, each counted once.
-    pub fn new(alloc: Global, options: &Options, distinct: u64) -> Result<Player>
+    /// altogether, each counted once. At most so many threads play to them at once.
+    pub fn new(alloc: Global, options: &Options, distinct: u64, threads: usize) -> Result<Player>
         ensures none { IfOk result (λ p. HasRead [] [] p) }
         ensures setting { IfOk result (λ p. p.runs.setting ≡ options.now.setting) }
         ensures kind { IfErr result (λ e. e ≡ OutOfMemory) }
     {
         Ok(Player {
-            runs: Runs::new(alloc, options, distinct)?,
+            runs: Runs::new(alloc, options, distinct, threads)?,
             batch: Vec::new(alloc),
             from: 0,
             all: Counts::none(),
@@ -55,32 +56,38 @@ impl Player {
 
     /// Takes a line: a body of this size for a key, at some second. Its request is made if the key is in
     /// the sample, and it returns whether it is.
-    pub fn take(&mut self, key: &[u8], size: usize, second: u64) -> Result<bool>
+    pub fn take<R: Threads + Sync>(
+        &mut self,
+        rt: &R,
+        key: &[u8],
+        size: usize,
+        second: u64,
+    ) -> Result<bool>
         ensures read { OnOk result ((before lines : List Line)
             → HasRead before lines self.old
             → HasRead before (lines ++ line key.now size second ∷ []) self.new) }
         ensures sampled { IfOk result (λ is. is
-            ≡ is_some (request_of self.old.runs.setting.sample (line key.now size second))) }
+            ≡ is_some (request_of self.old.runs.setting (line key.now size second))) }
         ensures setting { self.new.runs.setting ≡ self.old.runs.setting }
         ensures kind { IfErr result (λ e. (e ≡ OutOfMemory) ⊎ (e ≡ NumbersExhausted)) }
     {
         if self.all.is_full() {
             return Err(Error::new(ErrorType::NumbersExhausted));
         }
-        let is_sampled = self.pick(hash_key(key), size, second)?;
+        let is_sampled = self.pick(rt, key, size, second)?;
         self.all.note(size, false);
         Ok(is_sampled)
     }
 
     /// Counts anew from here on.
-    pub fn mark(&mut self) -> Result<()>
+    pub fn mark<R: Threads + Sync>(&mut self, rt: &R) -> Result<()>
         ensures read { OnOk result ((before lines : List Line)
             → HasRead before lines self.old
             → HasRead (before ++ lines) [] self.new) }
         ensures setting { self.new.runs.setting ≡ self.old.runs.setting }
         ensures kind { IfErr result (λ e. (e ≡ OutOfMemory) ⊎ (e ≡ NumbersExhausted)) }
     {
-        self.play()?;
+        self.play(rt)?;
         self.from = self.until()?;
         self.all = Counts::none();
         self.runs.mark();
@@ -89,7 +96,7 @@ impl Player {
 
     /// The results of each cache over the lines since the mark, by policy and size in the order in which they were
     /// given.
-    pub fn rows(&mut self) -> Result<Vec<Row>>
+    pub fn rows<R: Threads + Sync>(&mut self, rt: &R) -> Result<Vec<Row>>
         ensures rows { IfOk result (λ rows. (before lines : List Line)
             → HasRead before lines self.old
             → All (IsRowOf self.old.runs.setting before lines) rows.items) }
@@ -99,7 +106,7 @@ impl Player {
         ensures setting { self.new.runs.setting ≡ self.old.runs.setting }
         ensures kind { IfErr result (λ e. (e ≡ OutOfMemory) ⊎ (e ≡ NumbersExhausted)) }
     {
-        self.play()?;
+        self.play(rt)?;
         let span = Span {
             from: self.from,
             until: self.until()?,
@@ -126,47 +133,58 @@ impl Player {
         }
     }
 
-    // Asks for a body, if the key of this hash is in the sample.
-    fn pick(&mut self, primary: HashBinary, size: usize, second: u64) -> Result<bool>
+    // Asks for a body, if its key is in the sample.
+    fn pick<R: Threads + Sync>(
+        &mut self,
+        rt: &R,
+        key: &[u8],
+        size: usize,
+        second: u64,
+    ) -> Result<bool>
         ensures asked { OnOk result ((before asked : List Request)
             → HasAsked before asked self.old
             → HasAsked before (asked ++ cons_option
-            (request_by self.old.runs.setting.sample primary size second) []) self.new) }
+            (request_of self.old.runs.setting (line key.now size second)) []) self.new) }
         ensures sampled { IfOk result (λ is. is
-            ≡ is_some (request_by self.old.runs.setting.sample primary size second)) }
+            ≡ is_some (request_of self.old.runs.setting (line key.now size second))) }
         ensures setting { self.new.runs.setting ≡ self.old.runs.setting }
         ensures from { self.new.from ≡ self.old.from }
         ensures all { self.new.all ≡ self.old.all }
         ensures kind { IfErr result (λ e. (e ≡ OutOfMemory) ⊎ (e ≡ NumbersExhausted)) }
     {
-        if !self.runs.setting.sample.has(front(primary)) {
+        let Some(key) = self.runs.setting.named(self.runs.alloc, key) else {
             return Ok(false);
-        }
-        self.ask(primary, size, second)?;
+        };
+        self.ask(rt, key, size, second)?;
         Ok(true)
     }
 
     // Adds a request to those that wait, and makes them if they are many.
-    fn ask(&mut self, primary: HashBinary, size: usize, second: u64) -> Result<()>
+    fn ask<R: Threads + Sync>(
+        &mut self,
+        rt: &R,
+        key: CompactCacheKey,
+        size: usize,
+        second: u64,
+    ) -> Result<()>
         ensures asked { OnOk result ((before asked : List Request)
             → HasAsked before asked self.old
-            → HasAsked before (asked ++ request_with primary size second ∷ []) self.new) }
+            → HasAsked before (asked ++ request_with key size second ∷ []) self.new) }
         ensures setting { self.new.runs.setting ≡ self.old.runs.setting }
         ensures from { self.new.from ≡ self.old.from }
         ensures all { self.new.all ≡ self.old.all }
         ensures kind { IfErr result (λ e. (e ≡ OutOfMemory) ⊎ (e ≡ NumbersExhausted)) }
     {
-        self.batch
-            .push(request(self.runs.alloc, primary, size, second))?;
+        self.batch.push(request(key, size, second))?;
         if self.batch.len() < BATCH {
             return Ok(());
         }
-        self.play()?;
+        self.play(rt)?;
         Ok(())
     }
 
     // Makes the requests that wait.
-    fn play(&mut self) -> Result<()>
+    fn play<R: Threads + Sync>(&mut self, rt: &R) -> Result<()>
         ensures asked { OnOk result ((before asked : List Request)
             → HasAsked before asked self.old
             → HasPlayed before asked self.new.runs) }
@@ -176,29 +194,17 @@ impl Player {
         ensures all { self.new.all ≡ self.old.all }
         ensures kind { IfErr result (λ e. (e ≡ OutOfMemory) ⊎ (e ≡ NumbersExhausted)) }
     {
-        self.runs.play(self.batch.as_slice())?;
+        self.runs.play(rt, self.batch.as_slice())?;
         self.batch.clear();
         Ok(())
     }
 }
 
-// The first eight bytes of a hash as a number.
-#[tactic(auto, unfolding(pcache_base::specs::Key::number_of))]
-pub(crate) fn front(hash: HashBinary) -> u64
-    ensures { result ≡ front_of hash }
-{
-    (u128::from_be_bytes(hash) >> 64) as u64
-}
-
-fn request(alloc: Global, primary: HashBinary, size: usize, second: u64) -> Request
-    ensures { result ≡ request_with primary size second }
+fn request(key: CompactCacheKey, size: usize, second: u64) -> Request
+    ensures { result ≡ request_with key size second }
 {
     Request {
-        item: CacheEntryKey::key_only(CompactCacheKey {
-            primary,
-            variance: None,
-            user_tag: Text::new(String::new(alloc)),
-        }),
+        item: CacheEntryKey::key_only(key),
         size,
         time: Moment::from_secs(second),
     }

@@ -9,21 +9,25 @@ use crate::cache::{Cache, Span};
 use crate::options::{Options, Policy, Setting, Size};
 use crate::report::Row;
 use crate::run::Request;
+use crate::side_by_side::play_each;
 use pcache_base::error::Result;
 use std::alloc::Global;
+use std::thread::Threads;
 
 /// The caches of a simulation, for each policy one of each size.
 #[derive(Drop)]
 pub struct Runs {
     pub(crate) alloc: Global,
     pub(crate) setting: Setting,
+    // How many threads may play at once.
+    threads: usize,
     caches: Vec<Cache>,
 }
 
 impl Runs {
     /// The caches that the options ask for, over a trace whose bodies have `distinct` bytes
-    /// altogether, each counted once.
-    pub fn new(alloc: Global, options: &Options, distinct: u64) -> Result<Runs>
+    /// altogether, each counted once. At most so many threads play to them at once.
+    pub fn new(alloc: Global, options: &Options, distinct: u64, threads: usize) -> Result<Runs>
         ensures empty { IfOk result (λ r. HasPlayed [] [] r) }
         ensures setting { IfOk result (λ r. r.setting ≡ options.now.setting) }
         ensures kind { IfErr result (λ e. e ≡ OutOfMemory) }
@@ -43,21 +47,21 @@ impl Runs {
         Ok(Runs {
             alloc,
             setting,
+            threads,
             caches,
         })
     }
 
-    /// Makes these requests to each cache.
-    pub fn play(&mut self, requests: &[Request]) -> Result<()>
+    /// Makes these requests to each cache, in threads of their own where they can be made. What a cache does
+    /// with them is the same however many there are.
+    pub fn play<R: Threads + Sync>(&mut self, rt: &R, requests: &[Request]) -> Result<()>
         ensures served { OnOk result ((before asked : List Request)
             → HasPlayed before asked self.old
             → HasPlayed before (asked ++ requests.now) self.new) }
         ensures setting { self.new.setting ≡ self.old.setting }
         ensures kind { IfErr result (λ e. (e ≡ OutOfMemory) ⊎ (e ≡ NumbersExhausted)) }
     {
-        for cache in self.caches.iter_mut() {
-            cache.play(requests)?;
-        }
+        play_each(rt, self.threads, requests, self.caches.as_mut_slice())?;
         Ok(())
     }
 

@@ -2,8 +2,9 @@
 
 use crate::bounds::{Bound, find_bounds, write_bounds};
 use crate::layout::Refused;
+use crate::names::front;
 use crate::options::{Options, Policy};
-use crate::player::{Player, front};
+use crate::player::Player;
 use crate::progress::Progress;
 use crate::reader::Reader;
 use crate::report::{Row, draw, write_rows};
@@ -13,7 +14,8 @@ use std::alloc::Global;
 use std::collections::HashSet;
 use std::io::{BufWriter, Read, Write};
 use std::rt::{Clock, Files};
-use std::{fs, io};
+use std::thread::Threads;
+use std::{fs, io, thread};
 
 // After how many lines the progress is written.
 const LINES_BETWEEN: u64 = 1_000_000;
@@ -41,7 +43,7 @@ pub enum Stop {
 
 /// Reads a trace, plays it to each cache that the options ask for, and writes the results. The progress is written
 /// to `errors`, and so are bad lines. The trace is `input` if the options name no file.
-pub fn simulate<C: Clock + Files, R: Read + Drop, W: Write + Drop, E: Write>(
+pub fn simulate<C: Clock + Files + Threads + Sync, R: Read + Drop, W: Write + Drop, E: Write>(
     rt: &C,
     alloc: Global,
     options: &Options,
@@ -50,7 +52,8 @@ pub fn simulate<C: Clock + Files, R: Read + Drop, W: Write + Drop, E: Write>(
     errors: &mut E,
 ) -> Result<(), Stop> {
     let distinct = distinct(rt, alloc, options, errors)?;
-    let Ok(mut player) = Player::new(alloc, options, distinct) else {
+    let threads = threads(rt, options);
+    let Ok(mut player) = Player::new(alloc, options, distinct, threads) else {
         return Err(Stop::Memory);
     };
     let mut rows = Vec::new(alloc);
@@ -60,7 +63,7 @@ pub fn simulate<C: Clock + Files, R: Read + Drop, W: Write + Drop, E: Write>(
         return Err(Stop::NoneCounted);
     }
     read.warn(options, errors)?;
-    take_rows(&mut player, &mut rows)?;
+    take_rows(rt, &mut player, &mut rows)?;
     let until = player.until().map_err(|_| Stop::Memory)?;
     let bounds = find_bounds(rt, alloc, options, distinct, until, errors)?;
     report(
@@ -78,7 +81,7 @@ pub fn simulate<C: Clock + Files, R: Read + Drop, W: Write + Drop, E: Write>(
 }
 
 // Plays the trace that the options name, or `input` if they name no file.
-fn read_input<C: Clock + Files, R: Read + Drop, E: Write>(
+fn read_input<C: Clock + Files + Threads + Sync, R: Read + Drop, E: Write>(
     rt: &C,
     alloc: Global,
     options: &Options,
@@ -96,6 +99,17 @@ fn read_input<C: Clock + Files, R: Read + Drop, E: Write>(
     let file = fs::open(rt, path.as_str()).map_err(Stop::Io)?;
     let reader = Reader::new(alloc, options, file)?;
     read_trace(rt, options, player, rows, reader, progress, errors)
+}
+
+// How many threads play at most: as many as the machine has processors for, if the options do not say.
+fn threads<C: Threads>(rt: &C, options: &Options) -> usize {
+    match options.threads {
+        Some(threads) => threads,
+        None => match thread::available_parallelism(rt) {
+            Ok(threads) => threads.get(),
+            Err(_unknown) => 1,
+        },
+    }
 }
 
 // What was read of a trace.
@@ -168,7 +182,7 @@ fn length<C: Files>(rt: &C, path: &str) -> Option<u64> {
     }
 }
 
-fn read_trace<C: Clock, R: Read + Drop, E: Write>(
+fn read_trace<C: Clock + Threads + Sync, R: Read + Drop, E: Write>(
     rt: &C,
     options: &Options,
     player: &mut Player,
@@ -185,8 +199,8 @@ fn read_trace<C: Clock, R: Read + Drop, E: Write>(
         progress.lines = reader.number();
         match reader.asked() {
             Ok(Some(asked)) => {
-                take(options, player, asked, &mut taken)?;
-                count_anew(options, player, rows)?;
+                take(rt, options, player, asked, &mut taken)?;
+                count_anew(rt, options, player, rows)?;
             }
             Ok(None) => progress.passed(),
             Err(why) => {
@@ -205,14 +219,15 @@ fn read_trace<C: Clock, R: Read + Drop, E: Write>(
 }
 
 // Hands a request to the caches.
-fn take(
+fn take<C: Threads + Sync>(
+    rt: &C,
     options: &Options,
     player: &mut Player,
     asked: Asked<'_>,
     taken: &mut Taken,
 ) -> Result<(), Stop> {
     let size = options.counted(asked.size);
-    match player.take(asked.key.as_bytes(), size, asked.second) {
+    match player.take(rt, asked.key.as_bytes(), size, asked.second) {
         Ok(is_sampled) => {
             taken.note(size, is_sampled);
             Ok(())
@@ -222,7 +237,12 @@ fn take(
 }
 
 // Counts anew after the last request that is not counted, and after each interval, whose results it takes.
-fn count_anew(options: &Options, player: &mut Player, rows: &mut Vec<Row>) -> Result<(), Stop> {
+fn count_anew<C: Threads + Sync>(
+    rt: &C,
+    options: &Options,
+    player: &mut Player,
+    rows: &mut Vec<Row>,
+) -> Result<(), Stop> {
     let Ok(lines) = player.until() else {
         return Err(Stop::Memory);
     };
@@ -231,20 +251,24 @@ fn count_anew(options: &Options, player: &mut Player, rows: &mut Vec<Row>) -> Re
         _ => false,
     };
     if ends {
-        take_rows(player, rows)?;
+        take_rows(rt, player, rows)?;
     }
     if ends || lines == options.warmup {
-        player.mark().map_err(|_| Stop::Memory)?;
+        player.mark(rt).map_err(|_| Stop::Memory)?;
     }
     Ok(())
 }
 
 // Takes the results since the caches began to count, if there are any or none before.
-fn take_rows(player: &mut Player, rows: &mut Vec<Row>) -> Result<(), Stop> {
+fn take_rows<C: Threads + Sync>(
+    rt: &C,
+    player: &mut Player,
+    rows: &mut Vec<Row>,
+) -> Result<(), Stop> {
     if player.counts().requests == 0 && !rows.is_empty() {
         return Ok(());
     }
-    let Ok(taken) = player.rows() else {
+    let Ok(taken) = player.rows(rt) else {
         return Err(Stop::Memory);
     };
     rows.extend_from_slice(taken.as_slice())

@@ -10,6 +10,7 @@ struct CommandLine {
 }
 
 const USUAL: Words<'static> = Words {
+    threads: None,
     policy: "lru",
     size: "100MB",
     trace: None,

@@ -37,6 +37,7 @@ fn row() -> Row {
             passes_by: true,
             ignores_size: false,
             watermark: None,
+            has_shards: false,
         },
     }
 }

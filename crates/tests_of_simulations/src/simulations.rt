@@ -3,8 +3,10 @@ use cache_simulation::options::{Options, Unusable, Words, read};
 use cache_simulation::simulation::{Stop, simulate};
 use std::alloc::{AllocError, Global};
 use std::rt::{Clock, Files};
+use std::thread::Threads;
 
 const WORDS: Words<'static> = Words {
+    threads: None,
     policy: "lru,sieve,s3-fifo",
     size: "5",
     trace: None,
@@ -73,7 +75,7 @@ fn end_of(ended: Result<(), Stop>) -> &'static str {
 }
 
 // Whether the trace is played so: how it ends, what is written, and what is said of errors.
-fn is_played<C: Clock + Files>(
+fn is_played<C: Clock + Files + Threads + Sync>(
     rt: &C,
     alloc: Global,
     options: &Options,
@@ -95,7 +97,7 @@ const SAID: &str =
     "line 4: its size is no number of bytes: \"no request\"\n1 of 7 lines are no requests\n\
     s3-fifo: bodies have 2 to 4 bytes; one above the small queue comes in here, and other simulators refuse it\n";
 
-fn is_simulated<C: Clock + Files>(rt: &C, alloc: Global, size: &'static str) -> bool {
+fn is_simulated<C: Clock + Files + Threads + Sync>(rt: &C, alloc: Global, size: &'static str) -> bool {
     match options(alloc, size, "1") {
         Ok(options) => is_played(rt, alloc, &options, TRACE, "done", WANTED, SAID),
         Err(_unusable) => false,
@@ -112,7 +114,7 @@ const STOPPED: &str =
     "line 4: its size is no number of bytes: \"no request\"\n1 of 4 lines are no requests\n\
     s3-fifo: bodies have 2 to 3 bytes; one above the small queue comes in here, and other simulators refuse it\n";
 
-fn is_stopped<C: Clock + Files>(rt: &C, alloc: Global) -> bool {
+fn is_stopped<C: Clock + Files + Threads + Sync>(rt: &C, alloc: Global) -> bool {
     match options(alloc, "5", "0") {
         Ok(options) => is_played(
             rt,
@@ -133,7 +135,7 @@ fn too_many_bad_lines_stop_it_and_leave_its_results(rt: HostRuntime) {
 }
 
 // Whether a trace ends so, with nothing written.
-fn ends<C: Clock + Files>(rt: &C, alloc: Global, trace: &str, end: &str, said: &str) -> bool {
+fn ends<C: Clock + Files + Threads + Sync>(rt: &C, alloc: Global, trace: &str, end: &str, said: &str) -> bool {
     match options(alloc, "5", "1") {
         Ok(options) => is_played(rt, alloc, &options, trace, end, "", said),
         Err(_unusable) => false,
@@ -187,7 +189,7 @@ const CUT: &str =
     "line 6: it is shorter than a record of 24 bytes: \"\"\n1 of 6 lines are no requests\n\
     s3-fifo: bodies have 2 to 4 bytes; one above the small queue comes in here, and other simulators refuse it\n";
 
-fn are_records_played<C: Clock + Files>(rt: &C, alloc: Global) -> bool {
+fn are_records_played<C: Clock + Files + Threads + Sync>(rt: &C, alloc: Global) -> bool {
     let (Ok(options), Ok(bytes)) = (options(alloc, "5", "1"), records(alloc)) else {
         return false;
     };
@@ -210,7 +212,7 @@ const COUNTED: &str = "policy,size,requests,hits,bytes,hit_bytes,evicted,tracked
     expected_requests,corrected_hits,expected_bytes,corrected_hit_bytes,sample,part,ttl,large,expired,ignore_size,watermark,from,until\n\
     lru,5,5,2,5,2,1,2,5,2,5,2,1.000000,0,,pass,use,true,2,0,5\n";
 
-fn are_counted<C: Clock + Files>(rt: &C, alloc: Global) -> bool {
+fn are_counted<C: Clock + Files + Threads + Sync>(rt: &C, alloc: Global) -> bool {
     let mut words = WORDS;
     words.policy = "lru";
     words.ignores_size = true;
@@ -240,7 +242,7 @@ const OF_TWEETS: &str = "policy,size,requests,hits,bytes,hit_bytes,evicted,track
     expected_requests,corrected_hits,expected_bytes,corrected_hit_bytes,sample,part,ttl,large,expired,ignore_size,watermark,from,until\n\
     lru,5,2,1,4,2,0,2,2,1,4,2,1.000000,0,,pass,use,false,,0,2\n";
 
-fn are_tweets_played<C: Clock + Files>(rt: &C, alloc: Global) -> bool {
+fn are_tweets_played<C: Clock + Files + Threads + Sync>(rt: &C, alloc: Global) -> bool {
     let mut words = WORDS;
     words.policy = "lru";
     let said = "1 of 3 lines are other operations than get and gets\n";
@@ -261,7 +263,7 @@ const LATER: &str =
     "requests 3 to 4: lru of 5 bytes: 2 requests, 1 hits (50.00%), 33.33% of the bytes, 2 evicted, 4 bytes tracked\n\
     requests 5 to 5: lru of 5 bytes: 1 requests, 0 hits (0.00%), 0.00% of the bytes, 1 evicted, 2 bytes tracked\n";
 
-fn is_counted_later<C: Clock + Files>(
+fn is_counted_later<C: Clock + Files + Threads + Sync>(
     rt: &C,
     alloc: Global,
     warmup: &'static str,
@@ -294,7 +296,7 @@ fn counts_begin_after_the_warmup_and_end_with_each_interval(rt: HostRuntime) {
 }
 
 // A line of 70,000 letters, and then a request.
-fn is_cut<C: Clock + Files>(rt: &C, alloc: Global) -> bool {
+fn is_cut<C: Clock + Files + Threads + Sync>(rt: &C, alloc: Global) -> bool {
     let mut trace = Vec::new(alloc);
     for _ in 0..70_000 {
         if trace.push(b'a').is_err() {

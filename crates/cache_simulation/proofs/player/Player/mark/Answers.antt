@@ -5,8 +5,8 @@ use Rattle.cache_simulation.proofs.player.Player.mark.Goals as goal
 
 pub returns-clause-read : goal.returns-clause-read
 returns-clause-read c = λ before lines read.
-    let s = c.args.self.now.runs.setting.sample in
-    let same = ap (λ x. x.sample) (c.mark.ensures.setting ∙ c.play.ensures.setting) in
+    let s = c.args.self.now.runs.setting in
+    let same = c.mark.ensures.setting ∙ c.play.ensures.setting in
     let led = c.mark.ensures.served (requests_of s before) (requests_of s lines) (c.in_ok-play.ensures.asked (requests_of s before) (requests_of s lines) read.asked) in
     let (none, no_hits, no_bytes, no_hit_bytes) = c.none-self.ensures in
     let until = c.in_ok-self.ensures.ok in

@@ -19,16 +19,16 @@ returns-clause-rows c = IfOk-weaker c.rows.result _ _ (λ rows says. λ before l
     let bytes : c.play.new.self.all.bytes ≡ bytes_in lines = ap (λ k. k.bytes) c.play.ensures.all ∙ read.bytes in
     let until = c.in_ok-until.ensures.ok in
     let ends : c.in_ok-until.field-0 ≡ length before + length lines = omega arith in
-    All-weaker (IsRow other span (requests_of setting.sample before) (requests_of setting.sample lines)) (IsRowOf setting before lines)
+    All-weaker (IsRow other span (requests_of setting before) (requests_of setting lines)) (IsRowOf setting before lines)
     (λ row is. row-of setting other span before lines row c.play.ensures.setting begins ends requests bytes is) rows.items
-    (says (requests_of setting.sample before) (requests_of setting.sample lines) (c.in_ok-play.ensures.asked (requests_of setting.sample before) (requests_of setting.sample lines) read.asked))) c.rows.ensures.rows
+    (says (requests_of setting before) (requests_of setting lines) (c.in_ok-play.ensures.asked (requests_of setting before) (requests_of setting lines) read.asked))) c.rows.ensures.rows
 
 pub returns-clause-read : goal.returns-clause-read
 returns-clause-read c = IfOk-weaker c.rows.result _ _ (λ rows says. λ before lines read.
-    let s = c.args.self.now.runs.setting.sample in
+    let s = c.args.self.now.runs.setting in
     let asked : List Request = requests_of s lines in
     record {
-      asked = kept-on s c.play.new.self.runs.setting.sample before lines c.play.new.self (ap (λ x. x.sample) c.play.ensures.setting)
+      asked = kept-on s c.play.new.self.runs.setting before lines c.play.new.self c.play.ensures.setting
           (asked, c.in_ok-play.ensures.asked (requests_of s before) asked read.asked, sym (append-nil asked) ∙ ap (λ x. asked ++ x) (sym c.in_ok-play.ensures.none));
       first = c.play.ensures.from ∙ read.first;
       requests = ap (λ k. k.requests) c.play.ensures.all ∙ read.requests;

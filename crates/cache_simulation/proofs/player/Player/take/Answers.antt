@@ -6,10 +6,10 @@ use Rattle.cache_simulation.proofs.player.Player.take.Goals as goal
 
 pub returns-clause-read : goal.returns-clause-read
 returns-clause-read c = λ before lines read.
-    let s = c.args.self.now.runs.setting.sample in
+    let s = c.args.self.now.runs.setting in
     let l : Line = line c.args.key.now c.args.size c.args.second in
     let size : Line → ℕ = λ l. l.size in
-    let same = ap (λ x. x.sample) c.pick.ensures.setting in
+    let same = c.pick.ensures.setting in
     let first = read.first in
     let requests = read.requests in
     let bytes = read.bytes in
@@ -22,7 +22,7 @@ returns-clause-read c = λ before lines read.
     let sum = sum_by-append size lines (l ∷ []) in
     let one = sum_by-cons size l [] in
     record {
-      asked = read-on s c.pick.new.self.runs.setting.sample before lines c.args.key.now c.hash_key.result c.args.size c.args.second c.pick.new.self same c.hash_key.ensures (c.in_ok-is_sampled.ensures.asked (requests_of s before) (requests_of s lines) read.asked);
+      asked = read-on s c.pick.new.self.runs.setting before lines l c.pick.new.self same (c.in_ok-is_sampled.ensures.asked (requests_of s before) (requests_of s lines) read.asked);
       first = omega arith;
       requests = omega arith;
       bytes = omega arith;

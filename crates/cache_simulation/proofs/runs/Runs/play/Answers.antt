@@ -1,31 +1,13 @@
-use Rattle.std.proofs.Common.{◌≡◌, ◌∙◌, ◌++◌, ◌+◌, ◌<◌, ◌≤◌, [], ap, sym, subst, take, drop, length, arith}
-use Rattle.std.proofs.Math.Seq.{take-append_seam}
-use Rattle.std.proofs.lemmas.List.{length-set}
+use Rattle.std.proofs.Common.{◌++◌, arith}
+use Rattle.std.proofs.lemmas.List.Elements.{All-same}
+use Rattle.cache_simulation.specs.declared.run.Request.{Request}
 use Rattle.cache_simulation.specs.Caches.{StandsIn}
-use Rattle.cache_simulation.proofs.Marks.{each-more, all-whole}
+use Rattle.cache_simulation.proofs.SideBySide.{written-back}
 use Rattle.cache_simulation.proofs.runs.Runs.play.Goals as goal
 
-pub loop-cache-preserved : goal.loop-cache-preserved
-loop-cache-preserved c =
-    let so_far = c.loop-cache.invariant in
-    let long = so_far.long in
-    let test = c.loop-cache-test.true in
-    let own = c.loop-cache.auto.cache-items in
-    let here : c.loop-cache.cache-index < length c.loop-cache.cache-items = omega arith in
-    let setting = c.args.self.now.setting in
-    record {
-      long = length-set c.loop-cache.cache-items c.loop-cache.cache-index c.play.new.self ∙ long;
-      each = λ before asked stands.
-          let each = so_far.each before asked stands in
-          each-more (StandsIn setting before asked) (StandsIn setting before (asked ++ c.args.requests.now)) c.loop-cache.cache-items c.loop-cache.cache-index (length c.args.self.now.caches.items) c.play.new.self here
-          (c.in_ok-play.ensures.served setting before asked (each.1 c.loop-cache.cache-index c.cache-item.result (omega arith) (omega arith)))
-          each;
-    }
-
 pub returns-clause-served : goal.returns-clause-served
-returns-clause-served c = λ before asked stands.
-    let so_far = c.loop-cache.invariant in
+returns-clause-served g c = λ before asked stands.
     let setting = c.args.self.now.setting in
-    let test = c.loop-cache-test.false in
-    all-whole (StandsIn setting before (asked ++ c.args.requests.now)) c.loop-cache.cache-items _ c.args.self.now.caches.len c.loop-cache.cache-index
-    (let len = c.deref_mut-cache-items.ensures.len in let long = so_far.long in let own = c.loop-cache.auto.cache-items in omega arith) (omega arith) (so_far.each before asked stands).0
+    let own = c.args.self.now.caches.items in
+    written-back (StandsIn setting before (asked ++ c.args.requests.now)) c.play_each.new.caches _ _ (let same = c.as_mut_slice.ensures.len in let kept = c.play_each.auto.caches in omega arith)
+    (c.in_ok-play_each.ensures.served.each setting before asked (All-same (StandsIn setting before asked) c.as_mut_slice.result.now own c.as_mut_slice.ensures.value stands))

@@ -1,0 +1,15 @@
+use Rattle.std.proofs.Common.{◌≡◌, List, ◌++◌, length}
+use Rattle.std.specs.List.{All, AllWithin}
+use Rattle.cache_simulation.specs.declared.options.Setting.{Setting}
+use Rattle.cache_simulation.specs.declared.run.Request.{Request}
+use Rattle.cache_simulation.specs.Caches.{StandsIn}
+use Rattle.cache_simulation.proofs.side_by_side.play_in_turn.Given as goal
+
+-- the caches so far have them, and the others stand as before
+abbrev pub invariant-loop-cache : goal.invariant-loop-cache
+invariant-loop-cache l =
+    record {
+      long : length l.caches ≡ length l.initial.caches;
+      each : (setting : Setting) (before asked : List Request) → All (StandsIn setting before asked) l.initial.caches
+          → AllWithin (StandsIn setting before (asked ++ l.requests)) l.caches 0 l.cache-index × AllWithin (StandsIn setting before asked) l.caches l.cache-index (length l.initial.caches);
+    }
