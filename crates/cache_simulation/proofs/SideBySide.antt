@@ -8,11 +8,13 @@ use Rattle.cache_simulation.specs.declared.run.Request.{Request}
 use Rattle.cache_simulation.specs.Caches.{MakesEach, StandsIn}
 
 pub makes-both : (requests : List Request) (all some others some' others' : List Cache) → all ≡ some ++ others → MakesEach requests some some' → MakesEach requests others others' → MakesEach requests all (some' ++ others')
-makes-both requests all some others some' others' is first second = record { each = λ setting before asked stands.
-    let both : All (StandsIn setting before asked) (some ++ others) = All-same (StandsIn setting before asked) (some ++ others) all (sym is) stands in
-    All-append (StandsIn setting before (asked ++ requests)) some' others'
-    (first.each setting before asked (All-same (StandsIn setting before asked) some (take (length some) (some ++ others)) (sym (take-append_seam some others)) (All-take (StandsIn setting before asked) (length some) (some ++ others) both)))
-    (second.each setting before asked (All-same (StandsIn setting before asked) others (drop (length some) (some ++ others)) (sym (drop-append_seam some others)) (All-drop (StandsIn setting before asked) (length some) (some ++ others) both))) }
+makes-both requests all some others some' others' is first second = record {
+  each = λ setting before asked stands.
+      let both : All (StandsIn setting before asked) (some ++ others) = All-same (StandsIn setting before asked) (some ++ others) all (sym is) stands in
+      All-append (StandsIn setting before (asked ++ requests)) some' others'
+      (first.each setting before asked (All-same (StandsIn setting before asked) some (take (length some) (some ++ others)) (sym (take-append_seam some others)) (All-take (StandsIn setting before asked) (length some) (some ++ others) both)))
+      (second.each setting before asked (All-same (StandsIn setting before asked) others (drop (length some) (some ++ others)) (sym (drop-append_seam some others)) (All-drop (StandsIn setting before asked) (length some) (some ++ others) both)));
+}
 
 -- a vector whose slice was changed
 pub written-back : {X : Type 0} (Q : X → Type 0) (new rest : List X) (n : ℕ) → n ≡ length new → All Q new → All Q (take n (new ++ rest))

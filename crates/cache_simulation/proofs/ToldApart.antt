@@ -49,7 +49,7 @@ padded-same : (a b : List ℕ) → length a ≤ 15 → length b ≤ 15 → padde
 padded-same a b few_a few_b same =
     let long : length a ≡ length b = ap head_of (sym (ends a few_a) ∙ ap (drop 15) same ∙ ends b few_b) in
     let front : (c : List ℕ) → take (length c) (padded c) ≡ c = λ c.
-        ap (take (length c)) (append_assoc {A = ℕ} c (replicate (15 - length c) 0) (length c ∷ [])) ∙ take-append_seam c (replicate (15 - length c) 0 ++ length c ∷ []) in
+    ap (take (length c)) (append_assoc {A = ℕ} c (replicate (15 - length c) 0) (length c ∷ [])) ∙ take-append_seam c (replicate (15 - length c) 0 ++ length c ∷ []) in
     sym (front a) ∙ ap (take (length a)) same ∙ ap (λ n. take n (padded b)) long ∙ front b
 
 -- a key above fifteen bytes has a second part

@@ -97,7 +97,11 @@ const SAID: &str =
     "line 4: its size is no number of bytes: \"no request\"\n1 of 7 lines are no requests\n\
     s3-fifo: bodies have 2 to 4 bytes; one above the small queue comes in here, and other simulators refuse it\n";
 
-fn is_simulated<C: Clock + Files + Threads + Sync>(rt: &C, alloc: Global, size: &'static str) -> bool {
+fn is_simulated<C: Clock + Files + Threads + Sync>(
+    rt: &C,
+    alloc: Global,
+    size: &'static str,
+) -> bool {
     match options(alloc, size, "1") {
         Ok(options) => is_played(rt, alloc, &options, TRACE, "done", WANTED, SAID),
         Err(_unusable) => false,
@@ -135,7 +139,13 @@ fn too_many_bad_lines_stop_it_and_leave_its_results(rt: HostRuntime) {
 }
 
 // Whether a trace ends so, with nothing written.
-fn ends<C: Clock + Files + Threads + Sync>(rt: &C, alloc: Global, trace: &str, end: &str, said: &str) -> bool {
+fn ends<C: Clock + Files + Threads + Sync>(
+    rt: &C,
+    alloc: Global,
+    trace: &str,
+    end: &str,
+    said: &str,
+) -> bool {
     match options(alloc, "5", "1") {
         Ok(options) => is_played(rt, alloc, &options, trace, end, "", said),
         Err(_unusable) => false,
