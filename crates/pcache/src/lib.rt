@@ -33,8 +33,8 @@ pub use pcache_request::{
     HttpCacheDigest, InUse, LockAbandon, LockCtx, cache, digest, phase,
 };
 pub use pcache_shared_cache::{
-    Mark, NewPart, OverParts, Portion, SharedCache, SharedPermit, SharedPut, SharedRequest, Unnamed,
-    Unused, new_lists, new_parts, over_parts, place_of, portion_of, portion_of_watermark,
+    Mark, NewPart, OverParts, Portion, SharedCache, SharedPermit, SharedPut, SharedRequest,
+    Unnamed, Unused, new_lists, new_parts, over_parts, place_of, portion_of, portion_of_watermark,
 };
 pub use pcache_store::memory::MemCache;
 pub use pcache_store::storage::{

@@ -8,4 +8,3 @@ pub mod Pushed
 pub mod Rows
 pub mod Together
 pub mod Unlocked
-pub mod Waiting

@@ -1,10 +1,9 @@
 -- Logs that go on, and what was seen of them.
 use Rattle.std.proofs.Common.{◌≡◌, inl, inr, ℕ, Option, Some, None, List, [], ◌∷◌, ◌++◌, append_assoc, slice_get, refl, sym, ap, subst, ◌∙◌}
 use Rattle.std.proofs.lemmas.List.{append-nil}
-use mathlib.Core.List.{IsPrefix}
 use Rattle.pcache_cache.specs.Parts.{Parts}
 use Rattle.pcache_evict.specs.Tracked.{Limits}
-use Rattle.pcache_shared_cache.specs.Seen.{Begins, Begun, EndsWith, Goes, Held, IsLog, IsNamed, IsSound, Leads, Looks, Moves, Sees, goes_on}
+use Rattle.pcache_shared_cache.specs.Seen.{Begins, Begun, EndsWith, Goes, Held, IsLog, IsSound, Leads, Looks, Moves, Sees, goes_on}
 
 goes : (x : Parts) (l : List Parts) (p q : Parts) → goes_on x (l ++ p ∷ []) → Leads p q → IsSound q → goes_on x ((l ++ p ∷ []) ++ q ∷ [])
 goes x [] p q is leads sound = (is.0, ((leads, sound), tt))
@@ -29,11 +28,6 @@ last_from x (y ∷ l) = let r = last_from y l in (r.0, (x ∷ r.1.0, ap (λ (m :
 pub last : (log : List Parts) → IsLog log → (p : Parts) × EndsWith log p
 last [] is = absurd is
 last (x ∷ l) is = last_from x l
-
--- two tokens of the names that the mark has are of one keeper
-pub begins : (named : Option ℕ) (a b : ℕ) (old log : List Parts) → IsNamed named a → IsNamed named b → (a ≡ b → IsPrefix old log) → Begins named old log
-begins None a b old log an bn is = tt
-begins (Some n) a b old log an bn is = is (an ∙ sym bn)
 
 pub begins_self : (named : Option ℕ) (log : List Parts) → Begins named log log
 begins_self None log = tt

@@ -25,9 +25,9 @@ pub record Begun : Type 0 where
   pub limits : Limits
   pub log : List Parts
 
--- the log of a part that just began, with these limits
+-- the log of a part that just began, with these limits: nothing was done to its store and its locks yet
 abbrev pub StartsWith : List Parts → Limits → Type 0
-StartsWith log limits = (p : Parts) × (p.limits ≡ limits) × (log ≡ p ∷ [])
+StartsWith log limits = (p : Parts) × (p.limits ≡ limits) × (p.past ≡ []) × (p.deeds ≡ []) × (log ≡ p ∷ [])
 
 -- a log ends with this state
 abbrev pub EndsWith : List Parts → Parts → Type 0

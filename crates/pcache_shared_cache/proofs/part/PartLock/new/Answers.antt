@@ -9,5 +9,7 @@ invariant_of-result g c =
     let watermark = sym c.watermark-watermark.ensures in (
       c.new-cache.result,
       ap (λ (p : Parts). p.limits) c.new-cache.ensures ∙ (λ i. record { weight = weight i; watermark = watermark i }),
+      ap (λ (p : Parts). p.past) c.new-cache.ensures,
+      ap (λ (p : Parts). p.deeds) c.new-cache.ensures,
       ap (λ (v : Placed). v.log) (c.see.ensures.seen ∙ c.new-log.ensures),
     )
