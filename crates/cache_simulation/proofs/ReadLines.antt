@@ -1,6 +1,7 @@
 -- The requests of lines, one part after the other.
 use Rattle.std.proofs.Common.{◌≡◌, ℕ, ◌+◌, length, List, [], ◌++◌, ◌∷◌, ap, sym, subst, ◌∙◌}
 use Rattle.std.specs.List.{cons_option}
+use Rattle.std.proofs.lemmas.List.{append_assoc}
 use Rattle.std.proofs.lemmas.List.Elements.{filter_map-append}
 use Rattle.cache_simulation.specs.declared.cache.Span.{Span}
 use Rattle.cache_simulation.specs.declared.options.Setting.{Setting}
@@ -39,3 +40,8 @@ row-of setting other span before lines row same begins ends requests bytes is =
 -- the same requests of the same setting
 pub kept-on : (s t : Setting) (before lines : List Line) (p : Player) → t ≡ s → HasAsked (requests_of s before) (requests_of s lines) p → HasAsked (requests_of t before) (requests_of t lines) p
 kept-on s t before lines p same h = subst (λ (x : Setting). HasAsked (requests_of x before) (requests_of x lines) p) (sym same) h
+
+-- one more request waits
+pub waits-on : (asked made batch pushed : List Request) (r s : Request) → asked ≡ made ++ batch → pushed ≡ batch ++ s ∷ [] → s ≡ r → asked ++ r ∷ [] ≡ made ++ pushed
+waits-on asked made batch pushed r s is more same =
+    ap (λ x. x ++ r ∷ []) is ∙ append_assoc made batch (r ∷ []) ∙ ap (λ x. made ++ x) (sym (more ∙ ap (λ x. batch ++ x ∷ []) same))

@@ -4,7 +4,7 @@ use Rattle.cache_simulation.proofs.ReadLines.{moved-on}
 use Rattle.cache_simulation.proofs.player.Player.mark.Goals as goal
 
 pub returns-clause-read : goal.returns-clause-read
-returns-clause-read c = λ before lines read.
+returns-clause-read g c = λ before lines read.
     let s = c.args.self.now.runs.setting in
     let same = c.mark.ensures.setting ∙ c.play.ensures.setting in
     let led = c.mark.ensures.served (requests_of s before) (requests_of s lines) (c.in_ok-play.ensures.asked (requests_of s before) (requests_of s lines) read.asked) in

@@ -10,7 +10,7 @@ use Rattle.cache_simulation.proofs.ReadLines.{row-of, kept-on}
 use Rattle.cache_simulation.proofs.player.Player.rows.Goals as goal
 
 pub returns-clause-rows : goal.returns-clause-rows
-returns-clause-rows c = IfOk-weaker c.rows.result _ _ (λ rows says. λ before lines read.
+returns-clause-rows g c = IfOk-weaker c.rows.result _ _ (λ rows says. λ before lines read.
     let setting = c.args.self.now.runs.setting in
     let other = c.play.new.self.runs.setting in
     let span : Span = record { from = c.play.new.self.from; until = c.in_ok-until.field-0; all = c.play.new.self.all } in
@@ -24,7 +24,7 @@ returns-clause-rows c = IfOk-weaker c.rows.result _ _ (λ rows says. λ before l
     (says (requests_of setting before) (requests_of setting lines) (c.in_ok-play.ensures.asked (requests_of setting before) (requests_of setting lines) read.asked))) c.rows.ensures.rows
 
 pub returns-clause-read : goal.returns-clause-read
-returns-clause-read c = IfOk-weaker c.rows.result _ _ (λ rows says. λ before lines read.
+returns-clause-read g c = IfOk-weaker c.rows.result _ _ (λ rows says. λ before lines read.
     let s = c.args.self.now.runs.setting in
     let asked : List Request = requests_of s lines in
     record {

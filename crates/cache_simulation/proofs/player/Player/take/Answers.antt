@@ -5,7 +5,7 @@ use Rattle.cache_simulation.proofs.ReadLines.{read-on}
 use Rattle.cache_simulation.proofs.player.Player.take.Goals as goal
 
 pub returns-clause-read : goal.returns-clause-read
-returns-clause-read c = λ before lines read.
+returns-clause-read g c = λ before lines read.
     let s = c.args.self.now.runs.setting in
     let l : Line = line c.args.key.now c.args.size c.args.second in
     let size : Line → ℕ = λ l. l.size in
