@@ -1,5 +1,5 @@
 -- What was played up to a mark led to it.
-use Rattle.std.proofs.Common.{◌≡◌, ℕ, ◌+◌, ◌-◌, ◌^◌, min, arith, Option, List, [], ◌++◌, sym, subst, ◌∙◌, ◌<◌, ◌≤◌, ◌≢◌, length, set, take, drop, ap}
+use Rattle.std.proofs.Common.{◌≡◌, ℕ, ◌+◌, arith, Option, List, [], ◌++◌, sym, subst, ◌∙◌, ◌<◌, ◌≤◌, ◌≢◌, length, set, take, ap}
 use Rattle.std.specs.List.{All, AllWithin}
 use Rattle.std.proofs.Math.Seq.{take-append_seam}
 use Rattle.std.proofs.lemmas.List.{get_or-set_other}

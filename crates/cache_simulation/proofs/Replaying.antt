@@ -13,7 +13,7 @@ use Rattle.cache_simulation.specs.Fresh.{Fresh}
 use Rattle.cache_simulation.specs.Events.{Event, Hit, Came, Renewed, Passed, comes, is_hit, size_in}
 use Rattle.cache_simulation.specs.Plays.{Rules, State, IsCounted, IsEvent, state}
 use Rattle.cache_simulation.proofs.Standing.{is-come, insert-removed}
-use Rattle.cache_simulation.specs.Replays.{Place, Answers, Brings, Replays, gone_in, gone_of, count_after, counts_after, place, Served}
+use Rattle.cache_simulation.specs.Replays.{Place, Answers, Brings, Replays, gone_in, gone_of, count_after, counts_after, Served}
 
 -- the map and the order have the same entries
 pub is-in : {O : Type 0} (p : Policy O) (o : O) (m : Tracked) (k : CacheEntryKey) → m ≡ map_of (p.entries o) → is_in p k o ≡ fin.contains_key m k

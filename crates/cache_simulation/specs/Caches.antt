@@ -1,7 +1,7 @@
 -- The caches of a simulation, and what their rows say (own).
-use Rattle.std.specs.Prelude.{◌≡◌, ℕ, ◌+◌, ◌*◌, ◌-◌, ◌^◌, min, Bool, Option, List, ◌++◌, option_map, if◌then◌else◌}
+use Rattle.std.specs.Prelude.{◌≡◌, ℕ, ◌*◌, ◌-◌, ◌^◌, min, Option, List, ◌++◌, option_map, if◌then◌else◌}
 use Rattle.std.specs.List.{All}
-use Rattle.pcache_evict.specs.Tracked.{Limits, limits_of, weight}
+use Rattle.pcache_evict.specs.Tracked.{limits_of, weight}
 use Rattle.pcache_evict.specs.Listed.{map_of}
 use Rattle.pcache_evict.specs.Policy.{Policy, lru, sharded}
 use Rattle.pcache_policies.specs.Sieve.{sieve_policy}

@@ -1,7 +1,7 @@
 -- Which requests of a trace are made to the caches (own; the sample is that of the FAST 2015 paper, see Sampled).
-use Rattle.std.specs.Prelude.{◌≡◌, ℕ, ◌+◌, ◌*◌, ◌/◌, ◌^◌, ◌==◌, ◌||◌, not, Bool, Option, None, Some, List, [], ◌++◌, length, sum_by, if◌then◌else◌}
+use Rattle.std.specs.Prelude.{◌≡◌, ℕ, ◌+◌, ◌*◌, ◌/◌, ◌^◌, ◌==◌, ◌||◌, not, Bool, Option, None, Some, List, ◌++◌, length, sum_by, if◌then◌else◌}
 use Rattle.std.specs.Option.{option_map}
-use Rattle.std.specs.List.{All, filter_map}
+use Rattle.std.specs.List.{filter_map}
 use Rattle.pcache_base.specs.Blake2b.{blake2b_128}
 use Rattle.pcache_base.specs.Key.{number_of}
 use Rattle.pcache_base.specs.declared.key.CompactCacheKey.{CompactCacheKey}

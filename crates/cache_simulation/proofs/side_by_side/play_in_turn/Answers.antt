@@ -1,4 +1,4 @@
-use Rattle.std.proofs.Common.{◌≡◌, ◌≢◌, ◌∙◌, ◌++◌, ◌+◌, ◌<◌, ◌≤◌, length, arith}
+use Rattle.std.proofs.Common.{◌∙◌, ◌++◌, ◌<◌, length, arith}
 use Rattle.std.proofs.lemmas.List.{length-set}
 use Rattle.cache_simulation.specs.Caches.{StandsIn}
 use Rattle.cache_simulation.proofs.Marks.{each-more}

@@ -1,4 +1,4 @@
-use Rattle.std.proofs.Common.{◌≡◌, ◌∙◌, ◌++◌, ◌∷◌, [], List, ap, sym}
+use Rattle.std.proofs.Common.{◌∙◌, ◌++◌, ◌∷◌, [], ap, sym}
 use Rattle.std.proofs.lemmas.List.{append-nil}
 use Rattle.cache_simulation.specs.declared.run.Request.{Request}
 use Rattle.cache_simulation.specs.Reading.{request_with}

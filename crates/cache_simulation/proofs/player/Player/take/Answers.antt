@@ -1,4 +1,4 @@
-use Rattle.std.proofs.Common.{◌≡◌, ◌∙◌, ◌++◌, ◌∷◌, ◌+◌, ℕ, [], ap, sum_by, length-append, arith}
+use Rattle.std.proofs.Common.{◌∷◌, ℕ, [], ap, length-append, arith}
 use Rattle.std.proofs.lemmas.List.Sums.{sum_by-append, sum_by-cons}
 use Rattle.cache_simulation.specs.Reading.{Line, line, requests_of}
 use Rattle.cache_simulation.proofs.ReadLines.{read-on}
