@@ -59,6 +59,7 @@ impl<M: EvictionManager, K: Mark, const N: usize> SharedCache<M, K, N> {
         turns: u32,
     ) -> Result<Poll<LockWaitOutcome>>
         requires { IsSome (read_in request.old.cache.held) }
+        ensures follows { Begins (K.names request.old.place) request.old.seen request.new.seen }
         ensures goes_on { IfOk result (λ a. a ≡ Pending → IsSome (read_in request.new.cache.held)) }
         ensures kind { IfErr result (λ e. e ≡ OutOfMemory) }
         ensures place { request.new.place ≡ request.old.place }

@@ -25,7 +25,7 @@ impl<M: EvictionManager, K: Mark, const N: usize> SharedCache<M, K, N> {
     ghost use Rattle.pcache_request.specs.Requests.{HoldsNothing, asks_for_hit, length_by, whole_by, without_reader};
     ghost use Rattle.pcache_store.specs.Readers.{reader_of};
     ghost use Rattle.pcache_shared_cache.specs.Calls.{Disables, EndsHit, LetsGo, LooksUp, Reads, TakesFound};
-    ghost use Rattle.pcache_shared_cache.specs.Seen.{Goes, Sees};
+    ghost use Rattle.pcache_shared_cache.specs.Seen.{Begins, Goes, Sees};
 
     /// `Cache::cache_lookup` in the request's part: what its store has for the key; if nothing is handed on, the key's lock is
     /// asked for. No call of a shared request takes a policy into use, so there is none to ask. A pair that is handed on has to
@@ -168,6 +168,7 @@ impl<M: EvictionManager, K: Mark, const N: usize> SharedCache<M, K, N> {
         turns: u32,
     ) -> Result<Poll<Option<Bytes>>>
         requires { IsSome request.old.cache.reader }
+        ensures follows { Begins (K.names request.old.place) request.old.seen request.new.seen }
         ensures kind { IfErr result (λ e. e ≡ OutOfMemory) }
         ensures reader { IsSome request.new.cache.reader }
         ensures phase { request.new.cache.phase ≡ request.old.cache.phase }

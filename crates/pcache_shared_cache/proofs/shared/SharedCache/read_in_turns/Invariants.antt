@@ -1,6 +1,8 @@
 use Rattle.std.proofs.Common.{◌≡◌, IsSome}
+use Rattle.pcache_shared_cache.specs.Seen.{Begins}
 use Rattle.pcache_shared_cache.proofs.shared.SharedCache.read_in_turns.Given as goal
 
--- a reader is there, and the request is where it was
+-- a reader is there, the request is where it was, and what it had seen is a beginning of what it has seen
 abbrev pub invariant-loop : goal.invariant-loop
-invariant-loop g l = IsSome l.request.cache.reader × (l.request.cache.phase ≡ l.initial.request.cache.phase) × (l.request.place ≡ l.initial.request.place)
+invariant-loop g l =
+    IsSome l.request.cache.reader × (l.request.cache.phase ≡ l.initial.request.cache.phase) × (l.request.place ≡ l.initial.request.place) × Begins (g.K.Mark.names l.initial.request.place) l.initial.request.seen l.request.seen
