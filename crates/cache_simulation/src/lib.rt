@@ -3,6 +3,7 @@
 //!
 //! - `bounds`: the most hits that a cache of bodies of one size can have
 //! - `cache`: one cache, of any policy
+//! - `cluster`: a trace that is played to several nodes
 //! - `counts`: the counts over a trace
 //! - `freshness`: until when bodies are fresh
 //! - `laws`: laws of all runs
@@ -18,10 +19,12 @@
 //! - `runs`: the caches of a simulation
 //! - `sample`: a sample of the keys, which represents all
 //! - `simulation`: a trace from its first line to the report
+//! - `tiers`: several nodes, and maybe a cache behind them
 //! - `trace`: the lines of a trace
 
 pub mod bounds;
 pub mod cache;
+mod cluster;
 pub mod counts;
 pub mod freshness;
 pub mod laws;
@@ -38,4 +41,5 @@ pub mod runs;
 pub mod sample;
 mod side_by_side;
 pub mod simulation;
+pub mod tiers;
 pub mod trace;

@@ -1,9 +1,10 @@
 //! A trace from its first line to the report.
 
 use crate::bounds::{Bound, find_bounds, write_bounds};
+use crate::cluster::Nodes;
 use crate::layout::Refused;
 use crate::names::front;
-use crate::options::{Options, Policy};
+use crate::options::{Cluster, Options, Policy};
 use crate::player::Player;
 use crate::progress::Progress;
 use crate::reader::Reader;
@@ -52,6 +53,9 @@ pub fn simulate<C: Clock + Files + Threads + Sync, R: Read + Drop, W: Write + Dr
     errors: &mut E,
 ) -> Result<(), Stop> {
     let distinct = distinct(rt, alloc, options, errors)?;
+    if let Some(cluster) = &options.cluster {
+        return play_nodes(rt, alloc, options, cluster, distinct, input, output, errors);
+    }
     let threads = threads(rt, options);
     let Ok(mut player) = Player::new(alloc, options, distinct, threads) else {
         return Err(Stop::Memory);
@@ -78,6 +82,30 @@ pub fn simulate<C: Clock + Files + Threads + Sync, R: Read + Drop, W: Write + Dr
         Some(lines) => Err(Stop::BadLines(lines)),
         None => Ok(()),
     }
+}
+
+// Plays the trace that the options name, or `input` if they name no file, to several nodes.
+fn play_nodes<C: Clock + Files, R: Read + Drop, W: Write + Drop, E: Write>(
+    rt: &C,
+    alloc: Global,
+    options: &Options,
+    cluster: &Cluster,
+    distinct: u64,
+    input: R,
+    output: W,
+    errors: &mut E,
+) -> Result<(), Stop> {
+    let told = BufWriter::new(alloc, output).map_err(Stop::Io)?;
+    let nodes = Nodes::new(alloc, options, cluster, distinct)?;
+    let Some(path) = &options.trace else {
+        let progress = Progress::start(rt, length(rt, "/dev/stdin"))?;
+        let reader = Reader::new(alloc, options, input)?;
+        return nodes.play(reader, progress, told, errors);
+    };
+    let progress = Progress::start(rt, length(rt, path.as_str()))?;
+    let file = fs::open(rt, path.as_str()).map_err(Stop::Io)?;
+    let reader = Reader::new(alloc, options, file)?;
+    nodes.play(reader, progress, told, errors)
 }
 
 // Plays the trace that the options name, or `input` if they name no file.

@@ -24,6 +24,9 @@ const WORDS: Words<'static> = Words {
     part: "0",
     format: "csv",
     plot: None,
+    nodes: None,
+    drop: None,
+    shield: None,
     bad_lines: "1",
 };
 
@@ -338,4 +341,48 @@ fn is_cut<C: Clock + Files + Threads + Sync>(rt: &C, alloc: Global) -> bool {
 #[test]
 fn a_line_without_an_end_is_not_kept(rt: HostRuntime) {
     assert!(rt; is_cut(&rt, rt.alloc()));
+}
+
+// Bodies of one byte: `e` goes to node 2, `h` and `i` to node 0, and `a` to node 1, which goes after eight requests, and then to
+// node 0. What each tells was computed by `bench/simulators.py`.
+const SHARED: &str =
+    "0,a,1\n0,e,1\n0,h,1\n0,i,1\n0,a,1\n0,e,1\n0,h,1\n0,i,1\n0,a,1\n0,e,1\n0,h,1\n0,i,1\n0,a,1\n0,e,1\n0,h,1\n0,i,1\n";
+
+const SHARES: &str = "policy,size,tier,node,requests,hits,bytes,hit_bytes,evicted,tracked,busiest\n\
+    lru,2,node,0,10,2,10,2,6,2,\n\
+    lru,2,node,1,2,1,2,1,0,1,\n\
+    lru,2,node,2,4,3,4,3,0,1,\n\
+    lru,2,nodes,,16,6,16,6,6,4,1.87\n\
+    lru,3,shield,,10,5,10,5,2,3,\n";
+
+const SHARES_TOLD: &str =
+    "lru of 2 bytes, node 0: 10 requests, 2 hits (20.00%), 20.00% of the bytes, 6 evicted, 2 bytes tracked\n\
+    lru of 2 bytes, node 1: 2 requests, 1 hits (50.00%), 50.00% of the bytes, 0 evicted, 1 bytes tracked\n\
+    lru of 2 bytes, node 2: 4 requests, 3 hits (75.00%), 75.00% of the bytes, 0 evicted, 1 bytes tracked\n\
+    lru of 2 bytes, nodes: 16 requests, 6 hits (37.50%), 37.50% of the bytes, 6 evicted, 4 bytes tracked; the busiest has 1.87 times the mean\n\
+    lru of 3 bytes, shield: 10 requests, 5 hits (50.00%), 50.00% of the bytes, 2 evicted, 3 bytes tracked\n";
+
+fn are_shared<C: Clock + Files + Threads + Sync>(
+    rt: &C,
+    alloc: Global,
+    format: &'static str,
+    written: &str,
+) -> bool {
+    let mut words = WORDS;
+    words.policy = "lru";
+    words.size = "2";
+    words.nodes = Some("3");
+    words.drop = Some("1@8");
+    words.shield = Some("3");
+    words.format = format;
+    match read(alloc, &words) {
+        Ok(options) => is_played(rt, alloc, &options, SHARED, "done", written, ""),
+        Err(_unusable) => false,
+    }
+}
+
+#[test]
+fn nodes_share_the_keys(rt: HostRuntime) {
+    assert!(rt; are_shared(&rt, rt.alloc(), "csv", SHARES));
+    assert!(rt; are_shared(&rt, rt.alloc(), "table", SHARES_TOLD));
 }
