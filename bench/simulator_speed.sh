@@ -2,7 +2,9 @@
 # Requests a second and bytes of memory an entry of the built `cache_sim`, for each policy, with all keys tracked, and
 # of a plain LRU in C++ beside it. KEYS are 16 bytes long; each is asked for once, and then all again in another order.
 # The programs have their turns, ROUNDS of them (3 if it is not set), and the least processor time of each counts. Bytes
-# are the most that a process had, without what it has before it reads.
+# are the most that a process had, without what it has before it reads. Then the same of a trace with misses, 3,000,000
+# requests for 50,000 keys (Zipf 0.9) to 5,000 entries; and how long twelve caches take for it in one thread, in as many as
+# there are processors, and in one each, on a machine where nothing else runs.
 #     ROUNDS=3 bench/simulator_speed.sh PROGRAM KEYS..
 set -eu
 program=$1
@@ -12,7 +14,9 @@ trap 'rm -rf "$folder"' EXIT
 cp "$(dirname "$0")/plain_lru.cpp.txt" "$folder/plain_lru.cpp"
 g++ -O2 -o "$folder/plain_lru" "$folder/plain_lru.cpp"
 cat >"$folder/measure.py" <<'END_OF_MEASURE'
+import bisect
 import os
+import random
 import subprocess
 import sys
 import time
@@ -54,6 +58,36 @@ for keys in map(int, sizes):
         kilobytes = min(turn[place][1] for turn in seen) - before_it_reads(command)
         name = command[2] if place else "the LRU in C++"
         print(f"{keys} keys, {name}: {2 * keys / seconds:.0f} requests a second, {seconds / plain:.2f} times the time in C++, {kilobytes * 1024 / keys:.0f} bytes an entry", flush=True)
+
+
+def write_misses():
+    total, sums = 0.0, []
+    for rank in range(1, 50_001):
+        total += rank**-0.9
+        sums.append(total)
+    dice = random.Random(5)
+    with open(f"{folder}/trace", "w", encoding="ascii") as it:
+        it.writelines(f"k{bisect.bisect(sums, dice.random() * total)} 1\n" for _ in range(3_000_000))
+
+
+def seconds_of(command):
+    """How long a process takes that reads the trace, by the clock."""
+    start = time.monotonic()
+    run(command)
+    return time.monotonic() - start
+
+
+write_misses()
+commands = [[f"{folder}/plain_lru", "5000"]]
+commands += [[program, "--policy", policy, "--size", "5000"] for policy in ("lru", "sieve", "s3-fifo")]
+seen = [[run(command)[0] for command in commands] for _ in range(int(rounds))]
+for place, command in enumerate(commands[1:], 1):
+    times = min(turn[place] for turn in seen) / min(turn[0] for turn in seen)
+    print(f"with misses, {command[2]}: {times:.2f} times the time in C++", flush=True)
+twelve = [program, "--policy", "lru,sieve,s3-fifo", "--size", "1000,5000,10000,20000", "--threads"]
+for threads in sorted({1, os.cpu_count(), 12}):
+    took = min(seconds_of([*twelve, str(threads)]) for _ in range(int(rounds)))
+    print(f"twelve caches in {threads} threads: {took:.1f} seconds", flush=True)
 END_OF_MEASURE
 python3 "$folder/measure.py" "$folder" "$program" "${ROUNDS:-3}" "$@"
 echo "cores=$(nproc) load=$(cut -d' ' -f1 /proc/loadavg)"
