@@ -1,7 +1,7 @@
 #!/usr/bin/env python3
 """Caches that let entries go, written from the papers' text, and a comparison with `cache_sim`. Beside them the most hits by Belady's rule.
 
-    bench/simulators.py PROGRAM           # hand-made and Zipf traces, hit for hit
+    bench/simulators.py PROGRAM [--short] # hand-made and Zipf traces, hit for hit; with --short none of a million requests
     bench/simulators.py --trace SEED REQUESTS KEYS > FILE
 
 LRU; FIFO; CLOCK (Corbató, A paging experiment with the Multics system, 1968), as a circle with a hand; SIEVE (Zhang, Yang, Yue, Vigfusson, Rashmi, NSDI 2024); S3-FIFO (Yang, Zhang, Qiu, Yue, Vigfusson, SOSP 2023); 2Q (Johnson, Shasha, VLDB 1994). Each takes requests of (key, size) and tells hits.
@@ -9,6 +9,7 @@ With a time to live, a body past its time is a miss: its entry is used, or remov
 """
 import bisect
 import collections
+import hashlib
 import heapq
 import itertools
 import random
@@ -358,6 +359,40 @@ def simulate(policy, limit, trace, passes_by, ttl=None, replaces=False):
     return (len(trace), hits, total, hit_bytes, cache.evicted)
 
 
+def mixed(number):
+    """The finalizer of SplitMix64 (Steele, Lea, Flood, OOPSLA 2014)."""
+    number = (number ^ number >> 30) * 0xBF58476D1CE4E5B9 % 2**64
+    number = (number ^ number >> 27) * 0x94D049BB133111EB % 2**64
+    return number ^ number >> 31
+
+
+def node_of(key, nodes):
+    """Rendezvous hashing (Thaler, Ravishankar, 1998): the node whose hash with the key is highest."""
+    front = int.from_bytes(hashlib.blake2b(key.encode(), digest_size=16).digest()[:8], "big")
+    return max(nodes, key=lambda node: (mixed(front ^ mixed((node + 1) % 2**64)), -node))
+
+
+def simulate_nodes(policy, limit, trace, count, dropped, behind):
+    """What each of several nodes and a cache behind them served of requests: requests, hits, bytes, bytes of hits, evicted."""
+    caches = {node: POLICIES[policy](limit) for node in range(count)}
+    caches["shield"] = POLICIES[policy](behind)
+    sizes = {name: limit if name != "shield" else behind for name in caches}
+    told = {name: [0, 0, 0, 0] for name in caches}
+    there = list(range(count))
+    for number, (key, size) in enumerate(trace):
+        for node, after in dropped:
+            if after == number:
+                there.remove(node)
+        for name in ([node_of(key, there)] if there else []) + ["shield"]:
+            hit = caches[name].has(key)
+            if hit or size <= sizes[name]:
+                caches[name].request(key, size)
+            told[name] = [count + more for count, more in zip(told[name], (1, hit, size, size * hit))]
+            if hit:
+                break
+    return {name: (*counts, caches[name].evicted) for name, counts in told.items()}
+
+
 def zipf(seed, requests, keys, skew=0.9):
     """Requests of keys whose popularity falls with their rank; each key has one size."""
     draw = random.Random(seed)
@@ -419,6 +454,24 @@ def compare_bounds(program, name, trace, sizes):
     print(f"{name}: the most hits of {len(sizes)} sizes: equal")
 
 
+def compare_nodes(program, name, trace, limit, count, dropped, behind):
+    """What each node told, and the cache behind them."""
+    text = "".join(f"{second},{key},{size}\n" for second, (key, size) in enumerate(trace))
+    words = [program, "--policy", ",".join(POLICIES), "--size", str(limit), "--nodes", str(count), "--shield", str(behind), "--format", "csv"]
+    words += ["--drop", ",".join(f"{node}@{after}" for node, after in dropped)] if dropped else []
+    output = subprocess.run(words, input=text, capture_output=True, text=True, check=True).stdout.split()
+    assert output[0].startswith("policy,size,tier,node,requests,hits,bytes,hit_bytes,evicted,tracked,busiest,"), output[0]
+    rows = [line.split(",") for line in output[1:]]
+    for policy in POLICIES:
+        wanted = simulate_nodes(policy, limit, trace, count, dropped, behind)
+        told = {row[2] if row[2] != "node" else int(row[3]): tuple(map(int, row[4:9])) for row in rows if row[0] == policy and row[2] != "nodes"}
+        assert told == wanted, (name, policy, told, wanted)
+        loads = [wanted[node][0] for node in range(count)]
+        (busiest,) = [row[10] for row in rows if row[0] == policy and row[2] == "nodes"]
+        assert abs(float(busiest) - max(loads) * count / sum(loads)) < 0.01, (name, policy, busiest, loads)
+    print(f"{name}: {count} nodes, {len(dropped)} of which go, and a cache behind them: equal")
+
+
 def each_prefix(program, name, trace, sizes):
     """Equal counts after each request say that each is a hit in both or in none."""
     for length in range(1, len(trace) + 1):
@@ -437,10 +490,13 @@ def main():
     for name, trace in HAND_MADE.items():
         each_prefix(program, name, trace, [1, 2, 3, 5, 8, 13])
         compare_bounds(program, name, trace, [1, 2, 3, 5, 8])
-    for seed, requests, keys in [(1, 100_000, 5_000), (2, 100_000, 50_000), (3, 1_000_000, 100_000)]:
+    traces = [(1, 100_000, 5_000), (2, 100_000, 50_000), (3, 1_000_000, 100_000)]
+    for seed, requests, keys in traces[:2] if "--short" in sys.argv else traces:
         trace = list(zipf(seed, requests, keys))
         total = sum({key: size for key, size in trace}.values())
         compare_bounds(program, f"Zipf {seed}", trace, [max(1, keys * part // 1000) for part in (1, 10, 100, 500)])
+        compare_nodes(program, f"Zipf {seed}", trace, total // 50, 7, [], total // 5)
+        compare_nodes(program, f"Zipf {seed}", trace, total // 50, 7, [(2, requests // 3), (5, requests // 2)], total // 5)
         compare(program, f"Zipf {seed}", trace, [max(1, total * part // 1000) for part in (1, 10, 100, 500)], requests // 10)
 
 

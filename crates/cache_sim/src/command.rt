@@ -10,6 +10,7 @@ pub fn command<'a>(alloc: Global) -> Result<Command<'a>, AllocError> {
         "Tells what caches of some sizes and policies would have served of a trace of requests.",
     );
     let command = caches(alloc, command)?;
+    let command = nodes(alloc, command)?;
     let command = trace(alloc, command)?;
     report(alloc, command)
 }
@@ -48,6 +49,19 @@ fn caches<'a>(alloc: Global, command: Command<'a>) -> Result<Command<'a>, AllocE
                 .action(ArgAction::SetTrue)
                 .help("each body counts as one byte, so that sizes are numbers of bodies"),
         )
+}
+
+fn nodes<'a>(alloc: Global, command: Command<'a>) -> Result<Command<'a>, AllocError> {
+    command
+        .arg(option(alloc, "nodes", "NUMBER").help(
+            "several caches of each size, each with the keys that go to it; one has all without it",
+        ))?
+        .arg(option(alloc, "drop", "NODE@REQUESTS").help(
+            "the node, from 0, that goes once so many requests were made; several with commas",
+        ))?
+        .arg(option(alloc, "shield", "SIZE").help(
+            "the size of one more cache, which is asked for what a node does not have",
+        ))
 }
 
 fn trace<'a>(alloc: Global, command: Command<'a>) -> Result<Command<'a>, AllocError> {
@@ -95,10 +109,10 @@ fn report<'a>(alloc: Global, command: Command<'a>) -> Result<Command<'a>, AllocE
                 .help("table, csv, or json with an object a line"),
         )?
         .arg(option(alloc, "threads", "NUMBER").help(
-            "how many threads play at most; as many as there are processors without it",
+            "how many threads play at most; one for each cache without it",
         ))?
         .arg(option(alloc, "plot", "FILE").help(
-            "a file for a drawing in SVG: the ratio of hits by size",
+            "a file for a drawing in SVG: the ratio of misses by size, a line for each policy",
         ))
 }
 
@@ -124,6 +138,9 @@ pub fn words<'a>(matches: &ArgMatches<'a>) -> Words<'a> {
         columns: matches.get_str("columns"),
         sample: matches.get_str("sample").unwrap_or(""),
         part: matches.get_str("part").unwrap_or(""),
+        nodes: matches.get_str("nodes"),
+        drop: matches.get_str("drop"),
+        shield: matches.get_str("shield"),
         format: matches.get_str("format").unwrap_or(""),
         plot: matches.get_str("plot"),
         bad_lines: matches.get_str("bad-lines").unwrap_or(""),

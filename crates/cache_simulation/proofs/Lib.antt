@@ -6,3 +6,4 @@ pub mod SideBySide
 pub mod Standing
 pub mod Tells
 pub mod ToldApart
+pub mod Visits

@@ -82,6 +82,16 @@ policy_of (run.Fifo r) = named.Fifo
 policy_of (run.Clock r) = named.Clock
 policy_of (run.TwoQueues r) = named.TwoQueues
 
+-- what a run has counted
+abbrev pub counts_of : AnyRun → Counts
+counts_of (run.Lru r) = r.counts
+counts_of (run.Sharded r) = r.counts
+counts_of (run.Sieve r) = r.counts
+counts_of (run.S3Fifo r) = r.counts
+counts_of (run.Fifo r) = r.counts
+counts_of (run.Clock r) = r.counts
+counts_of (run.TwoQueues r) = r.counts
+
 -- the size of the largest body that a cache with this limit stores
 abbrev pub most_in : Setting → ℕ → ℕ
 most_in s limit = if s.passes_by then limit else largest

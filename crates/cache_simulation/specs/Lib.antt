@@ -7,3 +7,4 @@ pub mod Plays
 pub mod Reading
 pub mod Replays
 pub mod Sampled
+pub mod Tiers

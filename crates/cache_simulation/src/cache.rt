@@ -7,7 +7,7 @@ ghost use Rattle.cache_simulation.specs.declared.run.Request.{Request};
 ghost use Rattle.cache_simulation.specs.Fresh.{Fresh, none_fresh};
 ghost use Rattle.cache_simulation.specs.Plays.{Rules, rules_of};
 ghost use Rattle.cache_simulation.specs.declared.options.Setting.{Setting};
-ghost use Rattle.cache_simulation.specs.Caches.{Stands, StandsIn, Ran, IsRow, policy_of, shape_of};
+ghost use Rattle.cache_simulation.specs.Caches.{Stands, StandsIn, Ran, IsRow, policy_of, shape_of, counts_of};
 
 use crate::counts::Counts;
 use crate::options::{Policy, Setting};
@@ -149,6 +149,21 @@ impl AnyRun {
             AnyRun::Fifo(run) => run.mark(),
             AnyRun::Clock(run) => run.mark(),
             AnyRun::TwoQueues(run) => run.mark(),
+        }
+    }
+
+    /// Its counts.
+    pub fn counts(&self) -> Counts
+        ensures { result ≡ counts_of self.now }
+    {
+        match self {
+            AnyRun::Lru(run) => run.counts,
+            AnyRun::Sharded(run) => run.counts,
+            AnyRun::Sieve(run) => run.counts,
+            AnyRun::S3Fifo(run) => run.counts,
+            AnyRun::Fifo(run) => run.counts,
+            AnyRun::Clock(run) => run.counts,
+            AnyRun::TwoQueues(run) => run.counts,
         }
     }
 

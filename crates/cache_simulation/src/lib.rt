@@ -3,7 +3,9 @@
 //!
 //! - `bounds`: the most hits that a cache of bodies of one size can have
 //! - `cache`: one cache, of any policy
+//! - `cluster`: a trace that is played to several nodes
 //! - `counts`: the counts over a trace
+//! - `drawing`: a drawing of the ratios of misses
 //! - `freshness`: until when bodies are fresh
 //! - `laws`: laws of all runs
 //! - `layout`: how the lines of a trace are read
@@ -13,16 +15,20 @@
 //! - `player`: the requests of a trace, on their way to the caches
 //! - `progress`: the progress of a simulation
 //! - `reader`: the requests of a trace, one after the other
-//! - `report`: tables, rows for plots, and a drawing
+//! - `report`: tables, and rows for plots
 //! - `run`: one manager over a trace
 //! - `runs`: the caches of a simulation
 //! - `sample`: a sample of the keys, which represents all
 //! - `simulation`: a trace from its first line to the report
+//! - `tier_rows`: the rows of several nodes, and of the cache behind them
+//! - `tiers`: several nodes, and maybe a cache behind them
 //! - `trace`: the lines of a trace
 
 pub mod bounds;
 pub mod cache;
+mod cluster;
 pub mod counts;
+pub mod drawing;
 pub mod freshness;
 pub mod laws;
 pub mod layout;
@@ -38,4 +44,6 @@ pub mod runs;
 pub mod sample;
 mod side_by_side;
 pub mod simulation;
+mod tier_rows;
+pub mod tiers;
 pub mod trace;

@@ -129,6 +129,12 @@ pub struct Words<'a> {
     pub sample: &'a str,
     /// The number of that part.
     pub part: &'a str,
+    /// How many nodes there are.
+    pub nodes: Option<&'a str>,
+    /// Which nodes go, and after how many requests.
+    pub drop: Option<&'a str>,
+    /// The size of a cache behind the nodes.
+    pub shield: Option<&'a str>,
     /// The form of the output.
     pub format: &'a str,
     /// The file of the drawing.
@@ -203,6 +209,17 @@ impl Setting {
     }
 }
 
+/// Several nodes, each with the keys that go to it.
+#[derive(Debug, Drop)]
+pub struct Cluster {
+    /// How many there are.
+    pub nodes: u64,
+    /// The nodes that go, each with the number of requests of the trace after which it does.
+    pub dropped: Vec<(u64, u64)>,
+    /// The size of a cache behind them, if there is one.
+    pub shield: Option<Size>,
+}
+
 /// The options of the command line.
 #[derive(Debug, Drop)]
 pub struct Options {
@@ -218,6 +235,8 @@ pub struct Options {
     pub distinct: Option<u64>,
     /// What all caches have in common.
     pub setting: Setting,
+    /// The nodes that share the keys, if there are several.
+    pub cluster: Option<Cluster>,
     /// The form of the output.
     pub output: Output,
     /// The file of the drawing, if there is one.
@@ -232,14 +251,18 @@ pub struct Options {
     pub trace_type: Option<TraceType>,
     /// The columns of lines with commas, if they are given.
     pub columns: Option<Columns>,
-    /// How many threads play at most, if that is given.
+    /// How many threads play at most, if that is given; one for each cache if it is not.
     pub threads: Option<usize>,
 }
 
 impl Options {
     /// Whether a size is a share of the total bytes of all bodies.
     pub fn have_share(&self) -> bool {
-        self.sizes.iter().any(|size| matches!(size, Size::Share(_)))
+        let is_behind = match &self.cluster {
+            Some(cluster) => matches!(cluster.shield, Some(Size::Share(_))),
+            None => false,
+        };
+        is_behind || self.sizes.iter().any(|size| matches!(size, Size::Share(_)))
     }
 
     /// The size that counts of a body which has this one.
@@ -286,6 +309,7 @@ pub fn read<'a>(alloc: Global, words: &Words<'a>) -> Result<Options, Unusable<'a
         trace: owned(alloc, words.trace)?,
         distinct: distinct(words.distinct)?,
         setting: read_setting(words)?,
+        cluster: nodes_of(alloc, words)?,
         output: value(
             "format",
             words.format,
@@ -349,6 +373,13 @@ const THREADS: &str = "a whole number from 1 and below 2^64";
 const TRACE_TYPES: &str = "csv, cdn, twitter or oracleGeneral";
 
 const COLUMNS: &str = "names with commas, with key and size among them once and time at most once";
+
+const NODES: &str =
+    "a whole number from 1 to 65536, without --warmup, --interval, --plot and belady";
+
+const DROP: &str = "nodes below --nodes, each as NODE@REQUESTS, with commas";
+
+const BEHIND: &str = "a size, as those of --size, with --nodes";
 
 const RATE: &str = "above 0 and at most 1, in whole millionths, as 0.01 or 1e-3";
 
@@ -434,6 +465,76 @@ fn columns(text: Option<&str>) -> Result<Option<Columns>, Unusable<'_>> {
         Some(text) => Ok(Some(value("columns", text, COLUMNS, Columns::read(text))?)),
         None => Ok(None),
     }
+}
+
+// The most nodes that there can be.
+const MOST_NODES: u64 = 65536;
+
+fn nodes_of<'a>(alloc: Global, words: &Words<'a>) -> Result<Option<Cluster>, Unusable<'a>> {
+    let Some(text) = words.nodes else {
+        no_nodes("drop", words.drop, DROP)?;
+        no_nodes("shield", words.shield, BEHIND)?;
+        return Ok(None);
+    };
+    let nodes = value("nodes", text, NODES, node_count(words, text))?;
+    let mut dropped = Vec::new(alloc);
+    if let Some(text) = words.drop {
+        for part in text.split(',') {
+            let one = value("drop", text, DROP, dropped_node(part.trim(), nodes))?;
+            if dropped.push(one).is_err() {
+                return Err(Unusable::Memory);
+            }
+        }
+    }
+    let shield = match words.shield {
+        Some(text) => Some(value("shield", text, BEHIND, read_size(text.trim()))?),
+        None => None,
+    };
+    Ok(Some(Cluster {
+        nodes,
+        dropped,
+        shield,
+    }))
+}
+
+// Refuses an option that says something of nodes that there are not.
+fn no_nodes<'a>(
+    option: &'static str,
+    text: Option<&'a str>,
+    choices: &'static str,
+) -> Result<(), Unusable<'a>> {
+    match text {
+        Some(value) => Err(Unusable::Value {
+            option,
+            value,
+            choices,
+        }),
+        None => Ok(()),
+    }
+}
+
+// How many nodes there are, if what else is wanted is told of nodes.
+fn node_count(words: &Words<'_>, text: &str) -> Option<u64> {
+    let is_told = whole_number(words.warmup) == Some(0)
+        && words.interval.is_none()
+        && words.plot.is_none()
+        && !words.policy.split(',').any(|name| name.trim() == BELADY);
+    let count = whole_number(text)?;
+    if is_told && count > 0 && count <= MOST_NODES {
+        Some(count)
+    } else {
+        None
+    }
+}
+
+// A node, and after how many requests it goes.
+fn dropped_node(text: &str, nodes: u64) -> Option<(u64, u64)> {
+    let (node, after) = text.split_once('@')?;
+    let node = whole_number(node)?;
+    if node >= nodes {
+        return None;
+    }
+    Some((node, whole_number(after)?))
 }
 
 fn sample<'a>(rate: &'a str, part: &'a str) -> Result<Sample, Unusable<'a>> {

@@ -200,7 +200,8 @@ impl Player {
     }
 }
 
-fn request(key: CompactCacheKey, size: usize, second: u64) -> Request
+// The request for a body, of the key that stands so.
+pub(crate) fn request(key: CompactCacheKey, size: usize, second: u64) -> Request
     ensures { result ≡ request_with key size second }
 {
     Request {

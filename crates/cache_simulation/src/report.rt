@@ -1,5 +1,4 @@
-//! Tables, rows for plots, and a drawing.
-ghost use Rattle.std.specs.Prelude.{◌<◌};
+//! Tables, and rows for plots.
 
 use crate::cache::Told;
 use crate::counts::Counts;
@@ -29,7 +28,7 @@ pub struct Row {
 
 impl Row {
     // The share of hits in the requests, in hundredths of a percent; of a sample, corrected.
-    fn hit_ratio(&self) -> u128 {
+    pub(crate) fn hit_ratio(&self) -> u128 {
         let hits = self.told.counts.corrected_hits(self.expected);
         ratio(u128::from(hits), u128::from(self.expected))
     }
@@ -237,58 +236,4 @@ fn write_line<W: Write>(out: &mut W, row: &Row) -> io::Result<()> {
         "{} evicted, {} bytes tracked",
         row.told.evicted, row.told.tracked
     )
-}
-
-/// Draws the ratio of hits by size, a line for each policy, as SVG. The sizes are side by side in the order in
-/// which they were given.
-pub fn draw<W: Write>(out: &mut W, rows: &[Row], sizes: usize) -> io::Result<()> {
-    writeln!(
-        out,
-        "<svg xmlns=\"http://www.w3.org/2000/svg\" viewBox=\"0 0 640 400\" font-family=\"sans-serif\" font-size=\"12\">"
-    )?;
-    writeln!(
-        out,
-        "<path d=\"M60 20V360H620\" fill=\"none\" stroke=\"black\"/><text x=\"20\" y=\"30\">100%</text><text x=\"30\" y=\"364\">0%</text>"
-    )?;
-    let places = sizes.max(1);
-    for (place, row) in rows.iter().enumerate() {
-        draw_point(out, row, place % places, places, place / places)?;
-    }
-    writeln!(out, "</svg>")
-}
-
-const COLOURS: [&str; 7] = [
-    "#1b6ca8", "#c0392b", "#27864d", "#8e44ad", "#b7791f", "#4a5568", "#d53f8c",
-];
-
-fn draw_point<W: Write>(
-    out: &mut W,
-    row: &Row,
-    place: usize,
-    places: usize,
-    policy: usize,
-) -> io::Result<()>
-    requires { 0 < places }
-{
-    let colour = COLOURS[policy % 7];
-    let x = 60 + (place as u128 * 540) / (places as u128);
-    let y = 360 - (row.hit_ratio().min(10_000) * 340) / 10_000;
-    writeln!(
-        out,
-        "<circle cx=\"{x}\" cy=\"{y}\" r=\"4\" fill=\"{colour}\"><title>{} {}</title></circle>",
-        row.told.policy.name(),
-        row.size
-    )?;
-    if place == 0 {
-        let under = 40 + (policy as u128 % 16) * 16;
-        writeln!(
-            out,
-            "<text x=\"520\" y=\"{under}\" fill=\"{colour}\">{}</text>",
-            row.told.policy.name()
-        )?;
-    }
-    if policy == 0 {
-        writeln!(out, "<text x=\"{x}\" y=\"380\">{}</text>", row.size)?;
-    }
-    Ok(())
 }

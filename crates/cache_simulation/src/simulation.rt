@@ -1,13 +1,15 @@
 //! A trace from its first line to the report.
 
 use crate::bounds::{Bound, find_bounds, write_bounds};
+use crate::cluster::Nodes;
+use crate::drawing::draw;
 use crate::layout::Refused;
 use crate::names::front;
-use crate::options::{Options, Policy};
+use crate::options::{Cluster, Options, Policy};
 use crate::player::Player;
 use crate::progress::Progress;
 use crate::reader::Reader;
-use crate::report::{Row, draw, write_rows};
+use crate::report::{Row, write_rows};
 use crate::trace::Asked;
 use pcache_base::key::hash_key;
 use std::alloc::Global;
@@ -15,10 +17,10 @@ use std::collections::HashSet;
 use std::io::{BufWriter, Read, Write};
 use std::rt::{Clock, Files};
 use std::thread::Threads;
-use std::{fs, io, thread};
+use std::{fs, io};
 
 // After how many lines the progress is written.
-const LINES_BETWEEN: u64 = 1_000_000;
+pub(crate) const LINES_BETWEEN: u64 = 1_000_000;
 
 /// Why a simulation ended early, or is no success.
 #[derive(Debug, Drop)]
@@ -52,7 +54,10 @@ pub fn simulate<C: Clock + Files + Threads + Sync, R: Read + Drop, W: Write + Dr
     errors: &mut E,
 ) -> Result<(), Stop> {
     let distinct = distinct(rt, alloc, options, errors)?;
-    let threads = threads(rt, options);
+    if let Some(cluster) = &options.cluster {
+        return play_nodes(rt, alloc, options, cluster, distinct, input, output, errors);
+    }
+    let threads = threads(options);
     let Ok(mut player) = Player::new(alloc, options, distinct, threads) else {
         return Err(Stop::Memory);
     };
@@ -80,6 +85,30 @@ pub fn simulate<C: Clock + Files + Threads + Sync, R: Read + Drop, W: Write + Dr
     }
 }
 
+// Plays the trace that the options name, or `input` if they name no file, to several nodes.
+fn play_nodes<C: Clock + Files, R: Read + Drop, W: Write + Drop, E: Write>(
+    rt: &C,
+    alloc: Global,
+    options: &Options,
+    cluster: &Cluster,
+    distinct: u64,
+    input: R,
+    output: W,
+    errors: &mut E,
+) -> Result<(), Stop> {
+    let told = BufWriter::new(alloc, output).map_err(Stop::Io)?;
+    let nodes = Nodes::new(alloc, options, cluster, distinct)?;
+    let Some(path) = &options.trace else {
+        let progress = Progress::start(rt, length(rt, "/dev/stdin"))?;
+        let reader = Reader::new(alloc, options, input)?;
+        return nodes.play(rt, reader, progress, told, errors);
+    };
+    let progress = Progress::start(rt, length(rt, path.as_str()))?;
+    let file = fs::open(rt, path.as_str()).map_err(Stop::Io)?;
+    let reader = Reader::new(alloc, options, file)?;
+    nodes.play(rt, reader, progress, told, errors)
+}
+
 // Plays the trace that the options name, or `input` if they name no file.
 fn read_input<C: Clock + Files + Threads + Sync, R: Read + Drop, E: Write>(
     rt: &C,
@@ -101,14 +130,12 @@ fn read_input<C: Clock + Files + Threads + Sync, R: Read + Drop, E: Write>(
     read_trace(rt, options, player, rows, reader, progress, errors)
 }
 
-// How many threads play at most: as many as the machine has processors for, if the options do not say.
-fn threads<C: Threads>(rt: &C, options: &Options) -> usize {
+// How many threads play at most: as many as there are caches, if the options do not say. With fewer some play several caches
+// while others have ended.
+fn threads(options: &Options) -> usize {
     match options.threads {
         Some(threads) => threads,
-        None => match thread::available_parallelism(rt) {
-            Ok(threads) => threads.get(),
-            Err(_unknown) => 1,
-        },
+        None => options.policies.len().saturating_mul(options.sizes.len()),
     }
 }
 

@@ -8,6 +8,8 @@ mod bounds;
 #[cfg(test)]
 mod managers;
 #[cfg(test)]
+mod nodes;
+#[cfg(test)]
 mod options;
 #[cfg(test)]
 mod reports;

@@ -28,6 +28,9 @@ const USUAL: Words<'static> = Words {
     part: "0",
     format: "table",
     plot: None,
+    nodes: None,
+    drop: None,
+    shield: None,
     bad_lines: "100",
 };
 
@@ -60,6 +63,9 @@ fn give(words: &mut Words<'static>, name: &str, value: &'static str) {
         "part" => words.part = value,
         "format" => words.format = value,
         "plot" => words.plot = Some(value),
+        "nodes" => words.nodes = Some(value),
+        "drop" => words.drop = Some(value),
+        "shield" => words.shield = Some(value),
         _ => words.bad_lines = value,
     }
 }
@@ -93,6 +99,7 @@ fn tell_option(options: &Options, name: &str, told: &mut Told) {
         "part" => told.number(options.setting.sample.part),
         "format" => told.named(&options.output),
         "plot" => told.named(&options.plot),
+        "nodes" => told.named(&options.cluster),
         _ => told.named(&options.bad_lines),
     }
 }
@@ -124,6 +131,15 @@ const READ: &str = "
     size 7,10MB,1KiB,2GB -> [Bytes(7), Bytes(10000000), Bytes(1024), Bytes(2000000000)]
     size 1G, 1.5MB, 0.5KiB -> [Bytes(1000000000), Bytes(1500000), Bytes(512)]
     size 1%,0.5% -> [Share(1000000), Share(500000)] of all
+    nodes 3 -> Some(Cluster { nodes: 3, dropped: [], shield: None })
+    nodes 3; drop 1@8, 0@9; shield 1KB -> Some(Cluster { nodes: 3, dropped: [(1, 8), (0, 9)], shield: Some(Bytes(1000)) })
+    nodes 3; drop 3@8 -> --drop cannot be \"3@8\"; it is nodes below --nodes, each as NODE@REQUESTS, with commas
+    nodes 0 -> --nodes cannot be \"0\"; it is a whole number from 1 to 65536, without --warmup, --interval, --plot and belady
+    nodes 65537 -> --nodes cannot be \"65537\"; it is a whole number from 1 to 65536, without --warmup, --interval, --plot and belady
+    nodes 2; interval 5 -> --nodes cannot be \"2\"; it is a whole number from 1 to 65536, without --warmup, --interval, --plot and belady
+    drop 1@8 -> --drop cannot be \"1@8\"; it is nodes below --nodes, each as NODE@REQUESTS, with commas
+    shield 5 -> --shield cannot be \"5\"; it is a size, as those of --size, with --nodes
+    size 5; nodes 2; shield 10% -> [Bytes(5)] of all
     trace a.csv -> Some(\"a.csv\")
     distinct 3KB -> Some(3000)
     ttl 60 -> Some(60)

@@ -1,8 +1,9 @@
 //! What is written at the end of a simulation.
 use cache_simulation::cache::Told;
 use cache_simulation::counts::Counts;
+use cache_simulation::drawing::draw;
 use cache_simulation::options::{Output, Policy, Setting};
-use cache_simulation::report::{Row, draw, write_rows};
+use cache_simulation::report::{Row, write_rows};
 use cache_simulation::sample::Sample;
 use std::alloc::Global;
 
@@ -112,21 +113,42 @@ fn a_correction_ends_at_no_hits(rt: HostRuntime) {
     assert!(rt; row().told.counts.corrected_hit_bytes(10) == 2);
 }
 
-// A third of 340 lines is 113, from the bottom at 360 upwards.
+// Two thirds of 320 lines are 213, from the bottom at 340 upwards. On an axis from 1 to 100, 10 is in the middle.
 const DRAWN: &str =
-    "<svg xmlns=\"http://www.w3.org/2000/svg\" viewBox=\"0 0 640 400\" font-family=\"sans-serif\" font-size=\"12\">\n\
-    <path d=\"M60 20V360H620\" fill=\"none\" stroke=\"black\"/><text x=\"20\" y=\"30\">100%</text><text x=\"30\" y=\"364\">0%</text>\n\
-    <circle cx=\"60\" cy=\"247\" r=\"4\" fill=\"#1b6ca8\"><title>sieve 5</title></circle>\n\
-    <text x=\"520\" y=\"40\" fill=\"#1b6ca8\">sieve</text>\n\
-    <text x=\"60\" y=\"380\">5</text>\n\
+    "<svg xmlns=\"http://www.w3.org/2000/svg\" viewBox=\"0 0 700 400\" font-family=\"sans-serif\" font-size=\"12\">\n\
+    <path d=\"M60 20V340H600\" fill=\"none\" stroke=\"black\"/><text x=\"10\" y=\"24\">100%</text><text x=\"25\" y=\"344\">0%</text><text x=\"10\" y=\"184\">misses</text>\n\
+    <circle cx=\"600\" cy=\"126\" r=\"3\" fill=\"#1b6ca8\"><title>sieve 100</title></circle>\n\
+    <text x=\"600\" y=\"356\" transform=\"rotate(20 600 356)\">100</text>\n\
+    <circle cx=\"60\" cy=\"126\" r=\"3\" fill=\"#1b6ca8\"><title>sieve 1</title></circle>\n\
+    <path d=\"M60 126L330 126\" stroke=\"#1b6ca8\"/>\n\
+    <text x=\"60\" y=\"356\" transform=\"rotate(20 60 356)\">1</text>\n\
+    <circle cx=\"330\" cy=\"126\" r=\"3\" fill=\"#1b6ca8\"><title>sieve 10</title></circle>\n\
+    <path d=\"M330 126L600 126\" stroke=\"#1b6ca8\"/>\n\
+    <text x=\"330\" y=\"356\" transform=\"rotate(20 330 356)\">10</text>\n\
+    <text x=\"620\" y=\"40\" fill=\"#1b6ca8\">sieve</text>\n\
+    <circle cx=\"60\" cy=\"126\" r=\"3\" fill=\"#c0392b\"><title>fifo 1</title></circle>\n\
+    <text x=\"620\" y=\"56\" fill=\"#c0392b\">fifo</text>\n\
     </svg>\n";
+
+fn of_size(policy: Policy, size: usize) -> Row {
+    let mut row = row();
+    row.size = size;
+    row.told.policy = policy;
+    row
+}
 
 fn is_drawn(alloc: Global) -> bool {
     let mut out = Vec::new(alloc);
-    draw(&mut out, &[row()], 1).is_ok() && out.as_slice() == DRAWN.as_bytes()
+    let rows = [
+        of_size(Policy::Sieve, 100),
+        of_size(Policy::Sieve, 1),
+        of_size(Policy::Sieve, 10),
+        of_size(Policy::Fifo, 1),
+    ];
+    draw(&mut out, &rows, 3).is_ok() && out.as_slice() == DRAWN.as_bytes()
 }
 
 #[test]
-fn ratios_are_drawn(rt: HostRuntime) {
+fn misses_are_drawn(rt: HostRuntime) {
     assert!(rt; is_drawn(rt.alloc()));
 }

@@ -24,6 +24,9 @@ const WORDS: Words<'static> = Words {
     part: "0",
     format: "csv",
     plot: None,
+    nodes: None,
+    drop: None,
+    shield: None,
     bad_lines: "1",
 };
 
@@ -338,4 +341,84 @@ fn is_cut<C: Clock + Files + Threads + Sync>(rt: &C, alloc: Global) -> bool {
 #[test]
 fn a_line_without_an_end_is_not_kept(rt: HostRuntime) {
     assert!(rt; is_cut(&rt, rt.alloc()));
+}
+
+// Bodies of one byte: `e` goes to node 2, `h` and `i` to node 0, and `a` to node 1, which goes after eight requests, and then to
+// node 0. What each tells was computed by `bench/simulators.py`.
+const SHARED: &str =
+    "0,a,1\n0,e,1\n0,h,1\n0,i,1\n0,a,1\n0,e,1\n0,h,1\n0,i,1\n0,a,1\n0,e,1\n0,h,1\n0,i,1\n0,a,1\n0,e,1\n0,h,1\n0,i,1\n";
+
+const SHARES: &str = "policy,size,tier,node,requests,hits,bytes,hit_bytes,evicted,tracked,busiest,\
+    nodes,drop,sample,part,ttl,large,expired,ignore_size,watermark\n\
+    lru,2,node,0,10,2,10,2,6,2,,3,1@8,1.000000,0,,pass,use,false,\n\
+    lru,2,node,1,2,1,2,1,0,1,,3,1@8,1.000000,0,,pass,use,false,\n\
+    lru,2,node,2,4,3,4,3,0,1,,3,1@8,1.000000,0,,pass,use,false,\n\
+    lru,2,nodes,,16,6,16,6,6,4,1.87,3,1@8,1.000000,0,,pass,use,false,\n\
+    lru,3,shield,,10,5,10,5,2,3,,3,1@8,1.000000,0,,pass,use,false,\n";
+
+const SHARES_TOLD: &str =
+    "lru of 2 bytes, node 0: 10 requests, 2 hits (20.00%), 20.00% of the bytes, 6 evicted, 2 bytes tracked\n\
+    lru of 2 bytes, node 1: 2 requests, 1 hits (50.00%), 50.00% of the bytes, 0 evicted, 1 bytes tracked\n\
+    lru of 2 bytes, node 2: 4 requests, 3 hits (75.00%), 75.00% of the bytes, 0 evicted, 1 bytes tracked\n\
+    lru of 2 bytes, nodes: 16 requests, 6 hits (37.50%), 37.50% of the bytes, 6 evicted, 4 bytes tracked; the busiest has 1.87 times the mean\n\
+    lru of 3 bytes, shield: 10 requests, 5 hits (50.00%), 50.00% of the bytes, 2 evicted, 3 bytes tracked\n";
+
+// The same if node 0 goes after nine requests and node 2 after eleven, and there is no shield.
+const SHARES_IN_JSON: &str =
+    "{\"policy\":\"fifo\",\"size\":2,\"tier\":\"node\",\"node\":0,\"requests\":4,\"hits\":2,\"bytes\":4,\"hit_bytes\":2,\"evicted\":0,\"tracked\":2,\"busiest\":null,\
+    \"nodes\":3,\"drop\":\"0@9,2@11\",\"sample\":1.000000,\"part\":0,\"ttl\":null,\"large\":\"pass\",\"expired\":\"use\",\"ignore_size\":false,\"watermark\":null}\n\
+    {\"policy\":\"fifo\",\"size\":2,\"tier\":\"node\",\"node\":1,\"requests\":8,\"hits\":3,\"bytes\":8,\"hit_bytes\":3,\"evicted\":3,\"tracked\":2,\"busiest\":null,\
+    \"nodes\":3,\"drop\":\"0@9,2@11\",\"sample\":1.000000,\"part\":0,\"ttl\":null,\"large\":\"pass\",\"expired\":\"use\",\"ignore_size\":false,\"watermark\":null}\n\
+    {\"policy\":\"fifo\",\"size\":2,\"tier\":\"node\",\"node\":2,\"requests\":4,\"hits\":2,\"bytes\":4,\"hit_bytes\":2,\"evicted\":0,\"tracked\":2,\"busiest\":null,\
+    \"nodes\":3,\"drop\":\"0@9,2@11\",\"sample\":1.000000,\"part\":0,\"ttl\":null,\"large\":\"pass\",\"expired\":\"use\",\"ignore_size\":false,\"watermark\":null}\n\
+    {\"policy\":\"fifo\",\"size\":2,\"tier\":\"nodes\",\"node\":null,\"requests\":16,\"hits\":7,\"bytes\":16,\"hit_bytes\":7,\"evicted\":3,\"tracked\":6,\"busiest\":1.50,\
+    \"nodes\":3,\"drop\":\"0@9,2@11\",\"sample\":1.000000,\"part\":0,\"ttl\":null,\"large\":\"pass\",\"expired\":\"use\",\"ignore_size\":false,\"watermark\":null}\n";
+
+fn are_shared<C: Clock + Files + Threads + Sync>(
+    rt: &C,
+    alloc: Global,
+    policy: &'static str,
+    drop: &'static str,
+    shield: Option<&'static str>,
+    format: &'static str,
+    written: &str,
+) -> bool {
+    let mut words = WORDS;
+    words.policy = policy;
+    words.size = "2";
+    words.nodes = Some("3");
+    words.drop = Some(drop);
+    words.shield = shield;
+    words.format = format;
+    match read(alloc, &words) {
+        Ok(options) => is_played(rt, alloc, &options, SHARED, "done", written, ""),
+        Err(_unusable) => false,
+    }
+}
+
+#[test]
+fn nodes_share_the_keys(rt: HostRuntime) {
+    assert!(rt; are_shared(&rt, rt.alloc(), "lru", "1@8", Some("3"), "csv", SHARES));
+    assert!(rt;
+        are_shared(
+            &rt,
+            rt.alloc(),
+            "lru",
+            "1@8",
+            Some("3"),
+            "table",
+            SHARES_TOLD
+        )
+    );
+    assert!(rt;
+        are_shared(
+            &rt,
+            rt.alloc(),
+            "fifo",
+            "0@9,2@11",
+            None,
+            "json",
+            SHARES_IN_JSON
+        )
+    );
 }
