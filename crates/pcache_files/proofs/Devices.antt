@@ -1,6 +1,10 @@
 -- What readers gave and writers took, call after call.
-use Rattle.std.proofs.Common.{◌≡◌, ℕ, ◌-◌, List, ◌++◌, Option, Some, None, length, take, drop, sym, ap, ◌∙◌, append_assoc, arith}
-use Rattle.std.specs.Prelude.{Result, Ok, Err}
+use Rattle.std.proofs.Common.{◌≡◌, ℕ, suc, ◌+◌, ◌-◌, ◌^◌, List, ◌++◌, Option, Some, None, length, take, drop, sym, ap, subst, ◌∙◌, append_assoc, arith, inl, inr}
+use Rattle.std.specs.Prelude.{Result, Ok, Err, ◌≢◌}
+use Rattle.std_io.specs.declared.io.error.Error.{Error}
+use Rattle.std_io.specs.IoError.{error_kind}
+use Rattle.std_io.specs.declared.io.kind.ErrorKind.TheVariants as kinds
+use Rattle.pcache_files.specs.Device.{Interrupted, GaveUp}
 use Rattle.std.specs.Io.KnownBytes.{Appends, Consumes, Keeps, ReadConsumes}
 use Rattle.std.proofs.lemmas.List.{append-nil, length-drop, take-append-drop, take_all}
 
@@ -21,13 +25,6 @@ keeps-consumes (Some xs) (Some ys) (Some zs) bs h k = sym h ∙ k
 pub keeps-read : {E : Type 0} (a b c : Option (List ℕ)) (r : Result ℕ E) (buf : List ℕ) → Keeps a b → ReadConsumes b c r buf → ReadConsumes a c r buf
 keeps-read a b c (Ok n) buf h k = (keeps-consumes a b c (take n buf) h k.0, k.1)
 keeps-read a b c (Err e) buf h k = keeps-keeps a b c h k
-
--- a write that took no byte
-pub keeps-none : (a b c : Option (List ℕ)) (n : ℕ) (buf : List ℕ) → n ≡ 0 → Keeps a b → Appends b c (take n buf) → Keeps a c
-keeps-none None b c n buf none h k = tt
-keeps-none (Some xs) None c n buf none h k = absurd h
-keeps-none (Some xs) (Some ys) None n buf none h k = absurd k
-keeps-none (Some xs) (Some ys) (Some zs) n buf none h k = k ∙ ap (λ m. ys ++ take m buf) none ∙ append-nil ys ∙ h
 
 -- ---- bytes read in pieces
 
@@ -57,3 +54,29 @@ taken-more old now new bytes rest n h more = rw (take_all (length rest - n) (dro
   split = h.split ∙ ap (λ l. h.front ++ l) (sym (take-append-drop n rest)) ∙ sym (append_assoc h.front (take n rest) (drop n rest));
   appends = appends-more old now new h.front (take n rest) h.appends more;
 })
+
+-- ---- calls that are made again
+
+module _ {D : Type 0} (fails : D → Error → D → Type 0) where
+  -- a try that was interrupted is made again
+  pub interrupted-again : (n : ℕ) (old now new : D) (e : Error) → Interrupted fails n old now → fails now e new → error_kind e ≡ kinds.Interrupted → Interrupted fails (n + 1) old new
+  interrupted-again n old now new e so_far failed by = subst (λ m. Interrupted fails m old new) (more n) (now, e, so_far, failed, by)
+    where
+      more : (n : ℕ) → suc n ≡ n + 1
+      more n = omega arith
+
+  -- a try failed
+  pub gave-up : (n : ℕ) (old now new left : D) (e : Error) → Interrupted fails n old now → fails now e new → error_kind e ≢ kinds.Interrupted → left ≡ new → (d : D) × GaveUp fails d left
+  gave-up n old now new left e so_far failed not_by is = (
+    old,
+    record {
+      times = n;
+      last = now;
+      interrupted = so_far;
+      ended = inl (e, subst (λ d. fails now e d) (sym is) failed, not_by);
+    },
+  )
+
+  -- all tries were interrupted
+  pub gave-up-trying : (n : ℕ) (old now left : D) → Interrupted fails n old now → n ≡ 2 ^ 64 - 1 → left ≡ now → (d : D) × GaveUp fails d left
+  gave-up-trying n old now left so_far all is = (old, record { times = n; last = now; interrupted = so_far; ended = inr (all, is) })

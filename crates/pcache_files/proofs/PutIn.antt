@@ -1,5 +1,5 @@
 -- What is put in from files, on the map of what is tracked.
-use Rattle.std.proofs.Common.{◌≡◌, ℕ, suc, ◌+◌, ◌≤◌, true, false, cond, Option, None, Some, is_some, length, length-append, arith, inl, inr, List, [], ◌∷◌, ◌++◌, refl, ap, sym, subst, ◌∙◌, append_assoc}
+use Rattle.std.proofs.Common.{◌≡◌, ℕ, suc, ◌+◌, ◌≤◌, true, false, cond, Option, None, Some, is_some, length, length-append, arith, List, [], ◌∷◌, ◌++◌, refl, ap, sym, subst, ◌∙◌, append_assoc}
 use Rattle.std.specs.List.{AllByRecursion, IsDistinct}
 use Rattle.std.specs.FinMap as fin
 use Rattle.std.specs.Ordering.{eq_by_cmp}
@@ -15,14 +15,11 @@ use Rattle.pcache_evict.proofs.Recency.{laws, same_key}
 use Rattle.pcache_evict.proofs.Maps.{get-map_of, map-moved}
 use Rattle.pcache_evict.proofs.Sharded.{E, Apart, at_home, both, found-all, once-append, placed-put, in_range}
 use Rattle.pcache_evict.proofs.Cuts.{joined-there, joined-new}
-use Rattle.std.specs.Prelude.{◌⊎◌, Result, Ok, Err, IfErr, IfSome, IfNone, IsErrOf}
-use Rattle.pcache_base.specs.declared.error.ErrorType.{ErrorType}
-use Rattle.pcache_base.specs.declared.error.ErrorType.TheVariants.{InternalError, Io, OutOfMemory}
-use Rattle.pcache_files.specs.declared.device.Counted.{Counted}
-use Rattle.pcache_files.specs.Device.{Counts}
-use Rattle.pcache_files.specs.FileSpelling.{SpellsFile}
-use Rattle.pcache_files.specs.Folder.{IsRead, IsSkipped, IsUnopened, IsFile, Loads, found, missing, set_all, added_all}
-use Rattle.pcache_files.specs.Folder as folder
+use Rattle.std.specs.Prelude.{zero, IfSome, IfNone, option_map}
+use Rattle.std.specs.Path.{path_join}
+use Rattle.std_io.specs.declared.io.error.Error.{Error}
+use Rattle.pcache_files.specs.FileWriting.{file_written}
+use Rattle.pcache_files.specs.Folder.{AreFiles, AreSaved, IsFile, IsRead, IsSaved, Loads, found, missing, set_all, added_all, shard_files, shard_name, shard_names}
 
 apart_none : (k : CacheEntryKey) (l : Recency) → weight_of k l ≡ None → Apart k l
 apart_none k [] none = tt
@@ -131,71 +128,86 @@ missing_none [] = refl
 missing_none (None ∷ lists) = ap suc (missing_none lists)
 missing_none (Some m ∷ lists) = missing_none lists
 
-longer : (lists : List (Option Recency)) (o : Option Recency) → length (lists ++ o ∷ []) ≡ length lists + 1
-longer lists o = length-append lists (o ∷ [])
+more_one : (n : ℕ) → suc n ≡ n + 1
+more_one n = omega arith
 
-module _ {F : Type 0} (left : F → Option (List ℕ)) where
-  each_more : (lists : List (Option Recency)) (o : Option Recency) → AllByRecursion (IsFile left) lists → IsFile left o → AllByRecursion (IsFile left) (lists ++ o ∷ [])
-  each_more [] o h one = (one, tt)
-  each_more (x ∷ lists) o h one = (h.0, each_more lists o h.1 one)
+module _ {F : Type 0} (opens : List ℕ → F → Type 0) (left : F → Option (List ℕ)) (refuses : List ℕ → Error → Type 0) (fails : F → Error → F → Type 0) (dir : List ℕ) where
+  abbrev pub Each : List (List ℕ) → List (Option Recency) → Type 0
+  Each = AreFiles opens left refuses fails dir
 
-  pub loads_none : Loads left 0 0 []
-  loads_none = record { lists = []; many = refl; each = tt; skips = refl; all = refl }
+  abbrev pub One : List ℕ → Option Recency → Type 0
+  One name list = IsFile opens left refuses fails (path_join dir name) list
 
-  pub loads_read : (files skipped : ℕ) (entries l new : Recency) → Loads left files skipped entries → IsFile left (Some l) → new ≡ entries ++ l → Loads left (files + 1) skipped new
-  loads_read files skipped entries l new so_far one is = record {
+  each_more : (names : List (List ℕ)) (lists : List (Option Recency)) (name : List ℕ) (o : Option Recency) → Each names lists → One name o → Each (names ++ name ∷ []) (lists ++ o ∷ [])
+  each_more [] [] name o h one = (one, tt)
+  each_more [] (x ∷ lists) name o h one = absurd h
+  each_more (n ∷ names) [] name o h one = absurd h
+  each_more (n ∷ names) (x ∷ lists) name o h one = (h.0, each_more names lists name o h.1 one)
+
+  abbrev pub Loaded : List (List ℕ) → ℕ → Recency → Type 0
+  Loaded = Loads opens left refuses fails dir
+
+  pub loads_none : Loaded [] 0 []
+  loads_none = record { lists = []; each = tt; skips = refl; all = refl }
+
+  loads_read : (names : List (List ℕ)) (name : List ℕ) (skipped : ℕ) (entries l new : Recency) → Loaded names skipped entries → One name (Some l) → new ≡ entries ++ l → Loaded (names ++ name ∷ []) skipped new
+  loads_read names name skipped entries l new so_far one is = record {
     lists = so_far.lists ++ Some l ∷ [];
-    many = longer so_far.lists (Some l) ∙ ap (λ n. n + 1) so_far.many;
-    each = each_more so_far.lists (Some l) so_far.each one;
+    each = each_more names so_far.lists name (Some l) so_far.each one;
     skips = so_far.skips ∙ sym (missing_more so_far.lists l);
     all = is ∙ ap (λ x. x ++ l) so_far.all ∙ sym (found_more so_far.lists l);
   }
 
-  pub loads_skipped : (files skipped : ℕ) (entries : Recency) → Loads left files skipped entries → IsFile left None → Loads left (files + 1) (skipped + 1) entries
-  loads_skipped files skipped entries so_far one = record {
+  loads_skipped : (names : List (List ℕ)) (name : List ℕ) (skipped : ℕ) (entries : Recency) → Loaded names skipped entries → One name None → Loaded (names ++ name ∷ []) (skipped + 1) entries
+  loads_skipped names name skipped entries so_far one = record {
     lists = so_far.lists ++ None ∷ [];
-    many = longer so_far.lists None ∙ ap (λ n. n + 1) so_far.many;
-    each = each_more so_far.lists None so_far.each one;
-    skips = ap (λ n. n + 1) so_far.skips ∙ one_more (missing so_far.lists) ∙ sym (missing_none so_far.lists);
+    each = each_more names so_far.lists name None so_far.each one;
+    skips = ap (λ n. n + 1) so_far.skips ∙ sym (more_one (missing so_far.lists)) ∙ sym (missing_none so_far.lists);
     all = so_far.all ∙ sym (found_none so_far.lists);
   }
+
+  loads_on : {X : Type 0} (view : X → Recency) (o : Option X) (names : List (List ℕ)) (name : List ℕ) (s t : ℕ) (e f : Recency) → Loaded names s e → One name (option_map view o)
+      → IfSome o (λ v. (f ≡ e ++ view v) × (t ≡ s)) → IfNone o ((f ≡ e) × (t ≡ s + 1)) → Loaded (names ++ name ∷ []) t f
+  loads_on view (Some v) names name s t e f so_far one added missed =
+      subst (λ n. Loaded (names ++ name ∷ []) n f) (sym added.1) (loads_read names name s e (view v) f so_far one added.0)
+  loads_on view None names name s t e f so_far one added missed =
+      subst (λ n. Loaded (names ++ name ∷ []) n f) (sym missed.1) (subst (λ l. Loaded (names ++ name ∷ []) (s + 1) l) (sym missed.0) (loads_skipped names name s e so_far one))
+
+  -- the file of one more shard, as the code takes it in
+  pub loads_step : {X : Type 0} (view : X → Recency) (o : Option X) (shards s t : ℕ) (e f : Recency) → Loaded (shard_names shards) s e → One (shard_name shards) (option_map view o)
+      → IfSome o (λ v. (f ≡ e ++ view v) × (t ≡ s)) → IfNone o ((f ≡ e) × (t ≡ s + 1)) → Loaded (shard_names (shards + 1)) t f
+  loads_step view o shards s t e f so_far one added missed =
+      subst (λ n. Loaded (shard_names n) t f) (more_one shards) (loads_on view o (shard_names shards) (shard_name shards) s t e f so_far one added missed)
+
+  few : (names : List (List ℕ)) (lists : List (Option Recency)) → Each names lists → missing lists ≤ length names
+  few [] [] h = omega arith
+  few [] (x ∷ lists) h = absurd h
+  few (n ∷ names) [] h = absurd h
+  few (n ∷ names) (None ∷ lists) h = omega (arith, few names lists h.1)
+  few (n ∷ names) (Some l ∷ lists) h = omega (arith, few names lists h.1)
+
+  -- no more are skipped than there are shards
+  pub skips_few : (shards skipped : ℕ) (entries : Recency) → Loaded (shard_names shards) skipped entries → skipped ≤ shards
+  skips_few shards skipped entries h = omega (arith, h.skips, few (shard_names shards) h.lists h.each, many shards)
     where
-      one_more : (n : ℕ) → n + 1 ≡ suc n
-      one_more n = omega arith
-
-  -- one more file, as the code takes it in
-  pub loads_step : {X : Type 0} (view : X → Recency) (o : Option X) (files s t : ℕ) (e f : Recency) → Loads left files s e → IfSome o (λ v. IsRead left (view v)) → IfNone o (IsSkipped left)
-      → IfSome o (λ v. (f ≡ e ++ view v) × (t ≡ s)) → IfNone o ((f ≡ e) × (t ≡ s + 1)) → Loads left (files + 1) t f
-  loads_step view (Some v) files s t e f so_far one none added missed =
-      subst (λ n. Loads left (files + 1) n f) (sym added.1) (loads_read files s e (view v) f so_far one added.0)
-  loads_step view None files s t e f so_far one none added missed =
-      subst (λ n. Loads left (files + 1) n f) (sym missed.1) (subst (λ l. Loads left (files + 1) (s + 1) l) (sym missed.0) (loads_skipped files s e so_far none))
-
-  -- why a file is skipped
-  pub skipped_unopened : {T U : Type 0} (r : Result T ErrorType) (e f : ErrorType) → r ≡ Err f → f ≡ e → (e ≡ OutOfMemory) ⊎ (e ≡ Io) → (IsErrOf {T = U} (Err e) Io → IsUnopened) → IfErr r (λ k. (k ≡ OutOfMemory) ⊎ IsSkipped left)
-  skipped_unopened {T = T} r e f is same kinds why =
-      let here : (e ≡ OutOfMemory) ⊎ IsSkipped left = elim kinds [ inl m ↦ inl m | inr io ↦ inr (folder.unopened (why (ap Err io))) ] in
-      subst (λ (x : Result T ErrorType). IfErr x (λ k. (k ≡ OutOfMemory) ⊎ IsSkipped left)) (sym (is ∙ ap Err same)) here
-
-  pub skipped_unread : {T : Type 0} (r : Result T ErrorType) (before after : Counted F) → Counts before.failures after.failures r
-      → (IsErrOf r InternalError → (rest : List ℕ) → left before.device ≡ Some rest → (l : Recency) → SpellsFile rest l → ⊥)
-      → IfErr r (λ e. (e ≡ OutOfMemory) ⊎ (e ≡ InternalError) ⊎ (e ≡ Io)) → IfErr r (λ k. (k ≡ OutOfMemory) ⊎ IsSkipped left)
-  skipped_unread (Ok v) before after counts never kinds = tt
-  skipped_unread (Err OutOfMemory) before after counts never kinds = inl refl
-  skipped_unread (Err InternalError) before after counts never kinds = inr (folder.foreign before.device (never refl))
-  skipped_unread (Err Io) before after counts never kinds = inr (folder.failed before after counts)
-  skipped_unread (Err _) before after counts never (inl p) = absurd (cc p)
-  skipped_unread (Err _) before after counts never (inr (inl p)) = absurd (cc p)
-  skipped_unread (Err _) before after counts never (inr (inr p)) = absurd (cc p)
-
-  few : (lists : List (Option Recency)) → missing lists ≤ length lists
-  few [] = omega arith
-  few (None ∷ lists) = omega (arith, few lists)
-  few (Some l ∷ lists) = omega (arith, few lists)
-
-  pub skips_few : (files skipped : ℕ) (entries : Recency) → Loads left files skipped entries → skipped ≤ files
-  skips_few files skipped entries h = omega (arith, h.skips, h.many, few h.lists)
+      many : (n : ℕ) → length (shard_names n) ≡ n
+      many zero = refl
+      many (suc n) = length-append (shard_names n) (shard_name n ∷ []) ∙ ap (λ m. m + 1) (many n) ∙ sym (more_one n)
 
   -- one file that was read
-  pub loads_one : (l : Recency) → IsRead left l → Loads left 1 0 l
-  loads_one l one = record { lists = Some l ∷ []; many = refl; each = (one, tt); skips = refl; all = sym (append-nil l) }
+  pub loads_one : (name : List ℕ) (l : Recency) → IsRead opens left (path_join dir name) l → Loaded (name ∷ []) 0 l
+  loads_one name l one = record { lists = Some l ∷ []; each = (one, tt); skips = refl; all = sym (append-nil l) }
+
+-- ---- files that were saved
+
+module _ {F : Type 0} (makes : List ℕ → F → Type 0) (renames : List ℕ → List ℕ → Type 0) (contents : F → Option (List ℕ)) (is_flushed : F → Type 0) (dir : List ℕ) where
+  abbrev pub Are : List (List ℕ × List ℕ) → Type 0
+  Are = AreSaved makes renames contents is_flushed dir
+
+  saved_more : (files : List (List ℕ × List ℕ)) (name bytes : List ℕ) → Are files → IsSaved makes renames contents is_flushed (path_join dir name) bytes → Are (files ++ (name, bytes) ∷ [])
+  saved_more [] name bytes h one = (one, tt)
+  saved_more (file ∷ files) name bytes h one = (h.0, saved_more files name bytes h.1 one)
+
+  -- the file of one more shard
+  pub saved_step : (shards : ℕ) (lists : List Recency) → Are (shard_files shards lists) → IsSaved makes renames contents is_flushed (path_join dir (shard_name shards)) (file_written (list_at lists shards)) → Are (shard_files (shards + 1) lists)
+  saved_step shards lists h one = subst (λ n. Are (shard_files n lists)) (more_one shards) (saved_more (shard_files shards lists) (shard_name shards) (file_written (list_at lists shards)) h one)

@@ -128,5 +128,8 @@ too_long all left after node out w split long =
     inr (length w.done, node, omega arith, here, long)
 
 -- an error that was passed on
+pub passed_as : {T U : Type 0} (k : ErrorType) (r : Result U ErrorType) (e f : ErrorType) → r ≡ Err f → f ≡ e → IsErrOf r k → IsErrOf {T = T} (Err e) k
+passed_as k r e f is same refused = let both = sym is ∙ refused in cc (same, both)
+
 pub passed_on : {T U : Type 0} (r : Result U ErrorType) (e f : ErrorType) → r ≡ Err f → f ≡ e → IsErrOf r InternalError → IsErrOf {T = T} (Err e) InternalError
 passed_on r e f is same refused = let both = sym is ∙ refused in cc (same, both)

@@ -1,6 +1,11 @@
--- Readers and writers that count the calls that failed (own).
-use Rattle.std.specs.Prelude.{◌≡◌, ℕ, ◌+◌, ◌%◌, ◌^◌, List, ◌++◌, Option, Result, Err}
+-- Readers and writers that count the calls that failed, and why a call gives up (own). How a call on a device may fail is a
+-- relation of the device, `fails`: the device before, the error, and the device after. Nothing is known of it, so only a call
+-- that was made and failed shows it.
+use Rattle.std.specs.Prelude.{◌≡◌, ◌≢◌, ◌⊎◌, ℕ, zero, suc, ◌+◌, ◌-◌, ◌%◌, ◌^◌, List, ◌++◌, Option, Result, Err}
 use Rattle.std.specs.Io.KnownBytes.{Appends, Consumes, IsAtEnd}
+use Rattle.std_io.specs.declared.io.error.Error.{Error}
+use Rattle.std_io.specs.IoError.{error_kind}
+use Rattle.std_io.specs.declared.io.kind.ErrorKind.TheVariants as kinds
 use Rattle.pcache_base.specs.declared.error.ErrorType.{ErrorType}
 use Rattle.pcache_base.specs.declared.error.ErrorType.TheVariants.{Io}
 
@@ -21,3 +26,19 @@ pub record Gave (old new : Option (List ℕ)) (bytes : List ℕ) : Type 0 where
 -- a writer took a prefix of these bytes
 abbrev pub TookBeginning : Option (List ℕ) → Option (List ℕ) → List ℕ → Type 0
 TookBeginning old new bytes = (taken : List ℕ) × (rest : List ℕ) × (bytes ≡ taken ++ rest) × Appends old new taken
+
+-- a signal interrupted so many calls, one after the other
+abbrev pub Interrupted : {D : Type 0} → (D → Error → D → Type 0) → ℕ → D → D → Type 0
+Interrupted fails zero old new = old ≡ new
+Interrupted {D} fails (suc n) old new = (d : D) × (e : Error) × Interrupted fails n old d × fails d e new × (error_kind e ≡ kinds.Interrupted)
+
+-- a call failed, and not since a signal interrupted it
+abbrev pub HasFailed : {D : Type 0} → (D → Error → D → Type 0) → D → D → Type 0
+HasFailed fails old new = (e : Error) × fails old e new × (error_kind e ≢ kinds.Interrupted)
+
+-- a call that is made again after each interruption gave up: after so many of them it failed, or they were 2 ^ 64 - 1
+pub record GaveUp {D : Type 0} (fails : D → Error → D → Type 0) (old new : D) : Type 0 where
+  pub times : ℕ
+  pub last : D
+  pub interrupted : Interrupted fails times old last
+  pub ended : HasFailed fails last new ⊎ ((times ≡ 2 ^ 64 - 1) × (new ≡ last))

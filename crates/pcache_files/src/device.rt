@@ -1,13 +1,94 @@
 //! Readers and writers that count the calls that failed, so that a contract can say that a call
 //! fails with `Io` exactly when the device failed.
-ghost use Rattle.std.specs.Prelude.{◌≡◌, ◌+◌, ◌%◌, ◌^◌, ◌<◌, ◌≤◌, ◌⊎◌, ℕ, List, Option, None, length, IfErr, IfOk, OnErr, OnOk};
+ghost use Rattle.std.specs.Prelude.{◌≡◌, ◌≢◌, false, IsTrue, ◌+◌, ◌%◌, ◌^◌, ◌<◌, ◌≤◌, ◌⊎◌, ℕ, List, Option, None, length, IfErr, IfOk, OnErr, OnOk};
+ghost use Rattle.std_io.specs.declared.io.error.Error.{Error};
+ghost use Rattle.std_io.specs.IoError.{error_kind};
+ghost use Rattle.std_io.specs.declared.io.kind.ErrorKind.TheVariants as short;
 ghost use Rattle.std.specs.Io.KnownBytes.{Appends, Keeps, ReadConsumes, WriteAppends};
-ghost use Rattle.pcache_files.specs.Device.{Counts, Gave, TookBeginning};
+ghost use Rattle.pcache_files.specs.Device.{Counts, Gave, GaveUp, TookBeginning};
 ghost use Rattle.pcache_base.specs.declared.error.ErrorType.TheVariants.{Io, OutOfMemory};
 
 use pcache_base::error::{Error, ErrorType, Result};
 use std::alloc::Global;
+use std::io;
 use std::io::{ErrorKind, Read, Write};
+
+/// How often a call is made, if a signal interrupts it each time.
+const TRIES: u64 = u64::MAX;
+
+/// A reader of std's, each of whose failed reads a contract can name.
+pub trait TriedRead {
+    /// The bytes that reads will give from now on, if they are known.
+    ghost remaining: { Self → Option (List ℕ) } = { λ _. None };
+
+    /// A read of the first fails with this error, and leaves the second.
+    ghost read_fails: { Self → Error → Self → Type 0 };
+
+    /// Reads once, as `Read::read` does.
+    fn try_read(&mut self, buf: &mut [u8]) -> io::Result<usize>
+        ensures within { IfOk result (λ n. n ≤ length buf.new) }
+        ensures bytes { ReadConsumes (remaining self.old) (remaining self.new) result buf.new }
+        ensures cause { IfErr result (λ e. read_fails self.old e self.new) };
+}
+
+/// A writer of std's, each of whose failed calls a contract can name.
+pub trait TriedWrite {
+    /// The bytes that the writer took so far, if they are known.
+    ghost contents: { Self → Option (List ℕ) } = { λ _. None };
+
+    /// Whether all taken bytes were passed on, if the writer states it.
+    ghost is_flushed: { Self → Type 0 };
+
+    /// A write or a flush of the first fails with this error, and leaves the second.
+    ghost write_fails: { Self → Error → Self → Type 0 };
+
+    /// Writes once, as `Write::write` does. A write that takes none of the bytes fails.
+    fn try_write(&mut self, buf: &[u8]) -> io::Result<usize>
+        ensures within { IfOk result (λ n. n ≤ length buf.now) }
+        ensures some { IfOk result (λ n. 0 < length buf.now → 0 < n) }
+        ensures bytes { WriteAppends (contents self.old) (contents self.new) result buf.now }
+        ensures cause { IfErr result (λ e. write_fails self.old e self.new) };
+
+    /// Passes on the bytes that were taken, as `Write::flush` does.
+    fn try_flush(&mut self) -> io::Result<()>
+        ensures bytes { Keeps (contents self.old) (contents self.new) }
+        ensures flushed { OnOk result (is_flushed self.new) }
+        ensures cause { IfErr result (λ e. write_fails self.old e self.new) };
+}
+
+impl<T: Read> TriedRead for T {
+    ghost use Rattle.std.specs.Prelude.{⊤};
+
+    ghost remaining = { T.remaining };
+
+    ghost read_fails = { λ _ _ _. ⊤ };
+
+    fn try_read(&mut self, buf: &mut [u8]) -> io::Result<usize> {
+        self.read(buf)
+    }
+}
+
+impl<T: Write> TriedWrite for T {
+    ghost use Rattle.std.specs.Prelude.{⊤};
+
+    ghost contents = { T.contents };
+
+    ghost is_flushed = { λ _. ⊤ };
+
+    ghost write_fails = { λ _ _ _. ⊤ };
+
+    fn try_write(&mut self, buf: &[u8]) -> io::Result<usize> {
+        match self.write(buf) {
+            Ok(0) if !buf.is_empty() => Err(io::Error::from(ErrorKind::WriteZero)),
+            Ok(count) => Ok(count),
+            Err(error) => Err(error),
+        }
+    }
+
+    fn try_flush(&mut self) -> io::Result<()> {
+        self.flush()
+    }
+}
 
 /// A reader that counts the reads that failed.
 pub trait CountedRead {
@@ -17,12 +98,16 @@ pub trait CountedRead {
     /// How many reads failed so far, modulo 2^64.
     ghost failed: { Self → ℕ };
 
+    /// The last read gave up, and why, if the reader states it.
+    ghost gave_up: { Self → Type 0 } = { λ _. Unit {0} };
+
     /// Writes the next bytes to the front of the buffer, and returns how many they are: none only at
     /// the end, or if the buffer is empty. A read that fails gives no bytes and is counted.
     fn read(&mut self, buf: &mut [u8]) -> Result<usize>
         ensures within { IfOk result (λ n. n ≤ length buf.new) }
         ensures bytes { ReadConsumes (remaining self.old) (remaining self.new) result buf.new }
         ensures counted { Counts (failed self.old) (failed self.new) result }
+        ensures cause { OnErr result (gave_up self.new) }
         ensures kind { IfErr result (λ e. e ≡ Io) };
 
     /// How many reads failed so far, modulo 2^64.
@@ -41,6 +126,9 @@ pub trait CountedWrite {
     /// How many writes and flushes failed so far, modulo 2^64.
     ghost failed: { Self → ℕ };
 
+    /// The last write or flush gave up, and why, if the writer states it.
+    ghost gave_up: { Self → Type 0 } = { λ _. Unit {0} };
+
     /// Takes bytes from the front of the buffer, and returns how many: at least one, unless the
     /// buffer is empty. A write that takes none of them fails; one that fails took none and is
     /// counted.
@@ -49,6 +137,7 @@ pub trait CountedWrite {
         ensures some { IfOk result (λ n. 0 < length buf.now → 0 < n) }
         ensures bytes { WriteAppends (contents self.old) (contents self.new) result buf.now }
         ensures counted { Counts (failed self.old) (failed self.new) result }
+        ensures cause { OnErr result (gave_up self.new) }
         ensures kind { IfErr result (λ e. e ≡ Io) };
 
     /// Passes on the bytes that were taken.
@@ -56,6 +145,7 @@ pub trait CountedWrite {
         ensures bytes { Keeps (contents self.old) (contents self.new) }
         ensures flushed { OnOk result (is_flushed self.new) }
         ensures counted { Counts (failed self.old) (failed self.new) result }
+        ensures cause { OnErr result (gave_up self.new) }
         ensures kind { IfErr result (λ e. e ≡ Io) };
 
     /// How many writes and flushes failed so far, modulo 2^64.
@@ -93,17 +183,30 @@ impl<T> Counted<T> {
     }
 }
 
-impl<T: Read> CountedRead for Counted<T> {
+// Whether a signal interrupted the call that failed so.
+fn is_interrupted(error: &io::Error) -> bool
+    ensures yes { IsTrue result → error_kind error.now ≡ short.Interrupted }
+    ensures no { result ≡ false → error_kind error.now ≢ short.Interrupted }
+{
+    match error.kind() {
+        ErrorKind::Interrupted => true,
+        _ => false,
+    }
+}
+
+impl<T: TriedRead> CountedRead for Counted<T> {
     ghost remaining = { λ counted. T.remaining counted.device };
 
     ghost failed = { λ counted. counted.failures };
 
+    ghost gave_up = { λ counted. (before : T) × GaveUp T.read_fails before counted.device };
+
     fn read(&mut self, buf: &mut [u8]) -> Result<usize> {
-        'tries: for _ in 0..u64::MAX {
-            match self.device.read(buf) {
+        'tries: for tried in 0..TRIES {
+            match self.device.try_read(buf) {
                 Ok(count) => return Ok(count),
                 Err(error) => {
-                    if error.kind() != ErrorKind::Interrupted {
+                    if !is_interrupted(&error) {
                         return Err(self.fail());
                     }
                 }
@@ -117,18 +220,21 @@ impl<T: Read> CountedRead for Counted<T> {
     }
 }
 
-impl<T: Write> CountedWrite for Counted<T> {
+impl<T: TriedWrite> CountedWrite for Counted<T> {
     ghost contents = { λ counted. T.contents counted.device };
+
+    ghost is_flushed = { λ counted. T.is_flushed counted.device };
 
     ghost failed = { λ counted. counted.failures };
 
+    ghost gave_up = { λ counted. (before : T) × GaveUp T.write_fails before counted.device };
+
     fn write(&mut self, buf: &[u8]) -> Result<usize> {
-        'tries: for _ in 0..u64::MAX {
-            match self.device.write(buf) {
-                Ok(0) if !buf.is_empty() => return Err(self.fail()),
+        'tries: for tried in 0..TRIES {
+            match self.device.try_write(buf) {
                 Ok(count) => return Ok(count),
                 Err(error) => {
-                    if error.kind() != ErrorKind::Interrupted {
+                    if !is_interrupted(&error) {
                         return Err(self.fail());
                     }
                 }
@@ -138,11 +244,11 @@ impl<T: Write> CountedWrite for Counted<T> {
     }
 
     fn flush(&mut self) -> Result<()> {
-        'tries: for _ in 0..u64::MAX {
-            match self.device.flush() {
+        'tries: for tried in 0..TRIES {
+            match self.device.try_flush() {
                 Ok(()) => return Ok(()),
                 Err(error) => {
-                    if error.kind() != ErrorKind::Interrupted {
+                    if !is_interrupted(&error) {
                         return Err(self.fail());
                     }
                 }
@@ -163,6 +269,7 @@ pub fn write_whole<W: CountedWrite>(to: &mut W, bytes: &[u8]) -> Result<()>
     ensures flushed { OnOk result (W.is_flushed to.new) }
     ensures torn { OnErr result (TookBeginning (W.contents to.old) (W.contents to.new) bytes.now) }
     ensures counted { Counts (W.failed to.old) (W.failed to.new) result }
+    ensures cause { OnErr result (W.gave_up to.new) }
     ensures kind { IfErr result (λ e. e ≡ Io) }
 {
     let mut rest = bytes;

@@ -4,6 +4,7 @@
 //! - `device`: readers and writers that count the calls that failed
 //! - `codec`: the bytes of a file, read and written
 //! - `pieces`: a file that is read piece by piece
+//! - `named`: files that are opened, made and renamed by their paths
 //! - `folder`: files that are opened, and files that take the place of older ones
 //! - `simple_lru`, `sharded_lru`: the files of the two managers
 //! - `saved`: managers that are saved in a folder and loaded from it
@@ -13,6 +14,7 @@ pub mod codec;
 pub mod device;
 mod folder;
 pub mod laws;
+pub mod named;
 mod pieces;
 pub mod saved;
 pub mod sharded_lru;

@@ -109,6 +109,7 @@ fn fill<D: CountedRead>(
         × (ahead.new ≡ ahead.old ++ piece)) }
     ensures enough { OnOk result ((wanted ≤ length ahead.new) ⊎ IsAtEnd (D.remaining from.new)) }
     ensures counted { Counts (D.failed from.old) (D.failed from.new) result }
+    ensures cause { IsErrOf result Io → D.gave_up from.new }
     ensures kinds { IfErr result (λ e. (e ≡ OutOfMemory) ⊎ (e ≡ Io)) }
 {
     if *ended || wanted <= ahead.len() {
@@ -139,6 +140,7 @@ fn read_count<D: CountedRead>(from: &mut D, ahead: &mut Ahead, ended: &mut bool)
         → (n : ℕ) (later : List ℕ)
         → ¬ (ArrayThen (ahead.old ++ rest) n later) }
     ensures counted { Counts (D.failed from.old) (D.failed from.new) result }
+    ensures cause { IsErrOf result Io → D.gave_up from.new }
     ensures kinds { IfErr result (λ e. (e ≡ OutOfMemory) ⊎ (e ≡ InternalError) ⊎ (e ≡ Io)) }
 {
     fill(from, ahead, ended, ARRAY_HEAD)?;
@@ -165,6 +167,7 @@ fn read_next<D: CountedRead>(
         → (node : CacheEntryKey × ℕ) (later : List ℕ)
         → ¬ (NodeThen (ahead.old ++ rest) node later) }
     ensures counted { Counts (D.failed from.old) (D.failed from.new) result }
+    ensures cause { IsErrOf result Io → D.gave_up from.new }
     ensures kinds { IfErr result (λ e. (e ≡ OutOfMemory) ⊎ (e ≡ InternalError) ⊎ (e ≡ Io)) }
 {
     fill(from, ahead, ended, BEFORE_TAG)?;
@@ -196,6 +199,7 @@ fn read_nodes<D: CountedRead>(
         → length l ≡ count
         → ¬ (NodesThen (ahead.old ++ rest) l later) }
     ensures counted { Counts (D.failed from.old) (D.failed from.new) result }
+    ensures cause { IsErrOf result Io → D.gave_up from.new }
     ensures kinds { IfErr result (λ e. (e ≡ OutOfMemory) ⊎ (e ≡ InternalError) ⊎ (e ≡ Io)) }
 {
     let mut nodes = Vec::new(alloc);
@@ -221,6 +225,7 @@ pub(crate) fn read_list_from<D: CountedRead>(
         → (l : Recency)
         → ¬ (SpellsFile rest l) }
     ensures counted { Counts (D.failed from.old) (D.failed from.new) result }
+    ensures cause { IsErrOf result Io → D.gave_up from.new }
     ensures kinds { IfErr result (λ e. (e ≡ OutOfMemory) ⊎ (e ≡ InternalError) ⊎ (e ≡ Io)) }
 {
     let mut ahead = Ahead::new(alloc);

@@ -1,19 +1,20 @@
 //! The files of the manager in shards, one for each shard.
-ghost use Rattle.std.specs.Prelude.{◌≡◌, ◌+◌, ◌^◌, ◌<◌, ◌≤◌, ◌⊎◌, ◌++◌, ℕ, IfErr, IfOk, IfNone, IfSome, IsErrOf, OnErr, OnOk};
+ghost use Rattle.std.specs.Prelude.{◌≡◌, ◌+◌, ◌^◌, ◌<◌, ◌≤◌, ◌⊎◌, ◌++◌, ℕ, IfErr, IfOk, IfNone, IfSome, IsErrOf, OnErr, OnOk, option_map, string_bytes};
+ghost use Rattle.std.specs.Path.{path_join};
 ghost use Rattle.pcache_base.specs.declared.error.ErrorType.TheVariants.{InternalError, Io, OutOfMemory};
 ghost use Rattle.pcache_evict.specs.Recency.{Recency};
 ghost use Rattle.pcache_evict.specs.Shards.{ArePlaced, added_last_all, list_at};
 ghost use Rattle.pcache_files.specs.FileSpelling.{SpellsFile};
-ghost use Rattle.pcache_files.specs.Folder.{IsRead, IsSkipped, Loads};
+ghost use Rattle.pcache_files.specs.Folder.{AreSaved, IsFile, IsSaved, IsUnsaved, Loads, shard_files, shard_name, shard_names};
 ghost use Rattle.pcache_files.specs.FileWriting.{file_written, IsTooLong};
 
 use crate::codec::{read_file, write_file};
 use crate::folder::{read_entries, replace_file};
+use crate::named::NamedFiles;
 use pcache_base::error::{Error, ErrorType, Result};
 use pcache_evict::eviction::CacheEntryKey;
 use pcache_evict::eviction::sharded_lru::Manager;
 use std::alloc::Global;
-use std::fs::Files;
 
 /// The bytes of a shard's file, which spell its list in its order.
 pub fn serialize_shard<const N: usize>(
@@ -53,26 +54,29 @@ pub fn deserialize_shard<const N: usize>(
 /// is missing, each written under a name that ends in the suffix in eight hexadecimal digits (or the
 /// next one of 64 for which there is no file yet) and `.tmp`, and then renamed. If saving a shard
 /// fails, those before it are saved, older files stay for the others, and what was written of it is
-/// removed.
-pub fn save<R: Files, const N: usize>(
+/// removed. Fails with `Io` only if a call on the files failed, and not for want of memory.
+pub fn save<R: NamedFiles, const N: usize>(
     alloc: Global,
     manager: &Manager<N>,
     files: &R,
     dir: &str,
     suffix: u32,
 ) -> Result<()>
+    ensures saved { OnOk result (AreSaved (R.makes files.now) (R.renames files.now) R.File.contents
+        R.File.is_flushed dir.now (shard_files N manager.now.shards)) }
+    ensures unsaved { IsErrOf result Io → IsUnsaved (R.refuses files.now) R.File.write_fails }
     ensures too_long { IsErrOf result InternalError
         → (shard : ℕ) × IsTooLong (list_at manager.now.shards shard) }
     ensures kinds { IfErr result (λ e. (e ≡ OutOfMemory) ⊎ (e ≡ InternalError) ⊎ (e ≡ Io)) }
 {
-    for shard in 0..N {
+    'shards: for shard in 0..N {
         save_shard(alloc, manager, files, dir, suffix, shard)?;
     }
     Ok(())
 }
 
 // Saves a shard.
-fn save_shard<R: Files, const N: usize>(
+fn save_shard<R: NamedFiles, const N: usize>(
     alloc: Global,
     manager: &Manager<N>,
     files: &R,
@@ -81,6 +85,10 @@ fn save_shard<R: Files, const N: usize>(
     shard: usize,
 ) -> Result<()>
     requires { shard < N }
+    ensures saved { OnOk result
+        (IsSaved (R.makes files.now) (R.renames files.now) R.File.contents R.File.is_flushed
+        (path_join dir.now (shard_name shard)) (file_written (list_at manager.now.shards shard))) }
+    ensures unsaved { IsErrOf result Io → IsUnsaved (R.refuses files.now) R.File.write_fails }
     ensures too_long { IsErrOf result InternalError → IsTooLong (list_at manager.now.shards shard) }
     ensures kinds { IfErr result (λ e. (e ≡ OutOfMemory) ⊎ (e ≡ InternalError) ⊎ (e ≡ Io)) }
 {
@@ -92,14 +100,16 @@ fn save_shard<R: Files, const N: usize>(
 /// Loads what the files of a folder hold, shard after shard, each entry as `deserialize_shard` does,
 /// and returns how many files were skipped: those that could not be opened or read, and those that
 /// spell no list. All are read before an entry is added. Fails only when memory runs out, and then
-/// changes nothing. That the files are those of these names no contract says.
-pub fn load<R: Files, const N: usize>(
+/// changes nothing; no file is skipped for that.
+pub fn load<R: NamedFiles, const N: usize>(
     alloc: Global,
     manager: &mut Manager<N>,
     files: &R,
     dir: &str,
 ) -> Result<usize>
-    ensures ok { IfOk result (λ skipped. (l : Recency) × Loads R.File.remaining N skipped l
+    ensures ok { IfOk result (λ skipped. (l : Recency)
+        × Loads (R.opens files.now) R.File.remaining (R.refuses files.now) R.File.read_fails dir.now
+        (shard_names N) skipped l
         × (manager.new ≡ record manager.old { shards = added_last_all N l manager.old.shards })) }
     ensures skipped { IfOk result (λ n. n ≤ N) }
     ensures placed { ArePlaced N manager.old.shards }
@@ -138,14 +148,15 @@ fn take_in(
 }
 
 // The list of a shard's file; `None` if the file is skipped.
-fn read_shard<R: Files>(
+fn read_shard<R: NamedFiles>(
     alloc: Global,
     files: &R,
     dir: &str,
     shard: usize,
 ) -> Result<Option<Vec<(CacheEntryKey, usize)>>>
-    ensures read { IfOk result (λ o. IfSome o (λ v. IsRead R.File.remaining v.items)) }
-    ensures skipped { IfOk result (λ o. IfNone o (IsSkipped R.File.remaining)) }
+    ensures read { IfOk result (λ o. IsFile (R.opens files.now) R.File.remaining
+        (R.refuses files.now) R.File.read_fails (path_join dir.now (shard_name shard))
+        (option_map (λ v. v.items) o)) }
     ensures kind { IfErr result (λ e. e ≡ OutOfMemory) }
 {
     let name = file_name(alloc, shard)?;
@@ -160,7 +171,8 @@ fn read_shard<R: Files>(
 
 // The name of a shard's file.
 fn file_name(alloc: Global, shard: usize) -> Result<String>
-    ensures { IfErr result (λ e. e ≡ OutOfMemory) }
+    ensures name { IfOk result (λ s. string_bytes s ≡ shard_name shard) }
+    ensures kind { IfErr result (λ e. e ≡ OutOfMemory) }
 {
     Ok(format!(in alloc; "lru.data.{shard}")?)
 }

@@ -1,22 +1,23 @@
 //! The file of the manager with one recency list.
 ghost use Rattle.std.specs.Prelude.{◌≡◌, ◌≢◌, ◌⊎◌, ℕ, List, Some, IfErr, IfOk, IsErrOf, OnErr, OnOk};
 ghost use Rattle.std.specs.Io.KnownBytes.{Appends, Keeps};
+ghost use Rattle.std.specs.Path.{path_join};
 ghost use Rattle.pcache_base.specs.declared.error.ErrorType.TheVariants.{InternalError, Io, OutOfMemory};
 ghost use Rattle.pcache_evict.specs.Listed.{IsOnce};
 ghost use Rattle.pcache_evict.specs.Recency.{Recency, loaded_all};
 ghost use Rattle.pcache_files.specs.Device.{Counts, Gave, TookBeginning};
 ghost use Rattle.pcache_files.specs.FileSpelling.{SpellsFile};
-ghost use Rattle.pcache_files.specs.Folder.{IsRead, IsSkipped};
+ghost use Rattle.pcache_files.specs.Folder.{IsForeign, IsRead, IsSaved, IsUnavailable, IsUnsaved, list_name};
 ghost use Rattle.pcache_files.specs.FileWriting.{file_written, IsTooLong};
 
 use crate::codec::{read_file, write_file};
 use crate::device::{CountedRead, CountedWrite, write_whole};
 use crate::folder::{read_entries, replace_file};
+use crate::named::NamedFiles;
 use crate::pieces::read_list_from;
 use pcache_base::error::Result;
 use pcache_evict::eviction::simple_lru::Manager;
 use std::alloc::Global;
-use std::fs::Files;
 
 /// The file's name in its folder.
 const FILE_NAME: &str = "simple_lru.data";
@@ -58,6 +59,7 @@ pub fn save_to<W: CountedWrite>(alloc: Global, manager: &Manager, to: &mut W) ->
         (TookBeginning (W.contents to.old) (W.contents to.new) (file_written manager.now.entries)) }
     ensures unwritten { IfErr result (λ e. e ≢ Io → Keeps (W.contents to.old) (W.contents to.new)) }
     ensures counted { Counts (W.failed to.old) (W.failed to.new) result }
+    ensures cause { IsErrOf result Io → W.gave_up to.new }
     ensures too_long { IsErrOf result InternalError → IsTooLong manager.now.entries }
     ensures kinds { IfErr result (λ e. (e ≡ OutOfMemory) ⊎ (e ≡ InternalError) ⊎ (e ≡ Io)) }
 {
@@ -78,6 +80,7 @@ pub fn load_from<D: CountedRead>(alloc: Global, manager: &mut Manager, from: &mu
         → (l : Recency)
         → ¬ (SpellsFile bytes l) }
     ensures counted { Counts (D.failed from.old) (D.failed from.new) result }
+    ensures cause { IsErrOf result Io → D.gave_up from.new }
     ensures kinds { IfErr result (λ e. (e ≡ OutOfMemory) ⊎ (e ≡ InternalError) ⊎ (e ≡ Io)) }
     ensures err { OnErr result (manager.new ≡ manager.old) }
 {
@@ -88,14 +91,19 @@ pub fn load_from<D: CountedRead>(alloc: Global, manager: &mut Manager, from: &mu
 /// Saves the manager as `simple_lru.data` in a folder, which is made, with its parents, if it is
 /// missing. It is written as `simple_lru.data.XXXXXXXX.tmp`, with the suffix in eight hexadecimal
 /// digits (or the next one of 64 for which there is no file yet), and then renamed. If it fails, an
-/// older `simple_lru.data` stays, and what was written is removed.
-pub fn save<R: Files>(
+/// older `simple_lru.data` stays, and what was written is removed. Fails with `Io` only if a call on
+/// the files failed, and not for want of memory.
+pub fn save<R: NamedFiles>(
     alloc: Global,
     manager: &Manager,
     files: &R,
     dir: &str,
     suffix: u32,
 ) -> Result<()>
+    ensures saved { OnOk result
+        (IsSaved (R.makes files.now) (R.renames files.now) R.File.contents R.File.is_flushed
+        (path_join dir.now list_name) (file_written manager.now.entries)) }
+    ensures unsaved { IsErrOf result Io → IsUnsaved (R.refuses files.now) R.File.write_fails }
     ensures too_long { IsErrOf result InternalError → IsTooLong manager.now.entries }
     ensures kinds { IfErr result (λ e. (e ≡ OutOfMemory) ⊎ (e ≡ InternalError) ⊎ (e ≡ Io)) }
 {
@@ -104,12 +112,16 @@ pub fn save<R: Files>(
 }
 
 /// Loads the list of the file `simple_lru.data` of a folder, as `load_from` does. Fails with `Io` if
-/// the file can't be opened. Unless memory ran out, a failed call met a file that could not be opened
-/// or read, or one that spells no list; that it is the one of this name no contract says.
-pub fn load<R: Files>(alloc: Global, manager: &mut Manager, files: &R, dir: &str) -> Result<()>
-    ensures ok { OnOk result ((l : Recency) × IsRead R.File.remaining l
+/// this file can't be opened or a read of it gives up, and with `InternalError` if it spells no list.
+pub fn load<R: NamedFiles>(alloc: Global, manager: &mut Manager, files: &R, dir: &str) -> Result<()>
+    ensures ok { OnOk result ((l : Recency)
+        × IsRead (R.opens files.now) R.File.remaining (path_join dir.now list_name) l
         × (manager.new ≡ record manager.old { entries = loaded_all l manager.old.entries })) }
-    ensures unread { IfErr result (λ e. (e ≡ OutOfMemory) ⊎ IsSkipped R.File.remaining) }
+    ensures unavailable { IsErrOf result Io
+        → IsUnavailable (R.opens files.now) (R.refuses files.now) R.File.read_fails
+        (path_join dir.now list_name) }
+    ensures foreign { IsErrOf result InternalError
+        → IsForeign (R.opens files.now) R.File.remaining (path_join dir.now list_name) }
     ensures kinds { IfErr result (λ e. (e ≡ OutOfMemory) ⊎ (e ≡ InternalError) ⊎ (e ≡ Io)) }
     ensures err { OnErr result (manager.new ≡ manager.old) }
 {

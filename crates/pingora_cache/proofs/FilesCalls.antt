@@ -194,10 +194,10 @@ load-sound f (Some v) limits limits' m m' s t all h h' call reply told events k 
     (subst (λ (x : Tracked). IsSound limits (started (Some (f v)) m) x s t all (reverse h')) (sym (late refl))
     (files-step limits (started (Some (f v)) m) (started (Some (f v)) m) m s t all h h' call F.Load reply told events k copy is (subst (λ b. AnswersFiles b F.Load reply) was answers) none refl grown))
 
-pub load-start : {V G : Type 0} (f : V → List (CacheEntryKey × ℕ)) (o : Option V) (left : G → Option (List ℕ)) (files : ℕ) (put_in : Recency → Tracked → Tracked) (m m' : Tracked) (reply : Reply) → AnswersFiles (is_none o) F.Load reply → IsLoaded left files put_in m m' reply
-    → IsLoaded left files put_in (started (option_map f o) m) (started (option_map f o) m') reply
-load-start f None left files put_in m m' reply answers loaded = loaded
-load-start f (Some v) left files put_in m m' reply answers loaded = subst (IsLoaded left files put_in (started (Some (f v)) m) (started (Some (f v)) m')) (sym answers) refl
+pub load-start : {V : Type 0} (f : V → List (CacheEntryKey × ℕ)) (o : Option V) (loads : ℕ → Recency → Type 0) (put_in : Recency → Tracked → Tracked) (m m' : Tracked) (reply : Reply) → AnswersFiles (is_none o) F.Load reply → IsLoaded loads put_in m m' reply
+    → IsLoaded loads put_in (started (option_map f o) m) (started (option_map f o) m') reply
+load-start f None loads put_in m m' reply answers loaded = loaded
+load-start f (Some v) loads put_in m m' reply answers loaded = subst (IsLoaded loads put_in (started (Some (f v)) m) (started (Some (f v)) m')) (sym answers) refl
 
 -- a reply to such a call has no bytes, so its copy is equal
 pub told-files : (b : Bool) (a : FilesAct) (reply told : Reply) → AnswersFiles b a reply → IsCopy reply told → told ≡ reply
@@ -207,11 +207,11 @@ told-files true F.Load reply told answers (inr (refused, given)) = absurd (subst
 told-files false F.Load reply told answers (inr (refused, given)) = let never : R.Data given.0 ≡ R.WrongCall = sym given.1 ∙ answers in absurd (cc)
 
 -- so is what it leaves
-pub load-leaves : {V G : Type 0} (f : V → List (CacheEntryKey × ℕ)) (o : Option V) (left : G → Option (List ℕ)) (files : ℕ) (put_in : Recency → Tracked → Tracked) (m m' first : Tracked) (reply told answered : Reply) → AnswersFiles (is_none o) F.Load reply → IsLoaded left files put_in m m' reply
-    → IsCopy reply told → told ≡ answered → started (option_map f o) m ≡ first → IsLoaded left files put_in first (started (option_map f o) m') answered
-load-leaves f o left files put_in m m' first reply told answered answers loaded copy same is =
-    subst (λ (x : Tracked). IsLoaded left files put_in x (started (option_map f o) m') answered) is
-    (subst (IsLoaded left files put_in (started (option_map f o) m) (started (option_map f o) m')) (sym (told-files (is_none o) F.Load reply told answers copy) ∙ same) (load-start f o left files put_in m m' reply answers loaded))
+pub load-leaves : {V : Type 0} (f : V → List (CacheEntryKey × ℕ)) (o : Option V) (loads : ℕ → Recency → Type 0) (put_in : Recency → Tracked → Tracked) (m m' first : Tracked) (reply told answered : Reply) → AnswersFiles (is_none o) F.Load reply → IsLoaded loads put_in m m' reply
+    → IsCopy reply told → told ≡ answered → started (option_map f o) m ≡ first → IsLoaded loads put_in first (started (option_map f o) m') answered
+load-leaves f o loads put_in m m' first reply told answered answers loaded copy same is =
+    subst (λ (x : Tracked). IsLoaded loads put_in x (started (option_map f o) m') answered) is
+    (subst (IsLoaded loads put_in (started (option_map f o) m) (started (option_map f o) m')) (sym (told-files (is_none o) F.Load reply told answers copy) ∙ same) (load-start f o loads put_in m m' reply answers loaded))
 
 -- the reply to a load that has no files
 pub unloaded-answers : (b : Bool) (reply : Reply) → reply ≡ cond b (R.Refused Io) R.WrongCall → AnswersFiles b F.Load reply

@@ -1,9 +1,8 @@
 -- The reply to a call on files, and what it leaves, over any manager and files (own).
-use Rattle.std.specs.Prelude.{◌≡◌, ◌⊎◌, ℕ, Bool, true, false, Option, Some, None, List}
+use Rattle.std.specs.Prelude.{◌≡◌, ◌⊎◌, ℕ, Bool, true, false, Option, Some, None}
 use Rattle.pcache_base.specs.declared.error.ErrorType.TheVariants.{Io}
 use Rattle.pcache_evict.specs.Recency.{Recency}
 use Rattle.pcache_evict.specs.Tracked.{Tracked}
-use Rattle.pcache_files.specs.Folder.{Loads}
 use Rattle.pcache_history.specs.declared.call.Act.TheVariants.{Files}
 use Rattle.pcache_history.specs.declared.call.Call.{Call}
 use Rattle.pcache_history.specs.declared.call.FilesAct.{FilesAct}
@@ -28,9 +27,8 @@ HasNoFiles None reply = Unit {0}
 HasNoFiles (Some Save) reply = reply ≡ R.Refused Io
 HasNoFiles (Some Load) reply = (reply ≡ R.Refused Io) ⊎ (reply ≡ R.WrongCall)
 
--- what the history starts from after a load of so many files: if it is done, what it started from before with the lists of
--- the files loaded that were opened and read to their end, except for those that it says were skipped; otherwise unchanged.
--- What a file will give is a function of the file, `left`, where it is known.
-abbrev pub IsLoaded : {F : Type 0} → (F → Option (List ℕ)) → ℕ → (Recency → Tracked → Tracked) → Tracked → Tracked → Reply → Type 0
-IsLoaded left files put_in old new (R.Loaded skipped) = (entries : Recency) × Loads left files skipped entries × (new ≡ put_in entries old)
-IsLoaded left files put_in old new reply = new ≡ old
+-- what the history starts from after a load: if it is done, what it started from before with the entries put in that the
+-- files gave (`loads`, by how many files were skipped); otherwise unchanged
+abbrev pub IsLoaded : (ℕ → Recency → Type 0) → (Recency → Tracked → Tracked) → Tracked → Tracked → Reply → Type 0
+IsLoaded loads put_in old new (R.Loaded skipped) = (entries : Recency) × loads skipped entries × (new ≡ put_in entries old)
+IsLoaded loads put_in old new reply = new ≡ old

@@ -7,6 +7,7 @@ ghost use Rattle.pcache_history.specs.Log.{started};
 ghost use Rattle.pcache_history.specs.Rules.{IsCopy, IsFilesReply};
 ghost use Rattle.pcache_history.specs.declared.call.FilesAct.TheVariants.{Save, Load};
 ghost use Rattle.pcache_history.specs.declared.call.Reply.TheVariants.{Refused, WrongCall};
+ghost use Rattle.pcache_files.specs.Folder.{Loads};
 ghost use Rattle.pingora_cache.specs.FilesCalls.{AnswersFiles, IsLoaded, files_call};
 
 use crate::world::open::Open;
@@ -17,6 +18,7 @@ use crate::world::vary::spare_of;
 use pcache_base::error::{ErrorType, Result};
 use pcache_base::seed::Seed;
 use pcache_evict::eviction::{CacheEntryKey, EvictionManager};
+use pcache_files::named::NamedFiles;
 use pcache_files::saved::SavedManager;
 use pcache_history::call::{Call, FilesAct, Reply};
 use pcache_history::entry::{Entry, Event, Events};
@@ -24,7 +26,6 @@ use pcache_lock::lock::CacheLock;
 use pcache_store::memory::MemCache;
 use std::alloc::Global;
 use std::collections::BTreeMap;
-use std::fs::Files;
 use std::marker::Model;
 use std::time::Duration;
 
@@ -333,13 +334,14 @@ impl<M: SavedManager, P: PutPolicy> World<M, P> {
     ghost use Rattle.pcache_history.specs.declared.call.Act.TheVariants as acts;
     ghost use Rattle.pcache_history.specs.declared.call.FilesAct.TheVariants.{Save, Load};
     ghost use Rattle.pcache_history.specs.declared.entry.Event.{Event};
+    ghost use Rattle.pcache_files.specs.Folder.{Loads};
     ghost use Rattle.pingora_cache.specs.FilesCalls.{IsLoaded};
 
     /// Saves the manager's entries in a folder, which is made, with its parents, if it is missing, as
     /// a call with an entry of its own: the reply is that of the manager. Each file is written under a
     /// temporary name, which ends in the suffix, and then renamed. Fails when memory for the entry
     /// runs out, and then saves and records nothing.
-    pub fn save<R: Files>(&mut self, files: &R, dir: &str, suffix: u32) -> Result<Reply>
+    pub fn save<R: NamedFiles>(&mut self, files: &R, dir: &str, suffix: u32) -> Result<Reply>
         ensures ok { IfOk result (λ reply. Adds self.old (files_call Save) reply self.new) }
         ensures replies { IfOk result (λ reply. IsFilesReply Save reply) }
         ensures legal { HasLegal self.new }
@@ -366,13 +368,14 @@ impl<M: SavedManager, P: PutPolicy> World<M, P> {
     /// tracks what it tracked before with the lists of the others loaded; if it fails, the manager is
     /// unchanged. Nothing is evicted. The call fails when memory for the entry runs out, and then loads
     /// and records nothing.
-    pub fn load<R: Files>(&mut self, files: &R, dir: &str) -> Result<Reply>
+    pub fn load<R: NamedFiles>(&mut self, files: &R, dir: &str) -> Result<Reply>
         ensures history { IfOk result (λ reply. self.new.history
             ≡ self.old.history
             ++ record { call = files_call Load; reply = reply; events = [] }
             ∷ []) }
-        ensures loaded { IfOk result (λ reply.
-            IsLoaded R.File.remaining M.file_count M.put_in self.old.start self.new.start reply) }
+        ensures loaded { IfOk result (λ reply. IsLoaded
+            (Loads (R.opens files.now) R.File.remaining (R.refuses files.now) R.File.read_fails
+            dir.now M.file_names) M.put_in self.old.start self.new.start reply) }
         ensures limits { self.new.limits ≡ self.old.limits }
         ensures evicted { self.new.evicted ≡ self.old.evicted }
         ensures age { self.new.age ≡ self.old.age }
@@ -452,7 +455,7 @@ fn unloaded(is_early: bool) -> Reply
 }
 
 // Saves what the manager tracks.
-fn saved_in<M: SavedManager, R: Files>(
+fn saved_in<M: SavedManager, R: NamedFiles>(
     alloc: Global,
     parts: &Parts<M>,
     files: &R,
@@ -476,7 +479,7 @@ fn saved_reply(saved: Result<()>) -> Reply
 }
 
 // Loads what was saved, if only loads came before.
-fn load_if<M: SavedManager, R: Files>(
+fn load_if<M: SavedManager, R: NamedFiles>(
     alloc: Global,
     parts: &mut Parts<M>,
     files: &R,
@@ -484,8 +487,9 @@ fn load_if<M: SavedManager, R: Files>(
     is_early: bool,
 ) -> Reply
     ensures reply { AnswersFiles is_early Load result }
-    ensures loaded { IsLoaded R.File.remaining M.file_count M.put_in parts.old.tracked
-        parts.new.tracked result }
+    ensures loaded { IsLoaded
+        (Loads (R.opens files.now) R.File.remaining (R.refuses files.now) R.File.read_fails dir.now
+        M.file_names) M.put_in parts.old.tracked parts.new.tracked result }
     ensures late { is_early ≡ false → parts.new.tracked ≡ parts.old.tracked }
     ensures store { parts.new.store ≡ parts.old.store }
     ensures limits { parts.new.limits ≡ parts.old.limits }

@@ -1,10 +1,12 @@
 use Rattle.std.proofs.Common.{◌≡◌}
 use Rattle.std.specs.Io.KnownBytes.{Keeps}
+use Rattle.pcache_files.specs.Device.{Interrupted}
 use Rattle.pcache_files.proofs.device.CountedCountedRead.read.Given as goal
 
 abbrev pub invariant-tries : goal.invariant-tries
 invariant-tries g l =
     record {
-      kept : Keeps (g.T.Read.remaining l.fn.self.device) (g.T.Read.remaining l.self.device);
+      kept : Keeps (g.T.TriedRead.remaining l.fn.self.device) (g.T.TriedRead.remaining l.self.device);
+      tries : Interrupted g.T.TriedRead.read_fails l.tried l.fn.self.device l.self.device;
       count : l.self.failures ≡ l.fn.self.failures;
     }

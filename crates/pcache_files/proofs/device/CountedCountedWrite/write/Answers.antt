@@ -1,9 +1,11 @@
-use Rattle.std.proofs.Common.{subst, sym}
-use Rattle.std.specs.Io.KnownBytes.{Keeps}
-use Rattle.pcache_files.proofs.Devices.{keeps-none}
+use Rattle.std.proofs.Common.{arith, refl}
+use Rattle.pcache_files.proofs.Devices.{gave-up, gave-up-trying}
 use Rattle.pcache_files.proofs.device.CountedCountedWrite.write.Goals as goal
 
-pub returns-in-Ok-eq0-clause-bytes : goal.returns-in-Ok-eq0-clause-bytes
-returns-in-Ok-eq0-clause-bytes g c =
-    subst (λ d. Keeps (g.T.Write.contents c.args.self.now.device) (g.T.Write.contents d)) (sym c.fail.ensures.device)
-    (keeps-none (g.T.Write.contents c.args.self.now.device) (g.T.Write.contents c.tries.self.device) (g.T.Write.contents c.write.new.self) c.in-Ok-eq0.field-0 c.args.buf.now c.in-Ok-eq0.field-0-test c.tries.invariant.kept c.in-Ok-eq0.ensures.bytes)
+pub returns-then-not-is_interrupted-clause-cause : goal.returns-then-not-is_interrupted-clause-cause
+returns-then-not-is_interrupted-clause-cause g c =
+    gave-up g.T.TriedWrite.write_fails c.tries.tried c.args.self.now.device c.tries.self.device c.try_write.new.self c.fail.new.self.device c.in-Err.error c.tries.invariant.tries c.in-Err.ensures.cause (c.if-not-is_interrupted.ensures.no refl) c.fail.ensures.device
+
+pub returns-clause-cause : goal.returns-clause-cause
+returns-clause-cause g c =
+    gave-up-trying g.T.TriedWrite.write_fails c.tries.tried c.args.self.now.device c.tries.self.device c.fail-2.new.self.device c.tries.invariant.tries (omega (arith, c.tries.auto.tried-end, c.tries-test.false)) c.fail-2.ensures.device

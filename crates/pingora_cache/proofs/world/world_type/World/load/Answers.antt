@@ -39,4 +39,4 @@ pub returns-clause-puts : goal.returns-clause-puts
 returns-clause-puts g c = (invariant_of-self-2 g c).2.follow
 
 pub returns-clause-loaded : goal.returns-clause-loaded
-returns-clause-loaded g c = load-leaves (λ v. v.items) c.self.inside.start _ _ g.M.SavedManager.put_in _ _ _ _ _ _ (subst (λ b. AnswersFiles b F.Load c.load_if-reply.result) (early-told c.self.inside.start c.is_none-is_early.result c.is_none-is_early.ensures) c.load_if-reply.ensures.reply) c.load_if-reply.ensures.loaded c.doubled-noted.ensures.copy c.doubled-noted.ensures.same (ap (λ (l : Log). l.start) c.self.view_is)
+returns-clause-loaded g c = load-leaves (λ v. v.items) c.self.inside.start _ g.M.SavedManager.put_in _ _ _ _ _ _ (subst (λ b. AnswersFiles b F.Load c.load_if-reply.result) (early-told c.self.inside.start c.is_none-is_early.result c.is_none-is_early.ensures) c.load_if-reply.ensures.reply) c.load_if-reply.ensures.loaded c.doubled-noted.ensures.copy c.doubled-noted.ensures.same (ap (λ (l : Log). l.start) c.self.view_is)
