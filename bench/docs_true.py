@@ -13,6 +13,7 @@
   is one of the first
 - each `rt WORD` is a command of the toolchain, and each option of a script of bench/ stands in it
 - each block of Rattle in README.md, GUIDE.md and AUDIT.md stands in a source, as it is but for blanks
+- each definition in SIMULATOR.md stands in specs/, but for its type, its comment and blanks
 - each block of output in README.md and GUIDE.md is what a program's file stdout has
 - in a picture of the crates none stands above one that uses it
 - where a number of tests, crates, public functions or wrong bodies is said, it is today's; so in AUDIT.md's counts
@@ -178,6 +179,25 @@ def wrong_blocks(text):
                 yield f"no source has this block: {block.splitlines()[0]}"
 
 
+# What a definition in specs/ has that a page leaves out: comments, types, and what says who may use it.
+UNTOLD = re.compile(r"(?m)^--.*\n|^(?:abbrev|unfoldable)(?: pub)? \S+ :.*\n|\bpub |\{O (?:: Type 0|= O)\} | : Type 0(?= where$)|(?<=→) Type 0(?= where$)")
+
+
+@functools.lru_cache(None)
+def plain_specs():
+    return [plain(UNTOLD.sub("", read(it))) for it in files_of(".antt") if "/specs/" in it]
+
+
+def wrong_definitions(text):
+    """Definitions that stand on a page, without their types, and not so in specs/."""
+    for _kind, block in BLOCK.findall(text):
+        if "≡" in block or re.search(r"(?m)^-- ", block):
+            for part in re.split(r"\n\n|\n +\.\.\n|\n(?=[^\s-])", block):
+                wanted = plain(UNTOLD.sub("", part.strip() + "\n")).removesuffix("}")
+                if not any(wanted in it for it in plain_specs()):
+                    yield f"no file of specs/ has this definition: {part.strip().splitlines()[-1]}"
+
+
 def outputs():
     return {it: read(it) for it in glob.glob(f"{TOP}/crates/*/stdout")}
 
@@ -291,6 +311,8 @@ def wrong_in(page, text):
         yield from wrong_pictures(text)
     if page in ("README.md", "docs/GUIDE.md"):
         yield from wrong_outputs(text)
+    if page == "docs/SIMULATOR.md":
+        yield from wrong_definitions(text)
     if page in ("README.md", "CHANGELOG.md", "CONTRIBUTING.md") or (page.count("/") == 1):
         yield from wrong_figures(text)
     if base == "AUDIT.md":
@@ -314,6 +336,7 @@ LIES = [
     ("a wrong number of tests", "docs/PROMISES.md", lambda text: text + "\nThere are 9,999 tests.\n"),
     ("a command that is none", "docs/GUIDE.md", lambda text: text + "\nThen `rt frob` proves it.\n"),
     ("a block that is no source's", "docs/GUIDE.md", lambda text: text + "\n```rust\nlet cache = Cache::default();\n```\n"),
+    ("a definition that was changed", "docs/SIMULATOR.md", lambda text: text.replace("then Some (key_in s key)", "then Some (by_hash key)")),
     ("a link to no heading", "README.md", lambda text: text.replace("\n\n", " [opened](docs/PROMISES.md#opened)\n\n", 1)),
     ("a page that is too long", "README.md", lambda text: text + "\n" * 9),
     ("a crate above one that uses it", "README.md", lambda text: re.sub(r"(?m)^( values .*)\n", "", text).replace("```\n programs", "```\n values  pcache_base  pcache_meta  pcache_control  pcache_table\n programs", 1)),

@@ -7,8 +7,8 @@
                           `rt tidy` in the crates that it names, which checks them again
 
 A name is used that stands elsewhere in its file, that another file imports, or that a tactic names. What a function's Answers,
-Invariants and Proof state is named by the function, and the hash's vectors in proofs/HashVectors.antt are tests: they are never
-told.
+Invariants and Proof state is named by the function, what Send and Sync state by an impl, and the hash's vectors in
+proofs/HashVectors.antt are tests: they are never told.
 """
 import argparse
 import collections
@@ -19,7 +19,7 @@ import sys
 
 TOP = os.path.dirname(os.path.dirname(os.path.realpath(__file__)))
 DEFINES = re.compile(r"(?:(?:unfoldable|pub|abbrev|data|record) )*([^\s(){}:.]+)(?= .*: | :|$)")
-NAMED_ELSEWHERE = ("/Answers.antt", "/Invariants.antt", "/Proof.antt", "/proofs/HashVectors.antt")
+NAMED_ELSEWHERE = ("/Answers.antt", "/Invariants.antt", "/Proof.antt", "/Send.antt", "/Sync.antt", "/proofs/HashVectors.antt")
 
 
 def words_in(text):

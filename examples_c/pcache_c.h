@@ -344,9 +344,12 @@ enum {
     PCACHE_WAS_ABANDONED = 7
 };
 
-/* The seed is 16 bytes that the caller drew at random. A watermark of 0 is none. */
+/* The seed is 16 bytes that the caller drew at random. A watermark of 0 is none. The limit counts the bytes of bodies. */
 uint32_t pcache_cache_new(pcache_handle *cache, const uint8_t *seed, size_t seed_len, size_t limit,
                           size_t watermark, uint64_t age_timeout_millis);
+/* The same with a limit that counts all that is kept for a response: its body, its head, and 512 bytes for the rest. */
+uint32_t pcache_cache_new_bounded(pcache_handle *cache, const uint8_t *seed, size_t seed_len,
+                                  size_t limit, size_t watermark, uint64_t age_timeout_millis);
 uint32_t pcache_cache_totals(pcache_handle *cache, pcache_cache_counts *out);
 /* The tag is UTF-8. */
 uint32_t pcache_request_new(pcache_handle *cache, const uint8_t *key, size_t key_len,
@@ -372,7 +375,8 @@ uint32_t pcache_request_vary(pcache_handle *cache, uint64_t request, const uint8
 uint32_t pcache_request_begin(pcache_handle *cache, uint64_t request);
 uint32_t pcache_request_write(pcache_handle *cache, uint64_t request, const uint8_t *bytes,
                               size_t bytes_len, uint32_t eof);
-/* PCACHE_NONE if there is no write. PCACHE_REMOVED if its key was purged since it began. */
+/* `stored` is what the entry weighs: the bytes of the body, or all that is kept for it, as the limit of the cache counts.
+ * PCACHE_NONE if there is no write. PCACHE_REMOVED if its key was purged since it began. */
 uint32_t pcache_request_finish(pcache_handle *cache, uint64_t request, size_t *stored,
                                size_t *evicted);
 /* `more` is 1 if bytes were written to the buffer, 2 if nothing is there yet, 0 at the end of all that was to be read, and 3

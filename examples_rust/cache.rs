@@ -1,6 +1,6 @@
 //! A cache from Rust: a fill, a hit, a wait with a body that is read while it comes, a purge and an eviction. It prints what
 //! examples_c/cache.c prints.
-use pcache::{Cache, Error, Fill, Head, Held, HitStatus, Looked, Meta, Moment, Options, Read, Request, Said, Stored, View, WaitEnd};
+use pcache::{Cache, Counts, Error, Fill, Head, Held, HitStatus, Looked, Meta, Moment, Options, Read, Request, Said, Stored, View, WaitEnd};
 use std::time::Duration;
 
 const NOW: Moment = Moment { secs: 1, nanos: 0 };
@@ -34,7 +34,7 @@ fn begin(request: &mut Request) -> Result<Fill<'_>, Error> {
 }
 
 fn print_stored(stored: Stored) {
-    println!("stored {} evicted {}", stored.bytes, stored.evicted);
+    println!("stored {} evicted {}", stored.weight, stored.evicted);
 }
 
 fn fill(cache: &Cache, key: &str, body: &[u8]) -> Result<(), Error> {
@@ -199,7 +199,7 @@ fn refused(cache: &Cache) -> Result<(), Error> {
 }
 
 fn main() -> Result<(), Error> {
-    let options = Options { limit: 6, parts: 1, seed: Some([7; 16]), age_timeout: Duration::from_secs(10), watermark: 0 };
+    let options = Options { limit: 6, counts: Counts::Bodies, parts: 1, seed: Some([7; 16]), age_timeout: Duration::from_secs(10), watermark: 0 };
     let cache = Cache::new(&options)?;
     fill(&cache, "aa", b"hi")?;
     hit(&cache, "aa")?;

@@ -1,8 +1,8 @@
-//! What a cache takes of memory. Its limit is on the bytes of bodies: heads come on top, and some 500 bytes an entry. A watermark
-//! bounds how many entries there are, so who stores no long head bounds the whole. Each row is a cache in a process of its own, which
-//! is filled with three times as many bodies as the watermark lets in. It ends with 1 if one takes more than 1.25 times what it
-//! keeps, or may keep, and 4 MiB.
-use pcache::{Cache, Error, Head, Looked, Meta, Moment, Options, Said};
+//! What a cache takes of memory. A limit on all that is kept for a response bounds it. Where the limit counts bodies alone, heads come
+//! on top, and some 500 bytes an entry; there a watermark bounds how many entries there are, so who stores no long head bounds the
+//! whole. Each row is a cache in a process of its own, which is filled three times over. It ends with 1 if one takes more than 1.25
+//! times what it keeps, or may keep, and 4 MiB.
+use pcache::{Cache, Counts, Error, Head, Looked, Meta, Moment, Options, Said};
 use std::{env, fs, process};
 
 const LIMIT: usize = 64 << 20;
@@ -42,19 +42,23 @@ fn fill(cache: &Cache, key: usize, meta: &mut Meta, body: &[u8]) -> Result<(), E
     Ok(())
 }
 
-fn row(body: usize, head: usize) -> Result<bool, Error> {
-    let options = Options { limit: LIMIT, watermark: WATERMARK, parts: 1, ..Options::default() };
+fn row(counts: Counts, body: usize, head: usize) -> Result<bool, Error> {
+    let (watermark, entries, heads) = match counts {
+        Counts::Entries => (0, LIMIT / (body + head + ENTRY), 0),
+        Counts::Bodies => (WATERMARK, WATERMARK, WATERMARK * (head + ENTRY)),
+    };
+    let options = Options { limit: LIMIT, counts, watermark, parts: 1, ..Options::default() };
     let (mut meta, bytes) = (meta_of(head)?, vec![7; body]);
     let before = resident();
     let cache = Cache::new(&options)?;
-    for key in 0..3 * WATERMARK {
+    for key in 0..3 * entries {
         fill(&cache, key, &mut meta, &bytes)?;
     }
     let (totals, taken) = (cache.totals()?, resident() - before);
     let kept = totals.stored_bytes as usize + totals.bodies * (head + ENTRY);
-    let most = 5 * (LIMIT + WATERMARK * (head + ENTRY)) / 4 + CONSTANT;
+    let most = 5 * (LIMIT + heads) / 4 + CONSTANT;
     println!(
-        "bodies of {body}, heads of {head}: {} entries, bytes of bodies {}, resident {taken}, by what is kept {:.2}, at most {most}",
+        "limit on {counts:?}, bodies of {body}, heads of {head}: {} entries, bytes of bodies {}, resident {taken}, by what is kept {:.2}, at most {most}",
         totals.bodies,
         totals.stored_bytes,
         taken as f64 / kept as f64
@@ -64,14 +68,17 @@ fn row(body: usize, head: usize) -> Result<bool, Error> {
 
 fn main() {
     let words: Vec<usize> = env::args().skip(1).filter_map(|word| word.parse().ok()).collect();
-    if let [body, head] = words[..] {
-        process::exit(i32::from(row(body, head) != Ok(true)));
+    if let [counts, body, head] = words[..] {
+        let counts = if counts == 0 { Counts::Bodies } else { Counts::Entries };
+        process::exit(i32::from(row(counts, body, head) != Ok(true)));
     }
     let mut bounded = true;
-    for (body, head) in BODIES.iter().flat_map(|body| HEADS.iter().map(move |head| (body, head))) {
-        let program = env::current_exe().expect("the program has a path");
-        let ended = process::Command::new(program).args([body.to_string(), head.to_string()]).status();
-        bounded &= ended.expect("the program starts").success();
+    for counts in 0..2 {
+        for (body, head) in BODIES.iter().flat_map(|body| HEADS.iter().map(move |head| (body, head))) {
+            let program = env::current_exe().expect("the program has a path");
+            let ended = process::Command::new(program).args([counts, *body, *head].map(|word| word.to_string())).status();
+            bounded &= ended.expect("the program starts").success();
+        }
     }
     process::exit(i32::from(!bounded));
 }

@@ -7,11 +7,24 @@ use std::hash::{BuildHasher, Hasher};
 use std::sync::{Arc, Condvar, Mutex, MutexGuard, PoisonError};
 use std::time::Duration;
 
+/// What the limit of a cache counts.
+#[derive(Clone, Copy, Debug, Default, PartialEq, Eq)]
+pub enum Counts {
+    /// The bytes of complete bodies alone, as in pingora-cache: heads come on top.
+    Bodies,
+    /// All that is kept for a stored response: its body, its head, and 512 bytes for the rest.
+    #[default]
+    Entries,
+}
+
 /// What a cache is made with.
 #[derive(Clone, Debug)]
 pub struct Options {
-    /// How many bytes the complete bodies may have together. Each part has an even share of it, and stores no larger body.
+    /// How many bytes what is stored may have together, as `counts` says. Each part has an even share of it, and stores nothing
+    /// larger.
     pub limit: usize,
+    /// What the limit counts.
+    pub counts: Counts,
     /// How many complete bodies there may be, or 0 for any number. Each part has an even share of it.
     pub watermark: usize,
     /// How long a permit may be held, before another request gets one.
@@ -23,9 +36,16 @@ pub struct Options {
 }
 
 impl Default for Options {
-    /// 64 MiB in 16 parts, any number of bodies, permits of ten seconds, a seed that is drawn.
+    /// 64 MiB for all that is kept, in 16 parts, any number of bodies, permits of ten seconds, a seed that is drawn.
     fn default() -> Options {
-        Options { limit: 64 << 20, watermark: 0, age_timeout: Duration::from_secs(10), parts: 16, seed: None }
+        Options {
+            limit: 64 << 20,
+            counts: Counts::Entries,
+            watermark: 0,
+            age_timeout: Duration::from_secs(10),
+            parts: 16,
+            seed: None,
+        }
     }
 }
 
@@ -108,12 +128,16 @@ impl Cache {
         }
         let millis = u64::try_from(options.age_timeout.as_millis()).unwrap_or(u64::MAX);
         let seed = options.seed.unwrap_or_else(drawn);
+        let make = match options.counts {
+            Counts::Bodies => raw::pcache_cache_new,
+            Counts::Entries => raw::pcache_cache_new_bounded,
+        };
         let mut all = Vec::with_capacity(parts);
         for place in 0..parts {
             let mut handle = Handle::new();
             let (limit, watermark) = (share(options.limit, parts, place), share(options.watermark, parts, place));
             // SAFETY: the handle has nothing, and the seed has 16 bytes.
-            done(unsafe { raw::pcache_cache_new(&mut handle.0, seed.as_ptr(), 16, limit, watermark, millis) })?;
+            done(unsafe { make(&mut handle.0, seed.as_ptr(), 16, limit, watermark, millis) })?;
             all.push(Part { guarded: Mutex::new(Guarded { handle, waiting: 0 }), changed: Condvar::new() });
         }
         Ok(Cache(all.into()))

@@ -22,7 +22,7 @@
 //! let mut meta = Meta::new(&mut Head::new(200)?, &said)?;
 //! let mut fill = request.fill(&mut meta, None)?;
 //! fill.write("breaking")?;
-//! assert_eq!(fill.finish(" news")?.bytes, 13);
+//! assert_eq!(fill.finish(" news")?.evicted, 0);
 //!
 //! // The next one finds it, and reads it without a copy.
 //! let mut request = cache.request(b"/news", "")?;
@@ -45,7 +45,7 @@ mod meta;
 mod raw;
 mod request;
 
-pub use cache::{Cache, CacheTotals, Options};
+pub use cache::{Cache, CacheTotals, Counts, Options};
 pub use decisions::{Answer, Asked, Decision, NotStored, Outcome, Reuse, Terms};
 pub use error::Error;
 pub use manager::{EvictionManager, Key, Manager, SharedManager, Totals};

@@ -197,8 +197,8 @@ impl AsRef<[u8]> for View {
 /// How a fill ended.
 #[derive(Clone, Copy, Debug, PartialEq, Eq)]
 pub struct Stored {
-    /// The bytes of the body.
-    pub bytes: usize,
+    /// What its entry weighs: the bytes of the body, or all that is kept for it, as the limit of the cache counts.
+    pub weight: usize,
     /// How many other bodies were evicted for it.
     pub evicted: usize,
 }
@@ -533,11 +533,11 @@ impl Fill<'_> {
     /// [`Error::Removed`] if the key was purged since the write began, [`Error::NoMemory`]: the write is gone, and nothing is stored.
     pub fn finish(mut self, last: impl AsRef<[u8]>) -> Result<Stored, Error> {
         self.add(last.as_ref(), true)?;
-        let (mut bytes, mut evicted) = (0, 0);
+        let (mut weight, mut evicted) = (0, 0);
         self.request.change(|cache, request| unsafe {
-            raw::pcache_request_finish(cache, request, &mut bytes, &mut evicted)
+            raw::pcache_request_finish(cache, request, &mut weight, &mut evicted)
         })?;
-        Ok(Stored { bytes, evicted })
+        Ok(Stored { weight, evicted })
     }
 
     fn add(&mut self, bytes: &[u8], eof: bool) -> Result<(), Error> {

@@ -51,7 +51,7 @@ pub struct Report {
 
 /// Serves each path many times from each of four threads.
 pub fn run<R: Threads + Wait + Sync>(rt: &R, alloc: Global, seed: Seed) -> Result<Report> {
-    let cache = Parts::with_lists(alloc, seed, 16_000, None, Duration::from_secs(10))?;
+    let cache = Parts::with_lists(alloc, seed, 64_000, None, Duration::from_secs(10))?;
     let fetches = AtomicU64::new(0);
     let mut served = [0u32; WORKERS];
     thread::for_each_mut(

@@ -3,6 +3,7 @@ use Rattle.std.specs.Prelude.{◌≡◌, ◌⊎◌, ◌-◌, ◌^◌, ◌≤◌,
 use Rattle.std.specs.FinMap.{len}
 use Rattle.pcache_base.specs.Key.{Key}
 use Rattle.pcache_cache.specs.Parts.{Parts}
+use Rattle.pcache_cache.specs.declared.weighing.Weighing.{Weighing}
 use Rattle.pcache_evict.specs.Listed.{empty_list}
 use Rattle.pcache_evict.specs.Tracked.{weight}
 use Rattle.pcache_meta.specs.Meta.{Meta}
@@ -21,14 +22,14 @@ abbrev pub key_with : List ℕ → List ℕ → Key
 key_with primary tag = record { primary = primary; primary_override = None; variance = None; user_tag = tag; unusable = None }
 
 -- a cache in which nothing is stored, and of which no request is open
-pub record IsNewCache (limit : ℕ) (watermark : Option ℕ) (age : ℕ) (s : Served) : Type 0 where
-  pub parts : s.cache ≡ new_cache (empty_list limit watermark) age
+pub record IsNewCache (how : Weighing) (limit : ℕ) (watermark : Option ℕ) (age : ℕ) (s : Served) : Type 0 where
+  pub parts : s.cache ≡ new_cache how (empty_list limit watermark) age
   pub none : (number : ℕ) → request_at s.seats number ≡ None
 
--- a handle gets a new cache, or there was no memory for its manager
-abbrev pub MakesCache : ℕ → Option ℕ → ℕ → PcacheHandle → PcacheHandle → ℕ → Type 0
-MakesCache limit watermark age old new code = ((code ≡ no_memory) × IsSame old new)
-    ⊎ ((s : Served) × IsNewCache limit watermark age s × Fills (object.Cache s) old new code)
+-- a handle gets a new cache whose entries weigh so, or there was no memory for its manager
+abbrev pub MakesCache : Weighing → ℕ → Option ℕ → ℕ → PcacheHandle → PcacheHandle → ℕ → Type 0
+MakesCache how limit watermark age old new code = ((code ≡ no_memory) × IsSame old new)
+    ⊎ ((s : Served) × IsNewCache how limit watermark age s × Fills (object.Cache s) old new code)
 
 pub record SaysCounts (c : Parts) (out : PcacheCacheCounts) : Type 0 where
   pub stored : out.stored_bytes ≡ min (stored_bytes c.store) (2 ^ 64 - 1)

@@ -9,6 +9,8 @@ use Rattle.pcache_base.specs.declared.poll.Poll.{Poll}
 use Rattle.pcache_base.specs.declared.poll.Poll.TheVariants.{Pending, Ready}
 use Rattle.pcache_base.specs.declared.reason.NoCacheReason.{NoCacheReason}
 use Rattle.pcache_cache.specs.Parts as cached
+use Rattle.pcache_cache.specs.Renewing as renewing
+use Rattle.pcache_cache.specs.Weighing.{entered}
 use Rattle.pcache_cache.specs.Parts.{MayEnd, Parts, takes_bytes, tracked_at_end, written_by}
 use Rattle.pcache_lock.specs.Locks.{MayFailLock}
 use Rattle.pcache_lock.specs.declared.lock.status.LockStatus.TheVariants.{Done, GiveUp}
@@ -19,16 +21,15 @@ use Rattle.pcache_request.specs.LockWaits.{table_waited, unusable_in, wait_resul
 use Rattle.pcache_request.specs.NoBody.{LeavesNone}
 use Rattle.pcache_request.specs.Phases.{IsDisabled, IsFilling, IsOn, MayFinishHit, MayLookUp, MayMiss, MayPurge}
 use Rattle.pcache_request.specs.Releasing.{MayDisable, MayRelease, disabled_for, status_for}
-use Rattle.pcache_request.specs.Renewals.{has_body, renewed, renewed_by, with_meta_of}
+use Rattle.pcache_request.specs.Renewals.{renewed, renewed_by}
 use Rattle.pcache_request.specs.Requests.{HoldsNothing, MayTakeMeta, MayWrite, Request, asks_for_hit, begin_followed, begun_for, dropped_by, found_for, found_row, is_removed_by, left_by, length_by, missed, settled, store_found, store_writing, table_found, tracked_found, tracked_gone_for, whole_by, with_meta, without_reader, writing}
 use Rattle.pcache_request.specs.Stale.{MayRevalidate}
 use Rattle.pcache_request.specs.Variants.{asks_unseen, hides_for, looked_for, searched, seen_for, table_looked_for, table_varied, varied}
 use Rattle.pcache_request.specs.LockPasts.{end_deeds}
 use Rattle.pcache_request.specs.StorePasts.{EndsRequestPast}
-use Rattle.pcache_request.specs.WriteEnds.{Ends, EndsAs, evicted_after, finishes_of}
+use Rattle.pcache_request.specs.WriteEnds.{Ends, EndsAs, evicted_after}
 use Rattle.pcache_request.specs.declared.cache.finish.FinishReport.{FinishReport}
 use Rattle.pcache_request.specs.declared.phase.HitStatus.{HitStatus}
-use Rattle.pcache_store.specs.Finishes.{created}
 use Rattle.pcache_store.specs.Purge.{expire_outcome, expired_at, purge_outcome, purged_at}
 use Rattle.pcache_store.specs.Readers.{in_memory, reader_of}
 use Rattle.pcache_store.specs.Refusals.{MayFailWrite}
@@ -168,25 +169,17 @@ CopyOf m (Err code) = ((code ≡ nothing) × (m ≡ None)) ⊎ ((code ≡ no_mem
 
 -- a stale body is renewed by the meta of an answer that says that it is good
 
-pub record Renewed (m : Meta) (c d : Parts) (o p : Open) : Type 0 where
+pub record Renewed (result : Result Bool ErrorType) (m : Meta) (c d : Parts) (o p : Open) : Type 0 where
   pub request : p.request.cache ≡ renewed m o.request.cache
-  pub store : d.store ≡ with_meta_of (renewed_by m o.request.cache.meta) o.request.cache.key c.store
+  pub renews : renewing.Renews c.weighing c.limits (renewed_by m o.request.cache.meta) o.request.cache.key result (renewing.stock c) (renewing.stock d)
   pub table : d.locks ≡ settled Done o.request.cache.held c.locks
-  pub parts : KeepsManager c d
+  pub parts : d ≡ record c { store = d.store; past = d.past; tracked = d.tracked; evicted = d.evicted; locks = d.locks; deeds = d.deeds }
   pub rest : KeepsFound o p
 
--- there was no memory for a copy of the meta, or for the one in the store
-pub record HalfRenewed (m : Meta) (c d : Parts) (o p : Open) : Type 0 where
-  pub body : IsTrue (has_body c.store o.request.cache.key)
-  pub request : p.request.cache ≡ renewed m o.request.cache
-  pub store : d.store ≡ c.store
-  pub table : d.locks ≡ settled Done o.request.cache.held c.locks
-  pub parts : KeepsManager c d
-  pub rest : KeepsFound o p
-
+-- if it fails, there was no memory for a copy of the meta, or for what the cache does
 abbrev pub Renews : Meta → Parts → Parts → Open → Open → ℕ → Type 0
-Renews m c d o p code = Outcome (MayRevalidate o.request.cache) (Renewed m c d o p) ⊥
-    (λ e. (e ≡ OutOfMemory) × (IsUnchanged c d o p ⊎ HalfRenewed m c d o p)) (IsUnchanged c d o p) code
+Renews m c d o p code = Outcome (MayRevalidate o.request.cache) ((there : Bool) × Renewed (Ok there) m c d o p) ⊥
+    (λ e. (e ≡ OutOfMemory) × (IsUnchanged c d o p ⊎ Renewed (Err e) m c d o p)) (IsUnchanged c d o p) code
 
 -- what the response varies on is set
 
@@ -256,15 +249,16 @@ MayEndWrite c o = IsFilling o.request.cache.phase × MayEnd c.store o.request.ca
 -- what the call of the cache answered, and what that leaves
 pub record EndsSo (result : Result (Option FinishReport) ErrorType) (c d : Parts) (o p : Open) : Type 0 where
   pub request : p.request.cache ≡ after_finish o.request.cache
-  pub ended : EndsAs result (λ e. Ends in_memory o.request.cache o.request.cache.key o.request.cache.write (finishes_of (created c.store) o.request.cache.write)
+  pub ended : EndsAs result (λ e. Ends in_memory o.request.cache o.request.cache.key o.request.cache.write (entered c.weighing c.store o.request.cache.write)
       c.limits e c.store d.store (tracked_at_end c o.request.cache e) d.tracked c.locks d.locks
       × EndsRequestPast in_memory o.request.cache.key o.request.cache.write e (Some c.past) (Some d.past)
       × cached.Adds (end_deeds o.request.cache.write o.request.cache.held e) c.deeds d.deeds
-      × (d.evicted ≡ evicted_after o.request.cache o.request.cache.key (finishes_of (created c.store) o.request.cache.write) (tracked_at_end c o.request.cache e) c.evicted e))
+      × (d.evicted ≡ evicted_after o.request.cache o.request.cache.key (entered c.weighing c.store o.request.cache.write) (tracked_at_end c o.request.cache e) c.evicted e))
   pub limits : d.limits ≡ c.limits
+  pub weighing : d.weighing ≡ c.weighing
   pub rest : KeepsFound o p
 
--- the body has so many bytes, and so many entries were evicted for it
+-- its entry weighs so much, and so many entries were evicted for it
 abbrev pub Stored : ℕ → ℕ → Parts → Parts → Open → Open → Type 0
 Stored size evicted c d o p = (f : FinishReport) × (size ≡ f.size) × (evicted ≡ length f.evicted.items) × EndsSo (Ok (Some f)) c d o p
 

@@ -1,6 +1,7 @@
 //! A cache with its requests: a store in memory, an eviction manager with one list, and a lock table.
 
 ghost use Rattle.std.specs.Prelude.{◌≡◌, ◌⊎◌, ◌*◌, IfErr, IfOk, IsUtf8, OnOk};
+ghost use Rattle.pcache_cache.specs.declared.weighing.Weighing.TheVariants.{Bodies, Entries};
 ghost use Rattle.pcache_c.specs.Caches.{CopiesMeta, MakesCache, SaysCounts, key_with};
 ghost use Rattle.pcache_c.specs.Codes.{OnGood, OnText, bad_value, hash_at, no_memory, watermark_at};
 ghost use Rattle.pcache_c.specs.Handles.{AsksOf, IsSame, OnHandle, OnKind};
@@ -16,6 +17,7 @@ use crate::object::Object;
 use crate::reached;
 use crate::served::Served;
 use pcache_base::key::CacheKey;
+use pcache_cache::Weighing;
 use pcache_evict::eviction::simple_lru;
 use std::alloc::Global;
 use std::time::Duration;
@@ -39,7 +41,8 @@ pub struct PcacheCacheCounts {
 }
 
 /// A cache whose complete bodies have at most `limit` bytes together, and number at most
-/// `watermark` unless that is 0. A permit ages out after so many milliseconds. The seed is 16 bytes
+/// `watermark` unless that is 0. Heads, and what is kept beside them, come on top: where they matter, take
+/// `pcache_cache_new_bounded`. A permit ages out after so many milliseconds. The seed is 16 bytes
 /// that the caller drew at random.
 #[unsafe(no_mangle)]
 pub extern "C" fn pcache_cache_new(
@@ -50,8 +53,58 @@ pub extern "C" fn pcache_cache_new(
     watermark: usize,
     age_timeout_millis: u64,
 ) -> u32
-    ensures { OnGood (hash_at seed.now) result (IsSame cache.old cache.new) (λ s. MakesCache limit
-        (watermark_at watermark) (age_timeout_millis * 1000000) cache.old cache.new result) }
+    ensures { OnGood (hash_at seed.now) result (IsSame cache.old cache.new) (λ s. MakesCache Bodies
+        limit (watermark_at watermark) (age_timeout_millis * 1000000) cache.old cache.new result) }
+{
+    cache_weighing(
+        alloc,
+        cache,
+        seed,
+        limit,
+        watermark,
+        age_timeout_millis,
+        Weighing::Bodies,
+    )
+}
+
+/// A cache whose stored responses take at most `limit` bytes of memory together: each counts with its
+/// body, the text of its head, and 512 bytes for all that is kept beside these. Else it is as that of
+/// `pcache_cache_new`.
+#[unsafe(no_mangle)]
+pub extern "C" fn pcache_cache_new_bounded(
+    alloc: Global,
+    cache: &mut PcacheHandle,
+    seed: &[u8],
+    limit: usize,
+    watermark: usize,
+    age_timeout_millis: u64,
+) -> u32
+    ensures { OnGood (hash_at seed.now) result (IsSame cache.old cache.new) (λ s. MakesCache Entries
+        limit (watermark_at watermark) (age_timeout_millis * 1000000) cache.old cache.new result) }
+{
+    cache_weighing(
+        alloc,
+        cache,
+        seed,
+        limit,
+        watermark,
+        age_timeout_millis,
+        Weighing::Entries,
+    )
+}
+
+// A cache whose entries weigh so.
+fn cache_weighing(
+    alloc: Global,
+    cache: &mut PcacheHandle,
+    seed: &[u8],
+    limit: usize,
+    watermark: usize,
+    age_timeout_millis: u64,
+    weighing: Weighing,
+) -> u32
+    ensures { OnGood (hash_at seed.now) result (IsSame cache.old cache.new) (λ s. MakesCache weighing
+        limit (watermark_at watermark) (age_timeout_millis * 1000000) cache.old cache.new result) }
 {
     let Some(seed) = seed_of(seed) else {
         return BAD_VALUE;
@@ -59,7 +112,7 @@ pub extern "C" fn pcache_cache_new(
     let age_timeout = Duration::from_millis(age_timeout_millis);
     match simple_lru::Manager::new_with_watermark(alloc, seed, limit, watermark_of(watermark)) {
         Ok(manager) => {
-            let served = Served::new(alloc, seed, manager, age_timeout);
+            let served = Served::new(alloc, seed, manager, age_timeout, weighing);
             cache.fill(alloc, Object::Cache(served))
         }
         Err(e) => code_of(e),

@@ -154,7 +154,7 @@ pub extern "C" fn pcache_request_write(
     code
 }
 
-/// Ends the write and stores the body. Says how many bytes it has, and how many entries were evicted
+/// Ends the write and stores the body. Says what its entry weighs, and how many entries were evicted
 /// for it, whose bodies are gone. There is nothing to end without a write.
 #[unsafe(no_mangle)]
 pub extern "C" fn pcache_request_finish(

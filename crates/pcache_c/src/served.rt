@@ -11,7 +11,7 @@ use crate::seats::{Seat, Seats};
 use bytes::Bytes;
 use pcache_base::key::CacheKey;
 use pcache_base::seed::Seed;
-use pcache_cache::{Cache, CacheRequest};
+use pcache_cache::{Cache, CacheRequest, Weighing};
 use pcache_evict::eviction::simple_lru;
 use pcache_meta::meta::CacheMeta;
 use pcache_store::memory::MemHitHandler;
@@ -74,12 +74,13 @@ impl Served {
         seed: Seed,
         manager: simple_lru::Manager,
         age_timeout: Duration,
+        weighing: Weighing,
     ) -> Served
-        ensures cache { result.cache ≡ new_cache manager (as_nanos age_timeout) }
+        ensures cache { result.cache ≡ new_cache weighing manager (as_nanos age_timeout) }
         ensures none { (number : ℕ) → request_at result.seats number ≡ None }
     {
         Served {
-            cache: Cache::new(alloc, seed, manager, age_timeout),
+            cache: Cache::weighing(alloc, seed, manager, age_timeout, weighing),
             seats: Seats::new(alloc),
         }
     }

@@ -1,5 +1,5 @@
 -- What each note leaves true of a past of a store, each call of a cache leaves true of it; and so for the deeds of a lock table.
-use Rattle.std.proofs.Common.{◌≡◌, ◌⊎◌, inl, inr, ℕ, Bool, true, false, List, [], ◌∷◌, Option, None, Some, Result, Ok, Err, cond, refl, sym, subst, option_map}
+use Rattle.std.proofs.Common.{◌≡◌, inl, inr, ℕ, Bool, true, false, List, [], ◌∷◌, Option, None, Some, Result, Ok, Err, cond, refl, sym, subst, option_map}
 use Rattle.std.specs.FinMap.{get}
 use Rattle.pcache_base.specs.Key.{Key, slot}
 use Rattle.pcache_base.specs.declared.error.ErrorType.{ErrorType}
@@ -8,12 +8,15 @@ use Rattle.pcache_base.specs.declared.poll.Poll.TheVariants.{Ready, Pending}
 use Rattle.pcache_base.specs.declared.reason.NoCacheReason.{NoCacheReason}
 use Rattle.pcache_cache.specs.OwnPut.{put_past}
 use Rattle.pcache_cache.specs.Parts.{written_past}
+use Rattle.pcache_cache.specs.Renewing.{IsNotSet, IsSet, Renews, Stock, meta_given, reweighs}
+use Rattle.pcache_cache.specs.declared.weighing.Weighing.{Weighing}
+use Rattle.pcache_evict.specs.Tracked.{Limits}
 use Rattle.pcache_evict.specs.declared.eviction.entry_key.CacheEntryKey.{CacheEntryKey}
 use Rattle.pcache_lock.specs.Deeds as deeds
 use Rattle.pcache_lock.specs.Deeds.{Deed, Left, Published, Released, asked, asked_again, given_up, tells_old}
 use Rattle.pcache_lock.specs.Locks.{Locks, holder, is_permit, lock_given, number_of_lock}
 use Rattle.pcache_lock.specs.PastLaws.{is_unlocking}
-use Rattle.pcache_lock.specs.Permits.{Permit, Reader}
+use Rattle.pcache_lock.specs.Permits.{Permit}
 use Rattle.pcache_lock.specs.Waiting.{polled}
 use Rattle.pcache_lock.specs.declared.lock.outcome.LockWaitOutcome.{LockWaitOutcome}
 use Rattle.pcache_lock.specs.declared.lock.permit.Locked.{Locked}
@@ -41,7 +44,7 @@ use Rattle.pcache_request.specs.declared.cache.finish.WriteEnd.{WriteEnd}
 use Rattle.pcache_request.specs.declared.cache.finish.WriteEnd.TheVariants as end
 use Rattle.pcache_request.specs.declared.phase.HitStatus.{HitStatus}
 use Rattle.pcache_store.specs.Notes.{leave_noted, look_noted, noted}
-use Rattle.pcache_store.specs.Past.{Began, Dropped, Finished, Note, Purged, Wrote}
+use Rattle.pcache_store.specs.Past.{Began, Dropped, Finished, MetaSet, Note, Purged, Wrote}
 use Rattle.pcache_store.specs.Store.{Guarantees, Reader as BodyReader, Store, is_told}
 
 -- ---- deeds
@@ -209,3 +212,20 @@ ends_put_keeps {Q} keeps g k InHead how p q ends is = subst Q (sym ends) is
 ends_put_keeps {Q} keeps g k (HasDeclined reason) how p q ends is = subst Q (sym ends) is
 ends_put_keeps {Q} keeps g k (IsOver kind) how p q ends is = subst Q (sym ends) is
 ends_put_keeps keeps g k (InBody w id fresh_until) how p q ends is = ends_keeps keeps g k w (write_end how) p q ends is
+
+-- the meta of a body was set
+set_keeps : {Q : Past → Type 0} → KeptByNotes Q → (again : Bool) (how : Weighing) (limits : Limits) (x : Meta) (key : Option Key) (a b : Stock) → IsSet again how limits x key a b → Q (Some a.past) → Q (Some b.past)
+set_keeps {Q} keeps false how limits x key a b set is = subst (λ (s : Stock). Q (Some s.past)) (sym set) (keeps (option_map (λ k. MetaSet (slot k) x) key) (Some a.past) is)
+set_keeps keeps true how limits x None a b set is = absurd set
+set_keeps keeps true how limits x (Some k) a b set is = taken_all_keeps (entry_past true) (λ l e. keeps _ l) (Some (meta_given x (Some k) a).past) set.0 0 (Some b.past) set.1.past (keeps (Some (MetaSet (slot k) x)) (Some a.past) is)
+
+-- or memory was refused for that
+unset_keeps : {Q : Past → Type 0} → KeptByNotes Q → (again : Bool) (x : Meta) (key : Option Key) (a b : Stock) → IsNotSet again x key a b → Q (Some a.past) → Q (Some b.past)
+unset_keeps {Q} keeps false x key a b stays is = subst (λ (s : Stock). Q (Some s.past)) (sym stays) is
+unset_keeps keeps true x None a b never is = absurd never
+unset_keeps {Q} keeps true x (Some k) a b (inl stays) is = subst (λ (s : Stock). Q (Some s.past)) (sym stays) is
+unset_keeps {Q} keeps true x (Some k) a b (inr gone) is = subst (λ (s : Stock). Q (Some s.past)) (sym gone) (keeps (Some (Purged (slot k))) (Some (meta_given x (Some k) a).past) (keeps (Some (MetaSet (slot k) x)) (Some a.past) is))
+
+pub renews_keeps : {Q : Past → Type 0} → KeptByNotes Q → (how : Weighing) (limits : Limits) (x : Meta) (key : Option Key) (result : Result Bool ErrorType) (a b : Stock) → Renews how limits x key result a b → Q (Some a.past) → Q (Some b.past)
+renews_keeps keeps how limits x key (Ok there) a b renews is = set_keeps keeps (reweighs how x key a.store) how limits x key a b renews.1 is
+renews_keeps keeps how limits x key (Err e) a b renews is = unset_keeps keeps (reweighs how x key a.store) x key a b renews.2 is

@@ -1,6 +1,6 @@
 -- What always holds of a cache still holds after the end of a write.
 use Rattle.pcache_store.specs.Readers.{in_memory}
-use Rattle.std.proofs.Common.{◌≡◌, ◌≢◌, ℕ, inl, inr, Bool, true, false, cond, Option, None, Some, Result, Ok, Err, List, [], ◌∷◌, length, refl, ap, sym, subst, ◌∙◌, arith, is_none, nat_eq, option_map}
+use Rattle.std.proofs.Common.{◌≡◌, ◌≢◌, ℕ, inl, inr, Bool, true, false, cond, Option, None, Some, Result, Ok, Err, List, [], ◌∷◌, refl, ap, sym, subst, ◌∙◌, arith, is_none, nat_eq, option_map}
 use Rattle.std.specs.Option.{option_and_then, option_eq}
 use Rattle.std.specs.Ordering.{nat_cmp, eq_by_cmp, is_eq}
 use Rattle.std.specs.Cmp.{tied_itself}
@@ -11,21 +11,23 @@ use Rattle.pcache_base.specs.Key.{Key, slot}
 use Rattle.pcache_base.specs.declared.error.ErrorType.{ErrorType}
 use Rattle.pcache_evict.specs.declared.eviction.entry_key.CacheEntryKey.{CacheEntryKey}
 use Rattle.pcache_evict.specs.Entry.{entry_cmp, entries_total, id_of}
-use Rattle.pcache_evict.specs.Tracked.{Tracked, Limits, without}
+use Rattle.pcache_evict.specs.Tracked.{Tracked, IsFair, Limits, without}
 use Rattle.pcache_lock.specs.Locks.{Locks}
 use Rattle.pcache_lock.specs.declared.lock.status.LockStatus.{LockStatus}
 use Rattle.pcache_request.specs.Finishing.{Drops, PurgesAll, Stores, Withdraws, entry_slot}
 use Rattle.pcache_request.specs.Replacing.{tracked_before, tracked_before_end, without_entry}
 use Rattle.pcache_request.specs.Requests.{Request, entry_of, settled}
-use Rattle.pcache_request.specs.WriteEnds.{Ends, EndsAs, EndsBody, EndsIdle, finishes_of}
+use Rattle.pcache_request.specs.WriteEnds.{Ends, EndsAs, EndsBody, EndsIdle}
 use Rattle.pcache_request.specs.declared.cache.finish.FinishReport.{FinishReport}
 use Rattle.pcache_request.specs.declared.cache.finish.WriteEnd.{WriteEnd}
 use Rattle.pcache_request.specs.declared.cache.finish.WriteEnd.TheVariants as end
-use Rattle.pcache_store.specs.Finishes.{created}
 use Rattle.pcache_store.specs.declared.storage.MissFinishType.{MissFinishType}
+use Rattle.pcache_store.specs.declared.storage.MissFinishType.TheVariants.{Created}
 use Rattle.pcache_store.specs.Purge.{entry_purged, entry_purged_in}
-use Rattle.pcache_store.specs.Store.{Store, Slot, Stored, Written, complete_body, dropped, finished, finished_on, is_untouched, is_untouched_in, is_untouched_on, is_write_under, purged, stored_on, written_size, is_idle, with_slot, slot_without, write_gone_on, body_without, has_body_of, write_purged}
+use Rattle.pcache_store.specs.Store.{Store, Slot, Stored, Written, complete_body, dropped, finished, finished_on, is_untouched, is_untouched_in, is_untouched_on, is_write_under, purged, stored_on, is_idle, with_slot, slot_without, write_gone_on, body_without, has_body_of, write_purged}
 use Rattle.pcache_cache.specs.Parts.{IsBounded, IsKept, MayEnd, TracksExactly, is_own_write}
+use Rattle.pcache_cache.specs.Weighing.{body_weight, ending_weight, entered, write_weight}
+use Rattle.pcache_cache.specs.declared.weighing.Weighing.{Weighing}
 use Rattle.pcache_cache.proofs.Kept.{kept_fewer}
 use Rattle.pcache_cache.proofs.Standing.{Fewer, Stands, body-insert, body-remove, cmp_same, fewer-dropped, same-key}
 use Rattle.pcache_cache.proofs.Sums.{bounded-fewer, bounded-within, entries-apart, entry-same}
@@ -123,13 +125,13 @@ kept-without (e ∷ out) m x q b of own none =
 -- ---- the entry of a replaced body goes
 
 -- each key but this one with a complete body has its entry
-abbrev pub ExactBut : ℕ → Store → Tracked → Type 0
-ExactBut k s m = (q : ℕ) (b : Stored) → q ≢ k → complete_body (get s.slots q) ≡ Some b
-    → (e : CacheEntryKey) × (entry_slot e ≡ q) × (get m e ≡ Some (length b.bytes)) × (id_of e ≡ b.meta.entry_id)
+abbrev pub ExactBut : Weighing → ℕ → Store → Tracked → Type 0
+ExactBut wg k s m = (q : ℕ) (b : Stored) → q ≢ k → complete_body (get s.slots q) ≡ Some b
+    → (e : CacheEntryKey) × (entry_slot e ≡ q) × (get m e ≡ Some (body_weight wg b)) × (id_of e ≡ b.meta.entry_id)
 
-pub exact-but : (s : Store) (m : Tracked) (k : Key) (replaced : Option ℕ) → TracksExactly s m → ExactBut (slot k) s (without_entry true (compact_of k) replaced m)
-exact-but s m k None exact q b ne there = exact q b there
-exact-but s m k (Some n) exact q b ne there =
+pub exact-but : (wg : Weighing) (s : Store) (m : Tracked) (k : Key) (replaced : Option ℕ) → TracksExactly wg s m → ExactBut wg (slot k) s (without_entry true (compact_of k) replaced m)
+exact-but wg s m k None exact q b ne there = exact q b there
+exact-but wg s m k (Some n) exact q b ne there =
     let old = exact q b there in
     (old.0, old.1, get-remove entries_total m (entry_of k (Some n)) old.0 ∙ ap (λ y. cond y None (get m old.0)) (entries-apart old.0 (entry_of k (Some n)) q (slot k) old.1 refl ne) ∙ old.2, old.3)
 
@@ -144,78 +146,82 @@ body-stored s w x q is whole =
       | Some y ↦ λ yes. body-insert s.slots x.slot q (record { body = Some (record { meta = x.meta; bytes = x.bytes }); untouched = remove y.untouched w })
     ] (sym (ap (is_untouched_on s w) is) ∙ whole)
 
-module _ (limits : Limits) (m : Tracked) (s : Store) (k : Key) (w : ℕ) (x : Written) (is : get s.writes w ≡ Some x) (of : x.slot ≡ slot k) (named : x.meta.entry_id ≡ Some w) (others : ExactBut (slot k) s m) (bounded : IsBounded limits s) where
-  abbrev pub mine : CacheEntryKey
-  mine = entry_of k (Some w)
+-- A body comes to stand under a key: of the store t this much is complete, and the entry is admitted with what it weighs.
+module _ (wg : Weighing) (limits : Limits) (m : Tracked) (s t : Store) (k : Key) (mine : CacheEntryKey) (new : Stored) (n : ℕ) (here : (q : ℕ) → complete_body (get t.slots q) ≡ cond (eq_by_cmp nat_cmp q (slot k)) (Some new) (complete_body (get s.slots q))) (at : entry_slot mine ≡ slot k) (named : id_of mine ≡ new.meta.entry_id) (weighs : n ≡ body_weight wg new) (others : ExactBut wg (slot k) s m) where
+  abbrev pub admitted_now : Tracked
+  admitted_now = insert m mine n
 
-  abbrev pub admitted : Tracked
-  admitted = insert m mine (written_size (get s.writes w))
-
-  size-is : written_size (get s.writes w) ≡ length x.bytes
-  size-is = ap written_size is
-
-  pub exact-stored : (out : List CacheEntryKey) → is_untouched s w ≡ true → TracksExactly (purged_each (finished s w) out) (without out admitted)
-  exact-stored out whole q b complete =
-      let p = stands-each (finished s w) out q b complete in
-      elim (eq_by_cmp nat_cmp q x.slot) as (λ t. eq_by_cmp nat_cmp q x.slot ≡ t → cond t (Some (record { meta = x.meta; bytes = x.bytes })) (complete_body (get s.slots q)) ≡ Some b → (e : CacheEntryKey) × (entry_slot e ≡ q) × (get (without out admitted) e ≡ Some (length b.bytes)) × (id_of e ≡ b.meta.entry_id)) [
-        | true ↦ λ t here.
-            let own : record { meta = x.meta; bytes = x.bytes } ≡ b = cc in
-            let at : slot k ≡ q = sym of ∙ sym (same-key q x.slot t) in
-            let number : id_of mine ≡ b.meta.entry_id = sym named ∙ ap (λ (y : Stored). y.meta.entry_id) own in (
+  pub exact-anew : (out : List CacheEntryKey) → TracksExactly wg (purged_each t out) (without out admitted_now)
+  exact-anew out q b complete =
+      let p = stands-each t out q b complete in
+      elim (eq_by_cmp nat_cmp q (slot k)) as (λ y. eq_by_cmp nat_cmp q (slot k) ≡ y → cond y (Some new) (complete_body (get s.slots q)) ≡ Some b → (e : CacheEntryKey) × (entry_slot e ≡ q) × (get (without out admitted_now) e ≡ Some (body_weight wg b)) × (id_of e ≡ b.meta.entry_id)) [
+        | true ↦ λ y is.
+            let own : new ≡ b = cc in
+            let of : entry_slot mine ≡ q = at ∙ sym (same-key q (slot k) y) in
+            let number : id_of mine ≡ b.meta.entry_id = named ∙ ap (λ (z : Stored). z.meta.entry_id) own in (
               mine,
-              at,
-              kept-without out admitted mine q b at number p.1 ∙ get-insert entries_total m mine (written_size (get s.writes w)) mine
-                  ∙ ap (λ r. cond (is_eq r) (Some (written_size (get s.writes w))) (get m mine)) (tied_itself entries_total mine)
-                  ∙ ap Some (size-is ∙ ap (λ (y : Stored). length y.bytes) own),
+              of,
+              kept-without out admitted_now mine q b of number p.1 ∙ get-insert entries_total m mine n mine
+                  ∙ ap (λ r. cond (is_eq r) (Some n) (get m mine)) (tied_itself entries_total mine)
+                  ∙ ap Some (weighs ∙ ap (body_weight wg) own),
               number,
             )
-        | false ↦ λ t there.
-            let ne : q ≢ slot k = λ same. both_ways _ t (cmp_same q x.slot ∙ eq-eqb x.slot q (of ∙ sym same)) in
+        | false ↦ λ y there.
+            let ne : q ≢ slot k = λ same. both_ways _ y (cmp_same q (slot k) ∙ eq-eqb (slot k) q (sym same)) in
             let old = others q b ne there in (
               old.0,
               old.1,
-              kept-without out admitted old.0 q b old.1 old.3 p.1 ∙ get-insert entries_total m mine (written_size (get s.writes w)) old.0
-                  ∙ ap (λ y. cond y (Some (written_size (get s.writes w))) (get m old.0)) (entries-apart old.0 mine q (slot k) old.1 refl ne) ∙ old.2,
+              kept-without out admitted_now old.0 q b old.1 old.3 p.1 ∙ get-insert entries_total m mine n old.0
+                  ∙ ap (λ y. cond y (Some n) (get m old.0)) (entries-apart old.0 mine q (slot k) old.1 at ne) ∙ old.2,
               old.3,
             )
-      ] refl (sym (body-stored s w x q is whole) ∙ p.0)
+      ] refl (sym (here q) ∙ p.0)
 
-  kept-stored : (Lets : LockStatus → Type 0) (size failed : ℕ) (out : List CacheEntryKey) (s' : Store) (m' : Tracked) → Stores in_memory true (Some w) Lets k w (created s w) limits size failed out s s' m m' → IsKept limits m' s'
+  pub kept-anew : (out : List CacheEntryKey) (s' : Store) (m' : Tracked) → IsFair limits admitted_now out → s' ≡ purged_each t out → m' ≡ without out admitted_now → IsKept wg limits m' s'
+  kept-anew out s' m' fair store tracked =
+      let exact = exact-anew out in
+      let kept' : IsKept wg limits (without out admitted_now) (purged_each t out) = record { exact = exact; bounded = bounded-within wg limits (purged_each t out) (without out admitted_now) exact fair.enough } in
+      subst (λ x. IsKept wg limits m' x) (sym store) (subst (λ x. IsKept wg limits x (purged_each t out)) (sym tracked) kept')
+
+module _ (wg : Weighing) (limits : Limits) (m : Tracked) (s : Store) (k : Key) (w : ℕ) (x : Written) (is : get s.writes w ≡ Some x) (of : x.slot ≡ slot k) (named : x.meta.entry_id ≡ Some w) (others : ExactBut wg (slot k) s m) (bounded : IsBounded wg limits s) where
+  abbrev pub mine : CacheEntryKey
+  mine = entry_of k (Some w)
+
+  kept-stored : (Lets : LockStatus → Type 0) (size failed : ℕ) (out : List CacheEntryKey) (s' : Store) (m' : Tracked) → Stores in_memory true (Some w) Lets k w (entered wg s (Some w)) limits size failed out s s' m m' → IsKept wg limits m' s'
   kept-stored Lets size failed out s' m' stores =
-      let store : s' ≡ purged_each (finished s w) out = purges-each (finished s w) s' out failed (stores.sure refl) stores.purges in
-      let exact = exact-stored out stores.untouched in
-      let kept' : IsKept limits (without out admitted) (purged_each (finished s w) out) = record { exact = exact; bounded = bounded-within limits (purged_each (finished s w) out) (without out admitted) exact stores.admitted.0.enough } in
-      subst (λ t. IsKept limits m' t) (sym store) (subst (λ n. IsKept limits n (purged_each (finished s w) out)) (sym stores.admitted.1) kept')
+      kept-anew wg limits m s (finished s w) k mine (record { meta = x.meta; bytes = x.bytes }) (write_weight wg (get s.writes w))
+      (λ q. body-stored s w x q is stores.untouched ∙ ap (λ y. cond (eq_by_cmp nat_cmp q y) (Some (record { meta = x.meta; bytes = x.bytes })) (complete_body (get s.slots q))) of)
+      refl (sym named) (ap (write_weight wg) is) others out s' m' stores.admitted.0 (purges-each (finished s w) s' out failed (stores.sure refl) stores.purges) stores.admitted.1
 
   -- a body that is purged again leaves what was complete under other keys
-  fewer-withdrawn : is_untouched s w ≡ true → Fewer s.slots (purged (finished s w) (slot k)).slots
+  fewer-withdrawn : is_untouched s w ≡ true → Fewer wg s.slots (purged (finished s w) (slot k)).slots
   fewer-withdrawn whole q b complete =
       let p = stands-purged (finished s w) (slot k) q b complete in
-      elim (eq_by_cmp nat_cmp q x.slot) as (λ t. eq_by_cmp nat_cmp q x.slot ≡ t → cond t (Some (record { meta = x.meta; bytes = x.bytes })) (complete_body (get s.slots q)) ≡ Some b → Stands s.slots q b) [
+      elim (eq_by_cmp nat_cmp q x.slot) as (λ t. eq_by_cmp nat_cmp q x.slot ≡ t → cond t (Some (record { meta = x.meta; bytes = x.bytes })) (complete_body (get s.slots q)) ≡ Some b → Stands wg s.slots q b) [
         | true ↦ λ t here. absurd (p.1 (sym of ∙ sym (same-key q x.slot t)))
-        | false ↦ λ t there. (b, there, refl, refl)
+        | false ↦ λ t there. (b, there, refl, refl, refl)
       ] refl (sym (body-stored s w x q is whole) ∙ p.0)
 
   -- each of which has its entry
-  exact-withdrawn : is_untouched s w ≡ true → TracksExactly (purged (finished s w) (slot k)) m
+  exact-withdrawn : is_untouched s w ≡ true → TracksExactly wg (purged (finished s w) (slot k)) m
   exact-withdrawn whole q b complete =
       let p = stands-purged (finished s w) (slot k) q b complete in
-      elim (eq_by_cmp nat_cmp q x.slot) as (λ t. eq_by_cmp nat_cmp q x.slot ≡ t → cond t (Some (record { meta = x.meta; bytes = x.bytes })) (complete_body (get s.slots q)) ≡ Some b → (e : CacheEntryKey) × (entry_slot e ≡ q) × (get m e ≡ Some (length b.bytes)) × (id_of e ≡ b.meta.entry_id)) [
+      elim (eq_by_cmp nat_cmp q x.slot) as (λ t. eq_by_cmp nat_cmp q x.slot ≡ t → cond t (Some (record { meta = x.meta; bytes = x.bytes })) (complete_body (get s.slots q)) ≡ Some b → (e : CacheEntryKey) × (entry_slot e ≡ q) × (get m e ≡ Some (body_weight wg b)) × (id_of e ≡ b.meta.entry_id)) [
         | true ↦ λ t here. absurd (p.1 (sym of ∙ sym (same-key q x.slot t)))
         | false ↦ λ t there. others q b (λ same. p.1 (sym same)) there
       ] refl (sym (body-stored s w x q is whole) ∙ p.0)
 
-  kept-withdrawn : (Lets : LockStatus → Type 0) (e : ErrorType) (s' : Store) (m' : Tracked) → Withdraws true Lets k w e s s' m m' → IsKept limits m' s'
+  kept-withdrawn : (Lets : LockStatus → Type 0) (e : ErrorType) (s' : Store) (m' : Tracked) → Withdraws true Lets k w e s s' m m' → IsKept wg limits m' s'
   kept-withdrawn Lets e s' m' ends =
-      subst (λ n. IsKept limits n s') (sym ends.tracked)
+      subst (λ n. IsKept wg limits n s') (sym ends.tracked)
       (elim ends.purged [
-        | inl gone ↦ subst (IsKept limits m) (sym gone) (record { exact = exact-withdrawn ends.untouched; bounded = bounded-fewer limits s (purged (finished s w) (slot k)) (fewer-withdrawn ends.untouched) bounded })
+        | inl gone ↦ subst (IsKept wg limits m) (sym gone) (record { exact = exact-withdrawn ends.untouched; bounded = bounded-fewer wg limits s (purged (finished s w) (slot k)) (fewer-withdrawn ends.untouched) bounded })
         | inr never ↦ let no : true ≡ false = never.0 in absurd (cc)
       ])
 
-kept-drops : (limits : Limits) (Lets : LockStatus → Type 0) (w : ℕ) (e : ErrorType) (s s' : Store) (m m' : Tracked) → Drops Lets w e s s' m m' → IsKept limits m s → IsKept limits m' s'
-kept-drops limits Lets w e s s' m m' drops kept =
-    subst (λ n. IsKept limits n s') (sym drops.tracked) (subst (IsKept limits m) (sym drops.dropped) (kept_fewer limits m s (dropped s w) (fewer-dropped s w) kept))
+kept-drops : (wg : Weighing) (limits : Limits) (Lets : LockStatus → Type 0) (w : ℕ) (e : ErrorType) (s s' : Store) (m m' : Tracked) → Drops Lets w e s s' m m' → IsKept wg limits m s → IsKept wg limits m' s'
+kept-drops wg limits Lets w e s s' m m' drops kept =
+    subst (λ n. IsKept wg limits n s') (sym drops.tracked) (subst (IsKept wg limits m) (sym drops.dropped) (kept_fewer wg limits m s (dropped s w) (fewer-dropped wg s w) kept))
 
 -- a write of the key of a slot
 pub written-under : (k w : ℕ) (s : Store) → is_write_under k w (get s.writes w) ≡ true → (x : Written) × (get s.writes w ≡ Some x) × (x.slot ≡ k) × (x.meta.entry_id ≡ Some w)
@@ -230,11 +236,11 @@ written-under k w s own =
     is-some (Some x) w h = ap Some (eqb-true x w h)
 
 -- any end of a write of a key
-pub kept_body : (limits : Limits) (Lets : LockStatus → Type 0) (k : Key) (w : ℕ) (replaced : Option ℕ) (how : WriteEnd) (s s' : Store) (m m' : Tracked) → is_write_under (slot k) w (get s.writes w) ≡ true → EndsBody in_memory true (Some w) Lets k w (created s w) limits how s s' (tracked_before true k replaced how m) m' → IsKept limits m s → IsKept limits m' s'
-kept_body limits Lets k w replaced end.Nothing s s' m m' own ends kept = absurd ends
-kept_body limits Lets k w replaced (end.Stored f) s s' m m' own ends kept = let x = written-under (slot k) w s own in kept-stored limits (without_entry true (compact_of k) replaced m) s k w x.0 x.1 x.2 x.3 (exact-but s m k replaced kept.exact) kept.bounded Lets f.size f.failed_purges f.evicted.items s' m' ends
-kept_body limits Lets k w replaced (end.Dropped e) s s' m m' own ends kept = kept-drops limits Lets w e s s' m m' ends kept
-kept_body limits Lets k w replaced (end.Withdrawn e) s s' m m' own ends kept = let x = written-under (slot k) w s own in kept-withdrawn limits (without_entry true (compact_of k) replaced m) s k w x.0 x.1 x.2 x.3 (exact-but s m k replaced kept.exact) kept.bounded Lets e s' m' ends
+pub kept_body : (wg : Weighing) (limits : Limits) (Lets : LockStatus → Type 0) (k : Key) (w : ℕ) (replaced : Option ℕ) (how : WriteEnd) (s s' : Store) (m m' : Tracked) → is_write_under (slot k) w (get s.writes w) ≡ true → EndsBody in_memory true (Some w) Lets k w (entered wg s (Some w)) limits how s s' (tracked_before true k replaced how m) m' → IsKept wg limits m s → IsKept wg limits m' s'
+kept_body wg limits Lets k w replaced end.Nothing s s' m m' own ends kept = absurd ends
+kept_body wg limits Lets k w replaced (end.Stored f) s s' m m' own ends kept = let x = written-under (slot k) w s own in kept-stored wg limits (without_entry true (compact_of k) replaced m) s k w x.0 x.1 x.2 x.3 (exact-but wg s m k replaced kept.exact) kept.bounded Lets f.size f.failed_purges f.evicted.items s' m' ends
+kept_body wg limits Lets k w replaced (end.Dropped e) s s' m m' own ends kept = kept-drops wg limits Lets w e s s' m m' ends kept
+kept_body wg limits Lets k w replaced (end.Withdrawn e) s s' m m' own ends kept = let x = written-under (slot k) w s own in kept-withdrawn wg limits (without_entry true (compact_of k) replaced m) s k w x.0 x.1 x.2 x.3 (exact-but wg s m k replaced kept.exact) kept.bounded Lets e s' m' ends
 
 -- the same end, with what the request uses and the number of its entry apart
 abbrev pub EndsOf : Bool → Option ℕ → Option ℕ → Request → Option Key → Option ℕ → MissFinishType → Limits → WriteEnd → Store → Store → Tracked → Tracked → Locks → Locks → Type 0
@@ -249,11 +255,11 @@ ends-of r replaced (Some k) None kind limits how s s' m m' t t' ends = ends
 ends-of r replaced (Some k) (Some w) kind limits how s s' m m' t t' ends = ends
 ends-of r replaced None (Some w) kind limits how s s' m m' t t' ends = absurd ends
 
-kept-idle : (limits : Limits) (how : WriteEnd) (s s' : Store) (m m' : Tracked) (t t' : Locks) → EndsIdle how s s' m m' t t' → IsKept limits m s → IsKept limits m' s'
-kept-idle limits end.Nothing s s' m m' t t' ends kept = subst (IsKept limits m') (sym ends.0) (subst (λ n. IsKept limits n s) (sym ends.1) kept)
-kept-idle limits (end.Stored f) s s' m m' t t' ends kept = absurd ends
-kept-idle limits (end.Dropped e) s s' m m' t t' ends kept = absurd ends
-kept-idle limits (end.Withdrawn e) s s' m m' t t' ends kept = absurd ends
+kept-idle : (wg : Weighing) (limits : Limits) (how : WriteEnd) (s s' : Store) (m m' : Tracked) (t t' : Locks) → EndsIdle how s s' m m' t t' → IsKept wg limits m s → IsKept wg limits m' s'
+kept-idle wg limits end.Nothing s s' m m' t t' ends kept = subst (IsKept wg limits m') (sym ends.0) (subst (λ n. IsKept wg limits n s) (sym ends.1) kept)
+kept-idle wg limits (end.Stored f) s s' m m' t t' ends kept = absurd ends
+kept-idle wg limits (end.Dropped e) s s' m m' t t' ends kept = absurd ends
+kept-idle wg limits (end.Withdrawn e) s s' m m' t t' ends kept = absurd ends
 
 pub idle-before : (uses : Bool) (replaced : Option ℕ) (k : Key) (how : WriteEnd) (s s' : Store) (m m' : Tracked) (t t' : Locks) → EndsIdle how s s' (tracked_before uses k replaced how m) m' t t' → EndsIdle how s s' m m' t t'
 idle-before uses replaced k end.Nothing s s' m m' t t' ends = ends
@@ -261,25 +267,29 @@ idle-before uses replaced k (end.Stored f) s s' m m' t t' ends = absurd ends
 idle-before uses replaced k (end.Dropped e) s s' m m' t t' ends = absurd ends
 idle-before uses replaced k (end.Withdrawn e) s s' m m' t t' ends = absurd ends
 
-kept-ends : (limits : Limits) (r : Request) (uses : Bool) (id replaced : Option ℕ) (key : Option Key) (write : Option ℕ) (how : WriteEnd) (s s' : Store) (m m' : Tracked) (t t' : Locks)
-    → uses ≡ true → id ≡ write → is_own_write s key write ≡ true → EndsOf uses id replaced r key write (finishes_of (created s) write) limits how s s' m m' t t' → IsKept limits m s → IsKept limits m' s'
-kept-ends limits r uses id replaced None None how s s' m m' t t' used none own ends kept = kept-idle limits how s s' m m' t t' ends kept
-kept-ends limits r uses id replaced (Some k) None how s s' m m' t t' used none own ends kept = kept-idle limits how s s' m m' t t' (idle-before uses replaced k how s s' m m' t t' ends) kept
-kept-ends limits r uses id replaced None (Some w) how s s' m m' t t' used none own ends kept = absurd (cc)
-kept-ends limits r uses id replaced (Some k) (Some w) how s s' m m' t t' used none own ends kept =
-    kept_body limits (λ status. t' ≡ settled status r.held t) k w replaced how s s' m m' own
-    (subst (λ i. EndsBody in_memory true i (λ status. t' ≡ settled status r.held t) k w (created s w) limits how s s' (tracked_before true k replaced how m) m') none (subst (λ u. EndsBody in_memory u id (λ status. t' ≡ settled status r.held t) k w (created s w) limits how s s' (tracked_before u k replaced how m) m') used ends)) kept
+kept-ends : (wg : Weighing) (limits : Limits) (r : Request) (uses : Bool) (id replaced : Option ℕ) (key : Option Key) (write : Option ℕ) (how : WriteEnd) (s s' : Store) (m m' : Tracked) (t t' : Locks)
+    → uses ≡ true → id ≡ write → is_own_write s key write ≡ true → EndsOf uses id replaced r key write (entered wg s write) limits how s s' m m' t t' → IsKept wg limits m s → IsKept wg limits m' s'
+kept-ends wg limits r uses id replaced None None how s s' m m' t t' used none own ends kept = kept-idle wg limits how s s' m m' t t' ends kept
+kept-ends wg limits r uses id replaced (Some k) None how s s' m m' t t' used none own ends kept = kept-idle wg limits how s s' m m' t t' (idle-before uses replaced k how s s' m m' t t' ends) kept
+kept-ends wg limits r uses id replaced None (Some w) how s s' m m' t t' used none own ends kept = absurd (cc)
+kept-ends wg limits r uses id replaced (Some k) (Some w) how s s' m m' t t' used none own ends kept =
+    kept_body wg limits (λ status. t' ≡ settled status r.held t) k w replaced how s s' m m' own
+    (subst (λ i. EndsBody in_memory true i (λ status. t' ≡ settled status r.held t) k w (entered wg s (Some w)) limits how s s' (tracked_before true k replaced how m) m') none (subst (λ u. EndsBody in_memory u id (λ status. t' ≡ settled status r.held t) k w (entered wg s (Some w)) limits how s s' (tracked_before u k replaced how m) m') used ends)) kept
 
-kept-by : (limits : Limits) (r : Request) (replaced : Option ℕ) (s s' : Store) (m m' : Tracked) (t t' : Locks) (how : WriteEnd) → MayEnd s r → r.entry ≡ r.write → Ends in_memory r r.key r.write (finishes_of (created s) r.write) limits how s s' (tracked_before_end r r.key replaced how m) m' t t' → IsKept limits m s → IsKept limits m' s'
-kept-by limits r replaced s s' m m' t t' how may none ends kept =
-    kept-ends limits r r.uses.eviction r.entry replaced r.key r.write how s s' m m' t t' may.uses none may.own (ends-of r replaced r.key r.write (finishes_of (created s) r.write) limits how s s' m m' t t' ends) kept
+kept-by : (wg : Weighing) (limits : Limits) (r : Request) (replaced : Option ℕ) (s s' : Store) (m m' : Tracked) (t t' : Locks) (how : WriteEnd) → MayEnd s r → r.entry ≡ r.write → Ends in_memory r r.key r.write (entered wg s r.write) limits how s s' (tracked_before_end r r.key replaced how m) m' t t' → IsKept wg limits m s → IsKept wg limits m' s'
+kept-by wg limits r replaced s s' m m' t t' how may none ends kept =
+    kept-ends wg limits r r.uses.eviction r.entry replaced r.key r.write how s s' m m' t t' may.uses none may.own (ends-of r replaced r.key r.write (entered wg s r.write) limits how s s' m m' t t' ends) kept
 
-pub kept_finished : (limits : Limits) (r : Request) (replaced : Option ℕ) (s s' : Store) (m m' : Tracked) (t t' : Locks) (result : Result (Option FinishReport) ErrorType) → MayEnd s r → r.entry ≡ r.write
-    → EndsAs result (λ how. Ends in_memory r r.key r.write (finishes_of (created s) r.write) limits how s s' (tracked_before_end r r.key replaced how m) m' t t') → IsKept limits m s → IsKept limits m' s'
-kept_finished limits r replaced s s' m m' t t' (Ok None) may none ends kept = kept-by limits r replaced s s' m m' t t' end.Nothing may none ends kept
-kept_finished limits r replaced s s' m m' t t' (Ok (Some f)) may none ends kept = kept-by limits r replaced s s' m m' t t' (end.Stored f) may none ends kept
-kept_finished limits r replaced s s' m m' t t' (Err e) may none (inl ends) kept = kept-by limits r replaced s s' m m' t t' (end.Dropped e) may none ends kept
-kept_finished limits r replaced s s' m m' t t' (Err e) may none (inr ends) kept = kept-by limits r replaced s s' m m' t t' (end.Withdrawn e) may none ends kept
+pub kept_finished : (wg : Weighing) (limits : Limits) (r : Request) (replaced : Option ℕ) (n : ℕ) (s s' : Store) (m m' : Tracked) (t t' : Locks) (result : Result (Option FinishReport) ErrorType) → MayEnd s r → r.entry ≡ r.write → n ≡ ending_weight wg s r.write
+    → EndsAs result (λ how. Ends in_memory r r.key r.write (Created n) limits how s s' (tracked_before_end r r.key replaced how m) m' t t') → IsKept wg limits m s → IsKept wg limits m' s'
+kept_finished wg limits r replaced n s s' m m' t t' result may none weighs ends kept =
+    any-end result (subst (λ y. EndsAs result (λ how. Ends in_memory r r.key r.write (Created y) limits how s s' (tracked_before_end r r.key replaced how m) m' t t')) weighs ends)
+  where
+    any-end : (result : Result (Option FinishReport) ErrorType) → EndsAs result (λ how. Ends in_memory r r.key r.write (entered wg s r.write) limits how s s' (tracked_before_end r r.key replaced how m) m' t t') → IsKept wg limits m' s'
+    any-end (Ok None) ends = kept-by wg limits r replaced s s' m m' t t' end.Nothing may none ends kept
+    any-end (Ok (Some f)) ends = kept-by wg limits r replaced s s' m m' t t' (end.Stored f) may none ends kept
+    any-end (Err e) (inl ends) = kept-by wg limits r replaced s s' m m' t t' (end.Dropped e) may none ends kept
+    any-end (Err e) (inr ends) = kept-by wg limits r replaced s s' m m' t t' (end.Withdrawn e) may none ends kept
 
 -- the entry of a write of the store in memory has the write's number
 pub same-number : {X : Type 0} (number : X → ℕ) (o : Option X) → option_and_then (λ x. Some (number x)) o ≡ option_map number o

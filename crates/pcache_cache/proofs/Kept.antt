@@ -1,6 +1,6 @@
 -- What always holds of a cache still holds after each call but the end of a write.
 use Rattle.std.proofs.Common.{◌≡◌, ◌≢◌, ℕ, ◌≤◌, arith, ◌⊎◌, inl, inr, Bool, true, false, cond, Option, None, Some, is_some, Result, Ok, Err, refl, ap, sym, subst, ◌∙◌, option_map, if◌then◌else◌}
-use Rattle.std.specs.Prelude.{IfErr, IfSome, OnErr, OnOk, length}
+use Rattle.std.specs.Prelude.{IfErr, IfSome, OnErr, OnOk}
 use Rattle.std.specs.Ordering.{eq_by_cmp, nat_cmp}
 use Rattle.std.specs.FinMap.{get, insert, remove, contains_key, empty, get-empty, get-insert, get-remove}
 use Rattle.std.specs.Cmp.{nat_cmp_total}
@@ -13,14 +13,13 @@ use Rattle.pcache_base.specs.declared.error.ErrorType.{ErrorType}
 use Rattle.pcache_evict.specs.declared.eviction.entry_key.CacheEntryKey.{CacheEntryKey}
 use Rattle.pcache_evict.specs.Entry.{entry_cmp, entries_total, id_of}
 use Rattle.pcache_evict.specs.Tracked.{Tracked, Limits, added}
-use Rattle.pcache_meta.specs.Meta.{Meta, expired_at, in_place_of}
+use Rattle.pcache_meta.specs.Meta.{Meta, expired_at}
 use Rattle.pcache_predict.specs.declared.admission.Decision.{Decision}
 use Rattle.pcache_request.specs.Admissions.{is_deferral, store_looked_with}
 use Rattle.pcache_lock.specs.Locks.{Locks}
 use Rattle.pcache_request.specs.Failures.{FailsToBegin, FailsToLook}
 use Rattle.pcache_request.specs.Finishing.{entry_slot}
 use Rattle.pcache_request.specs.LockPasts.{Deeds}
-use Rattle.pcache_request.specs.Renewals.{with_meta_of}
 use Rattle.pcache_request.specs.Requests.{Request, begun_for, counts_found, dropped_by, entry_of, found_for, followed_for, left_by, store_found, store_writing, tracked_found, tracked_found_at, tracked_gone, tracked_gone_for}
 use Rattle.pcache_request.specs.Phases.{is_treated_as_miss}
 use Rattle.pcache_request.specs.StorePasts.{Past}
@@ -31,15 +30,17 @@ use Rattle.pcache_store.specs.Purge.{purge_outcome, purged_at, expire_outcome, s
 use Rattle.pcache_store.specs.Store.{Store, Slot, Reader, complete_body, followed, left, meta_changed, purged, reader_weight, number_of_body}
 use Rattle.pcache_store.specs.declared.storage.PurgeOutcome.TheVariants.{NotFound, Expired}
 use Rattle.pcache_cache.specs.Parts.{IsKept}
-use Rattle.pcache_cache.proofs.Standing.{Fewer, body-remove, cmp_same, fewer-begun_for, fewer-changed, fewer-dropped_by, fewer-purged_at, fewer-same, fewer-slots, fewer-then, slots-followed, slots-left, slots-left_by}
+use Rattle.pcache_cache.specs.Weighing.{body_weight, slot_weight}
+use Rattle.pcache_cache.specs.declared.weighing.Weighing.{Weighing}
+use Rattle.pcache_cache.proofs.Standing.{Fewer, body-remove, cmp_same, fewer-begun_for, fewer-changed, fewer-dropped_by, fewer-purged_at, fewer-slots, fewer-then, slots-followed, slots-left, slots-left_by}
 use Rattle.pcache_cache.proofs.Sums.{bounded-fewer, entries-apart, entry-same}
 
 -- ---- nothing is stored
 
-pub kept_none : (limits : Limits) (m : Tracked) (s : Store) → s ≡ record { slots = empty; writes = empty; next = 0 } → IsKept limits m s
-kept_none limits m s is = subst (IsKept limits m) (sym is) (record {
+pub kept_none : (wg : Weighing) (limits : Limits) (m : Tracked) (s : Store) → s ≡ record { slots = empty; writes = empty; next = 0 } → IsKept wg limits m s
+kept_none wg limits m s is = subst (IsKept wg limits m) (sym is) (record {
   exact = λ q b complete. let none = ap complete_body (get-empty nat_cmp q) in absurd (cc);
-  bounded = record { bytes = let none = total-empty nat_cmp_total body_size in omega arith; count = at_most limits.watermark };
+  bounded = record { bytes = let none = total-empty nat_cmp_total body_size in omega arith; weights = let none = total-empty nat_cmp_total (slot_weight wg) in omega arith; count = at_most limits.watermark };
 })
   where
     at_most : (o : Option ℕ) → IfSome o (λ most. slots (record { slots = empty; writes = empty; next = 0 }) ≤ most)
@@ -48,15 +49,15 @@ kept_none limits m s is = subst (IsKept limits m) (sym is) (record {
 
 -- ---- the store alone
 
-pub kept_fewer : (limits : Limits) (m : Tracked) (s t : Store) → Fewer s.slots t.slots → IsKept limits m s → IsKept limits m t
-kept_fewer limits m s t fewer k = record {
-  exact = λ q b is. let p = fewer q b is in let e = k.exact q p.0 p.1 in (e.0, e.1, e.2 ∙ ap (λ bs. Some (length bs)) p.2, e.3 ∙ p.3);
-  bounded = bounded-fewer limits s t fewer k.bounded;
+pub kept_fewer : (wg : Weighing) (limits : Limits) (m : Tracked) (s t : Store) → Fewer wg s.slots t.slots → IsKept wg limits m s → IsKept wg limits m t
+kept_fewer wg limits m s t fewer k = record {
+  exact = λ q b is. let p = fewer q b is in let e = k.exact q p.0 p.1 in (e.0, e.1, e.2 ∙ ap Some p.4, e.3 ∙ p.3);
+  bounded = bounded-fewer wg limits s t fewer k.bounded;
 }
 
 -- the slots stay
-pub kept_slots : (limits : Limits) (m : Tracked) (s t : Store) → t.slots ≡ s.slots → IsKept limits m s → IsKept limits m t
-kept_slots limits m s t same k = kept_fewer limits m s t (fewer-slots s t same) k
+pub kept_slots : (wg : Weighing) (limits : Limits) (m : Tracked) (s t : Store) → t.slots ≡ s.slots → IsKept wg limits m s → IsKept wg limits m t
+kept_slots wg limits m s t same k = kept_fewer wg limits m s t (fewer-slots wg s t same) k
 
 -- what holds at both ends of a call that may fail
 pub on-both : {A : Type 0} (result : Result A ErrorType) {P Q R : Type 0} → OnOk result P → OnErr result Q → (P → R) → (Q → R) → R
@@ -79,26 +80,26 @@ slots-searched s r = slots-without r.valid_after (found s r) (followed s (found 
     found : Store → Request → Option (Meta × Reader)
     found s r = found_for s r.key
 
-pub kept_looked : {A : Type 0} (limits : Limits) (m : Tracked) (s t : Store) (p q : Past) (r : Request) (result : Result A ErrorType) → OnOk result (t ≡ searched s r) → OnErr result (FailsToLook s r p t q) → IsKept limits m s → IsKept limits m t
-kept_looked limits m s t p q r result ok err k =
+pub kept_looked : {A : Type 0} (wg : Weighing) (limits : Limits) (m : Tracked) (s t : Store) (p q : Past) (r : Request) (result : Result A ErrorType) → OnOk result (t ≡ searched s r) → OnErr result (FailsToLook s r p t q) → IsKept wg limits m s → IsKept wg limits m t
+kept_looked wg limits m s t p q r result ok err k =
     on-both result ok err
-    (λ is. kept_slots limits m s t (ap (λ (x : Store). x.slots) is ∙ slots-searched s r) k)
+    (λ is. kept_slots wg limits m s t (ap (λ (x : Store). x.slots) is ∙ slots-searched s r) k)
     (λ is. elim is [
-      | inl same ↦ subst (IsKept limits m) (sym same.0) k
-      | inr is ↦ kept_slots limits m s t (ap (λ (x : Store). x.slots) is.0 ∙ slots-searched s r) k
+      | inl same ↦ subst (IsKept wg limits m) (sym same.0) k
+      | inr is ↦ kept_slots wg limits m s t (ap (λ (x : Store). x.slots) is.0 ∙ slots-searched s r) k
     ])
 
-fewer-looked_with : (deferred : Bool) (r : Request) (s : Store) → Fewer s.slots (cond deferred (left_by r.reader (dropped_by r.write s)) (searched s r)).slots
-fewer-looked_with true r s = fewer-then s.slots (dropped_by r.write s).slots _ (fewer-dropped_by s r.write) (fewer-slots (dropped_by r.write s) (left_by r.reader (dropped_by r.write s)) (slots-left_by (dropped_by r.write s) r.reader))
-fewer-looked_with false r s = fewer-slots s (searched s r) (slots-searched s r)
+fewer-looked_with : (wg : Weighing) (deferred : Bool) (r : Request) (s : Store) → Fewer wg s.slots (cond deferred (left_by r.reader (dropped_by r.write s)) (searched s r)).slots
+fewer-looked_with wg true r s = fewer-then wg s.slots (dropped_by r.write s).slots _ (fewer-dropped_by wg s r.write) (fewer-slots wg (dropped_by r.write s) (left_by r.reader (dropped_by r.write s)) (slots-left_by (dropped_by r.write s) r.reader))
+fewer-looked_with wg false r s = fewer-slots wg s (searched s r) (slots-searched s r)
 
-pub kept_looked_with : {A : Type 0} (limits : Limits) (m : Tracked) (s t : Store) (p q : Past) (r : Request) (d : Option Decision) (result : Result A ErrorType) → OnOk result (t ≡ store_looked_with d r s) → OnErr result (FailsToLook s r p t q) → IsKept limits m s → IsKept limits m t
-kept_looked_with limits m s t p q r d result ok err k =
+pub kept_looked_with : {A : Type 0} (wg : Weighing) (limits : Limits) (m : Tracked) (s t : Store) (p q : Past) (r : Request) (d : Option Decision) (result : Result A ErrorType) → OnOk result (t ≡ store_looked_with d r s) → OnErr result (FailsToLook s r p t q) → IsKept wg limits m s → IsKept wg limits m t
+kept_looked_with wg limits m s t p q r d result ok err k =
     on-both result ok err
-    (λ is. subst (IsKept limits m) (sym is) (kept_fewer limits m s (store_looked_with d r s) (fewer-looked_with (is_deferral d) r s) k))
+    (λ is. subst (IsKept wg limits m) (sym is) (kept_fewer wg limits m s (store_looked_with d r s) (fewer-looked_with wg (is_deferral d) r s) k))
     (λ is. elim is [
-      | inl same ↦ subst (IsKept limits m) (sym same.0) k
-      | inr is ↦ kept_slots limits m s t (ap (λ (x : Store). x.slots) is.0 ∙ slots-searched s r) k
+      | inl same ↦ subst (IsKept wg limits m) (sym same.0) k
+      | inr is ↦ kept_slots wg limits m s t (ap (λ (x : Store). x.slots) is.0 ∙ slots-searched s r) k
     ])
 
 -- ---- what was found is taken
@@ -117,8 +118,8 @@ stays-added m e x n v is =
       | false ↦ λ t. is
     ] refl
 
-pub kept_tracked : (limits : Limits) (m n : Tracked) (s : Store) → ((x : CacheEntryKey) (v : ℕ) → get m x ≡ Some v → get n x ≡ Some v) → IsKept limits m s → IsKept limits n s
-kept_tracked limits m n s stays k = record { exact = λ q b is. let e = k.exact q b is in (e.0, e.1, stays e.0 (length b.bytes) e.2, e.3); bounded = k.bounded }
+pub kept_tracked : (wg : Weighing) (limits : Limits) (m n : Tracked) (s : Store) → ((x : CacheEntryKey) (v : ℕ) → get m x ≡ Some v → get n x ≡ Some v) → IsKept wg limits m s → IsKept wg limits n s
+kept_tracked wg limits m n s stays k = record { exact = λ q b is. let e = k.exact q b is in (e.0, e.1, stays e.0 (body_weight wg b) e.2, e.3); bounded = k.bounded }
 
 stays-counted : (b : Bool) (m : Tracked) (e x : CacheEntryKey) (n v : ℕ) → get m x ≡ Some v → get (cond b (added m e n) m) x ≡ Some v
 stays-counted true m e x n v is = stays-added m e x n v is
@@ -128,8 +129,8 @@ stays-found : (status : HitStatus) (h : Reader) (id : Option ℕ) (r : Request) 
 stays-found status h id r None m x v is = is
 stays-found status h id r (Some k) m x v is = stays-counted (counts_found status h r) m (entry_of k id) x (reader_weight h) v is
 
-pub kept_noted : (limits : Limits) (m n : Tracked) (s : Store) (status : HitStatus) (h : Reader) (id : Option ℕ) (r : Request) → n ≡ tracked_found status h id r m → IsKept limits m s → IsKept limits n s
-kept_noted limits m n s status h id r is k = subst (λ x. IsKept limits x s) (sym is) (kept_tracked limits m (tracked_found status h id r m) s (λ x v there. stays-found status h id r r.key m x v there) k)
+pub kept_noted : (wg : Weighing) (limits : Limits) (m n : Tracked) (s : Store) (status : HitStatus) (h : Reader) (id : Option ℕ) (r : Request) → n ≡ tracked_found status h id r m → IsKept wg limits m s → IsKept wg limits n s
+kept_noted wg limits m n s status h id r is k = subst (λ x. IsKept wg limits x s) (sym is) (kept_tracked wg limits m (tracked_found status h id r m) s (λ x v there. stays-found status h id r r.key m x v there) k)
 
 slots-passed : (b : Bool) (s : Store) (h : Reader) → (cond b (left s h) s).slots ≡ s.slots
 slots-passed true s h = slots-left s h
@@ -138,27 +139,27 @@ slots-passed false s h = refl
 pub slots-found : (status : HitStatus) (h : Reader) (r : Request) (s : Store) → (store_found status h r s).slots ≡ s.slots
 slots-found status h r s = slots-left_by (cond (is_treated_as_miss status) (left s h) s) r.reader ∙ slots-passed (is_treated_as_miss status) s h
 
-pub kept_found : {A : Type 0} (limits : Limits) (m n : Tracked) (s t : Store) (status : HitStatus) (h : Reader) (id : Option ℕ) (r : Request) (result : Result A ErrorType)
-    → OnOk result (t ≡ store_found status h r s) → OnOk result (n ≡ tracked_found status h id r m) → OnErr result (t ≡ left s h) → OnErr result ((n ≡ m) ⊎ (n ≡ tracked_found status h id r m)) → IsKept limits m s → IsKept limits n t
-kept_found limits m n s t status h id r (Ok a) store tracked left_store noted k =
-    kept_slots limits n s t (ap (λ (x : Store). x.slots) store ∙ slots-found status h r s) (kept_noted limits m n s status h id r tracked k)
-kept_found limits m n s t status h id r (Err e) store tracked left_store noted k =
-    kept_slots limits n s t (ap (λ (x : Store). x.slots) left_store ∙ slots-left s h)
+pub kept_found : {A : Type 0} (wg : Weighing) (limits : Limits) (m n : Tracked) (s t : Store) (status : HitStatus) (h : Reader) (id : Option ℕ) (r : Request) (result : Result A ErrorType)
+    → OnOk result (t ≡ store_found status h r s) → OnOk result (n ≡ tracked_found status h id r m) → OnErr result (t ≡ left s h) → OnErr result ((n ≡ m) ⊎ (n ≡ tracked_found status h id r m)) → IsKept wg limits m s → IsKept wg limits n t
+kept_found wg limits m n s t status h id r (Ok a) store tracked left_store noted k =
+    kept_slots wg limits n s t (ap (λ (x : Store). x.slots) store ∙ slots-found status h r s) (kept_noted wg limits m n s status h id r tracked k)
+kept_found wg limits m n s t status h id r (Err e) store tracked left_store noted k =
+    kept_slots wg limits n s t (ap (λ (x : Store). x.slots) left_store ∙ slots-left s h)
     (elim noted [
-      | inl same ↦ subst (λ x. IsKept limits x s) (sym same) k
-      | inr is ↦ kept_noted limits m n s status h id r is k
+      | inl same ↦ subst (λ x. IsKept wg limits x s) (sym same) k
+      | inr is ↦ kept_noted wg limits m n s status h id r is k
     ])
 
 -- ---- a reader goes, and what else is given back
 
-pub kept_left : (limits : Limits) (m : Tracked) (s t : Store) (o : Option Reader) → t ≡ left_by o s → IsKept limits m s → IsKept limits m t
-kept_left limits m s t o is k = kept_slots limits m s t (ap (λ (x : Store). x.slots) is ∙ slots-left_by s o) k
+pub kept_left : (wg : Weighing) (limits : Limits) (m : Tracked) (s t : Store) (o : Option Reader) → t ≡ left_by o s → IsKept wg limits m s → IsKept wg limits m t
+kept_left wg limits m s t o is k = kept_slots wg limits m s t (ap (λ (x : Store). x.slots) is ∙ slots-left_by s o) k
 
-pub kept_dropped : (limits : Limits) (m : Tracked) (s t : Store) (w : Option ℕ) → t ≡ dropped_by w s → IsKept limits m s → IsKept limits m t
-kept_dropped limits m s t w is k = subst (IsKept limits m) (sym is) (kept_fewer limits m s (dropped_by w s) (fewer-dropped_by s w) k)
+pub kept_dropped : (wg : Weighing) (limits : Limits) (m : Tracked) (s t : Store) (w : Option ℕ) → t ≡ dropped_by w s → IsKept wg limits m s → IsKept wg limits m t
+kept_dropped wg limits m s t w is k = subst (IsKept wg limits m) (sym is) (kept_fewer wg limits m s (dropped_by w s) (fewer-dropped_by wg s w) k)
 
-pub kept_ended : (limits : Limits) (m : Tracked) (s t : Store) (o : Option Reader) (w : Option ℕ) → t ≡ left_by o (dropped_by w s) → IsKept limits m s → IsKept limits m t
-kept_ended limits m s t o w is k = kept_left limits m (dropped_by w s) t o is (kept_dropped limits m s (dropped_by w s) w refl k)
+pub kept_ended : (wg : Weighing) (limits : Limits) (m : Tracked) (s t : Store) (o : Option Reader) (w : Option ℕ) → t ≡ left_by o (dropped_by w s) → IsKept wg limits m s → IsKept wg limits m t
+kept_ended wg limits m s t o w is k = kept_left wg limits m (dropped_by w s) t o is (kept_dropped wg limits m s (dropped_by w s) w refl k)
 
 -- ---- a write begins
 
@@ -166,48 +167,36 @@ slots-writing : (streams : Bool) (n : ℕ) (r : Request) (t : Store) → (cond s
 slots-writing true n r t = slots-left_by (followed t (followed_for r.key n t)) r.reader ∙ slots-followed t (followed_for r.key n t)
 slots-writing false n r t = refl
 
-pub kept_writing : (limits : Limits) (m : Tracked) (s t : Store) (streams : Bool) (n : ℕ) (r : Request) → t ≡ store_writing streams n r s → IsKept limits m s → IsKept limits m t
-kept_writing limits m s t streams n r is k =
-    kept_slots limits m (begun_for r.key r.meta s) t (ap (λ (x : Store). x.slots) is ∙ slots-writing streams n r (begun_for r.key r.meta s))
-    (kept_fewer limits m s (begun_for r.key r.meta s) (fewer-begun_for r.key r.meta s) k)
+pub kept_writing : (wg : Weighing) (limits : Limits) (m : Tracked) (s t : Store) (streams : Bool) (n : ℕ) (r : Request) → t ≡ store_writing streams n r s → IsKept wg limits m s → IsKept wg limits m t
+kept_writing wg limits m s t streams n r is k =
+    kept_slots wg limits m (begun_for r.key r.meta s) t (ap (λ (x : Store). x.slots) is ∙ slots-writing streams n r (begun_for r.key r.meta s))
+    (kept_fewer wg limits m s (begun_for r.key r.meta s) (fewer-begun_for wg r.key r.meta s) k)
 
-pub kept_begun : (limits : Limits) (m : Tracked) (s t : Store) (r : Request) → t ≡ begun_for r.key r.meta s → IsKept limits m s → IsKept limits m t
-kept_begun limits m s t r is k = subst (IsKept limits m) (sym is) (kept_fewer limits m s (begun_for r.key r.meta s) (fewer-begun_for r.key r.meta s) k)
+pub kept_begun : (wg : Weighing) (limits : Limits) (m : Tracked) (s t : Store) (r : Request) → t ≡ begun_for r.key r.meta s → IsKept wg limits m s → IsKept wg limits m t
+kept_begun wg limits m s t r is k = subst (IsKept wg limits m) (sym is) (kept_fewer wg limits m s (begun_for r.key r.meta s) (fewer-begun_for wg r.key r.meta s) k)
 
 -- a begin that may fail, before or after the write began
-pub kept_beginning : {A : Type 0} (limits : Limits) (m : Tracked) (s t : Store) (p q : Past) (x y : Locks) (d e : Deeds) (r r' : Request) (result : Result A ErrorType) → OnOk result (t ≡ store_writing true s.next r s)
-    → IfErr result (λ why. FailsToBegin true s p x d r why t q y e r') → IsKept limits m s → IsKept limits m t
-kept_beginning limits m s t p q x y d e r r' (Ok a) ok err k = kept_writing limits m s t true s.next r ok k
-kept_beginning limits m s t p q x y d e r r' (Err why) ok (inl same) k = subst (IsKept limits m) (sym same.1) k
-kept_beginning limits m s t p q x y d e r r' (Err why) ok (inr begun) k = kept_begun limits m s t r begun.1 k
-
--- ---- a meta changes
-
-fewer-meta_of : (x : Meta) (k : Option Key) (s : Store) → Fewer s.slots (with_meta_of x k s).slots
-fewer-meta_of x None s = fewer-same s.slots
-fewer-meta_of x (Some k) s = fewer-changed (λ old. in_place_of old x) (λ y. refl) s (slot k)
-
-pub kept_renewed : {A : Type 0} (limits : Limits) (m : Tracked) (s t : Store) (x : Meta) (key : Option Key) (result : Result A ErrorType) → OnOk result (t ≡ with_meta_of x key s) → OnErr result (t ≡ s) → IsKept limits m s → IsKept limits m t
-kept_renewed limits m s t x key result ok err k =
-    on-both result ok err
-    (λ is. subst (IsKept limits m) (sym is) (kept_fewer limits m s (with_meta_of x key s) (fewer-meta_of x key s) k))
-    (λ same. subst (IsKept limits m) (sym same) k)
+pub kept_beginning : {A : Type 0} (wg : Weighing) (limits : Limits) (m : Tracked) (s t : Store) (p q : Past) (x y : Locks) (d e : Deeds) (r r' : Request) (result : Result A ErrorType) → OnOk result (t ≡ store_writing true s.next r s)
+    → IfErr result (λ why. FailsToBegin true s p x d r why t q y e r') → IsKept wg limits m s → IsKept wg limits m t
+kept_beginning wg limits m s t p q x y d e r r' (Ok a) ok err k = kept_writing wg limits m s t true s.next r ok k
+kept_beginning wg limits m s t p q x y d e r r' (Err why) ok (inl same) k = subst (IsKept wg limits m) (sym same.1) k
+kept_beginning wg limits m s t p q x y d e r r' (Err why) ok (inr begun) k = kept_begun wg limits m s t r begun.1 k
 
 -- ---- removals
 
 -- what is tracked once an entry of a slot is removed, under which nothing is complete any more
-pub kept_purged : (limits : Limits) (m : Tracked) (s : Store) (k : ℕ) (e : CacheEntryKey) → entry_slot e ≡ k → IsKept limits m s → IsKept limits (remove m e) (purged s k)
-kept_purged limits m s k e of kept = record {
+pub kept_purged : (wg : Weighing) (limits : Limits) (m : Tracked) (s : Store) (k : ℕ) (e : CacheEntryKey) → entry_slot e ≡ k → IsKept wg limits m s → IsKept wg limits (remove m e) (purged s k)
+kept_purged wg limits m s k e of kept = record {
   exact = λ q b is.
       let here = body-remove s.slots k q in
-      elim (eq_by_cmp nat_cmp q k) as (λ t. eq_by_cmp nat_cmp q k ≡ t → cond t None (complete_body (get s.slots q)) ≡ Some b → (x : CacheEntryKey) × (entry_slot x ≡ q) × (get (remove m e) x ≡ Some (length b.bytes)) × (id_of x ≡ b.meta.entry_id)) [
+      elim (eq_by_cmp nat_cmp q k) as (λ t. eq_by_cmp nat_cmp q k ≡ t → cond t None (complete_body (get s.slots q)) ≡ Some b → (x : CacheEntryKey) × (entry_slot x ≡ q) × (get (remove m e) x ≡ Some (body_weight wg b)) × (id_of x ≡ b.meta.entry_id)) [
         | true ↦ λ t none. absurd (cc)
         | false ↦ λ t there.
             let old = kept.exact q b there in
             let ne : q ≢ k = λ same. both_ways _ t (cmp_same q k ∙ eq-eqb k q (sym same)) in
             (old.0, old.1, get-remove entries_total m e old.0 ∙ ap (λ y. cond y None (get m old.0)) (entries-apart old.0 e q k old.1 of ne) ∙ old.2, old.3)
       ] refl (sym here ∙ is);
-  bounded = bounded-fewer limits s (purged s k) (fewer-purged_at s (Some k)) kept.bounded;
+  bounded = bounded-fewer wg limits s (purged s k) (fewer-purged_at wg s (Some k)) kept.bounded;
 }
 
 -- an entry of a key is of its slot, whatever number it has
@@ -216,36 +205,36 @@ entry-of-slot k None = refl
 entry-of-slot k (Some n) = refl
 
 -- the outcome of a purge, by what was there
-kept-gone : (limits : Limits) (m : Tracked) (s : Store) (uses : Bool) (k : Key) (x : Option Slot) → IsKept limits m s → IsKept limits (tracked_gone uses (compact_of k) (slot_outcome true x) m) (purged s (slot k))
-kept-gone limits m s true k (Some x) kept = kept_purged limits m s (slot k) (entry_of k (number_of_body x.body)) (entry-of-slot k (number_of_body x.body)) kept
-kept-gone limits m s false k (Some x) kept = kept_fewer limits m s (purged s (slot k)) (fewer-purged_at s (Some (slot k))) kept
-kept-gone limits m s uses k None kept = kept_fewer limits m s (purged s (slot k)) (fewer-purged_at s (Some (slot k))) kept
+kept-gone : (wg : Weighing) (limits : Limits) (m : Tracked) (s : Store) (uses : Bool) (k : Key) (x : Option Slot) → IsKept wg limits m s → IsKept wg limits (tracked_gone uses (compact_of k) (slot_outcome true x) m) (purged s (slot k))
+kept-gone wg limits m s true k (Some x) kept = kept_purged wg limits m s (slot k) (entry_of k (number_of_body x.body)) (entry-of-slot k (number_of_body x.body)) kept
+kept-gone wg limits m s false k (Some x) kept = kept_fewer wg limits m s (purged s (slot k)) (fewer-purged_at wg s (Some (slot k))) kept
+kept-gone wg limits m s uses k None kept = kept_fewer wg limits m s (purged s (slot k)) (fewer-purged_at wg s (Some (slot k))) kept
 
-kept-gone_for : (limits : Limits) (m : Tracked) (s : Store) (uses : Bool) (key : Option Key) → IsKept limits m s
-    → IsKept limits (tracked_gone_for uses key (purge_outcome true s (option_map slot key)) m) (purged_at s (option_map slot key))
-kept-gone_for limits m s uses None kept = kept
-kept-gone_for limits m s uses (Some k) kept = kept-gone limits m s uses k (get s.slots (slot k)) kept
+kept-gone_for : (wg : Weighing) (limits : Limits) (m : Tracked) (s : Store) (uses : Bool) (key : Option Key) → IsKept wg limits m s
+    → IsKept wg limits (tracked_gone_for uses key (purge_outcome true s (option_map slot key)) m) (purged_at s (option_map slot key))
+kept-gone_for wg limits m s uses None kept = kept
+kept-gone_for wg limits m s uses (Some k) kept = kept-gone wg limits m s uses k (get s.slots (slot k)) kept
 
-pub kept_removed : {A : Type 0} (limits : Limits) (m n : Tracked) (s t : Store) (uses : Bool) (key : Option Key) (result : Result A ErrorType)
-    → OnOk result (t ≡ purged_at s (option_map slot key)) → OnOk result (n ≡ tracked_gone_for uses key (purge_outcome true s (option_map slot key)) m) → OnErr result (t ≡ s) → OnErr result (n ≡ m) → IsKept limits m s → IsKept limits n t
-kept_removed limits m n s t uses key (Ok a) store tracked same_store same_tracked kept =
-    subst (IsKept limits n) (sym store) (subst (λ x. IsKept limits x (purged_at s (option_map slot key))) (sym tracked) (kept-gone_for limits m s uses key kept))
-kept_removed limits m n s t uses key (Err e) store tracked same_store same_tracked kept =
-    subst (IsKept limits n) (sym same_store) (subst (λ x. IsKept limits x s) (sym same_tracked) kept)
+pub kept_removed : {A : Type 0} (wg : Weighing) (limits : Limits) (m n : Tracked) (s t : Store) (uses : Bool) (key : Option Key) (result : Result A ErrorType)
+    → OnOk result (t ≡ purged_at s (option_map slot key)) → OnOk result (n ≡ tracked_gone_for uses key (purge_outcome true s (option_map slot key)) m) → OnErr result (t ≡ s) → OnErr result (n ≡ m) → IsKept wg limits m s → IsKept wg limits n t
+kept_removed wg limits m n s t uses key (Ok a) store tracked same_store same_tracked kept =
+    subst (IsKept wg limits n) (sym store) (subst (λ x. IsKept wg limits x (purged_at s (option_map slot key))) (sym tracked) (kept-gone_for wg limits m s uses key kept))
+kept_removed wg limits m n s t uses key (Err e) store tracked same_store same_tracked kept =
+    subst (IsKept wg limits n) (sym same_store) (subst (λ x. IsKept wg limits x s) (sym same_tracked) kept)
 
 -- an expiry takes nothing out
-kept-stale : (limits : Limits) (m : Tracked) (s : Store) (uses : Bool) (k : Key) (now : ℕ) (there : Bool) → IsKept limits m s → IsKept limits (tracked_gone uses (compact_of k) (cond there Expired NotFound) m) (meta_changed (expired_at now) s (slot k))
-kept-stale limits m s uses k now true kept = kept_fewer limits m s (meta_changed (expired_at now) s (slot k)) (fewer-changed (expired_at now) (λ x. refl) s (slot k)) kept
-kept-stale limits m s uses k now false kept = kept_fewer limits m s (meta_changed (expired_at now) s (slot k)) (fewer-changed (expired_at now) (λ x. refl) s (slot k)) kept
+kept-stale : (wg : Weighing) (limits : Limits) (m : Tracked) (s : Store) (uses : Bool) (k : Key) (now : ℕ) (there : Bool) → IsKept wg limits m s → IsKept wg limits (tracked_gone uses (compact_of k) (cond there Expired NotFound) m) (meta_changed (expired_at now) s (slot k))
+kept-stale wg limits m s uses k now true kept = kept_fewer wg limits m s (meta_changed (expired_at now) s (slot k)) (fewer-changed wg (expired_at now) (λ x. refl) (λ x. refl) s (slot k)) kept
+kept-stale wg limits m s uses k now false kept = kept_fewer wg limits m s (meta_changed (expired_at now) s (slot k)) (fewer-changed wg (expired_at now) (λ x. refl) (λ x. refl) s (slot k)) kept
 
-kept-stale_for : (limits : Limits) (m : Tracked) (s : Store) (uses : Bool) (key : Option Key) (now : ℕ) → IsKept limits m s
-    → IsKept limits (tracked_gone_for uses key (expire_outcome s (option_map slot key)) m) (purge.expired_at now s (option_map slot key))
-kept-stale_for limits m s uses None now kept = kept
-kept-stale_for limits m s uses (Some k) now kept = kept-stale limits m s uses k now (is_some (complete_body (get s.slots (slot k)))) kept
+kept-stale_for : (wg : Weighing) (limits : Limits) (m : Tracked) (s : Store) (uses : Bool) (key : Option Key) (now : ℕ) → IsKept wg limits m s
+    → IsKept wg limits (tracked_gone_for uses key (expire_outcome s (option_map slot key)) m) (purge.expired_at now s (option_map slot key))
+kept-stale_for wg limits m s uses None now kept = kept
+kept-stale_for wg limits m s uses (Some k) now kept = kept-stale wg limits m s uses k now (is_some (complete_body (get s.slots (slot k)))) kept
 
-pub kept_expired : {A : Type 0} (limits : Limits) (m n : Tracked) (s t : Store) (uses : Bool) (key : Option Key) (now : ℕ) (result : Result A ErrorType)
-    → OnOk result (t ≡ purge.expired_at now s (option_map slot key)) → OnOk result (n ≡ tracked_gone_for uses key (expire_outcome s (option_map slot key)) m) → OnErr result (t ≡ s) → OnErr result (n ≡ m) → IsKept limits m s → IsKept limits n t
-kept_expired limits m n s t uses key now (Ok a) store tracked same_store same_tracked kept =
-    subst (IsKept limits n) (sym store) (subst (λ x. IsKept limits x (purge.expired_at now s (option_map slot key))) (sym tracked) (kept-stale_for limits m s uses key now kept))
-kept_expired limits m n s t uses key now (Err e) store tracked same_store same_tracked kept =
-    subst (IsKept limits n) (sym same_store) (subst (λ x. IsKept limits x s) (sym same_tracked) kept)
+pub kept_expired : {A : Type 0} (wg : Weighing) (limits : Limits) (m n : Tracked) (s t : Store) (uses : Bool) (key : Option Key) (now : ℕ) (result : Result A ErrorType)
+    → OnOk result (t ≡ purge.expired_at now s (option_map slot key)) → OnOk result (n ≡ tracked_gone_for uses key (expire_outcome s (option_map slot key)) m) → OnErr result (t ≡ s) → OnErr result (n ≡ m) → IsKept wg limits m s → IsKept wg limits n t
+kept_expired wg limits m n s t uses key now (Ok a) store tracked same_store same_tracked kept =
+    subst (IsKept wg limits n) (sym store) (subst (λ x. IsKept wg limits x (purge.expired_at now s (option_map slot key))) (sym tracked) (kept-stale_for wg limits m s uses key now kept))
+kept_expired wg limits m n s t uses key now (Err e) store tracked same_store same_tracked kept =
+    subst (IsKept wg limits n) (sym same_store) (subst (λ x. IsKept wg limits x s) (sym same_tracked) kept)

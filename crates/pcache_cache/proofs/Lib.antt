@@ -3,6 +3,7 @@ pub mod Sums
 pub mod Kept
 pub mod Ended
 pub mod Own
+pub mod Renewed
 pub mod Fed
 pub mod Adding
 pub mod Growing

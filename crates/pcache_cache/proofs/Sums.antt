@@ -17,6 +17,9 @@ use Rattle.pcache_request.specs.Finishing.{entry_slot}
 use Rattle.pcache_store.specs.Store.{Store, Slot, Stored, complete_body}
 use Rattle.pcache_store.specs.Totals.{body_len, body_size, body_count, one, stored_bytes, slots}
 use Rattle.pcache_cache.specs.Parts.{IsBounded, TracksExactly}
+use Rattle.pcache_cache.specs.Weighing.{body_weight, slot_weight, stored_weight}
+use Rattle.pcache_cache.specs.declared.weighing.Weighing.{Weighing}
+use Rattle.pcache_cache.specs.declared.weighing.Weighing.TheVariants.{Bodies, Entries}
 use Rattle.pcache_cache.proofs.Standing.{Fewer, cmp_same}
 
 head_here : {X : Type 0} (m : FinMap nat_cmp X) (e : ℕ × X) (es : List (ℕ × X)) → entries m ≡ e ∷ es → get m e.0 ≡ Some e.1
@@ -137,8 +140,8 @@ if_some None f h = h
 if_some (Some x) f h = f x h
 
 -- a measure of what is complete under a key, in a store in which no more is complete
-fewer-at : (f : Stored → ℕ) → ((a b : Stored) → a.bytes ≡ b.bytes → f a ≡ f b) → (xs ys : FinMap nat_cmp Slot) → Fewer xs ys → (q : ℕ) → share (λ (x : Slot). share f x.body) (get ys q) ≤ share (λ (x : Slot). share f x.body) (get xs q)
-fewer-at f same xs ys fewer q =
+fewer-at : (wg : Weighing) (f : Stored → ℕ) → ((a b : Stored) → a.bytes ≡ b.bytes → body_weight wg a ≡ body_weight wg b → f a ≡ f b) → (xs ys : FinMap nat_cmp Slot) → Fewer wg xs ys → (q : ℕ) → share (λ (x : Slot). share f x.body) (get ys q) ≤ share (λ (x : Slot). share f x.body) (get xs q)
+fewer-at wg f same xs ys fewer q =
     subst (λ n. n ≤ share (λ (x : Slot). share f x.body) (get xs q)) (sym (sized f (get ys q)))
     (subst (λ n. share f (complete_body (get ys q)) ≤ n) (sym (sized f (get xs q)))
     (elim (complete_body (get ys q)) as (λ o. complete_body (get ys q) ≡ o → share f o ≤ share f (complete_body (get xs q))) [
@@ -146,42 +149,55 @@ fewer-at f same xs ys fewer q =
       | Some b ↦ λ is.
           let p = fewer q b is in
           let e : share f (complete_body (get xs q)) ≡ f p.0 = ap (share f) p.1 in
-          let d : f p.0 ≡ f b = same p.0 b p.2 in
+          let d : f p.0 ≡ f b = same p.0 b p.2 p.4 in
           omega arith
     ] refl))
 
-pub bounded-fewer : (limits : Limits) (s t : Store) → Fewer s.slots t.slots → IsBounded limits s → IsBounded limits t
-bounded-fewer limits s t fewer b = record {
+pub bounded-fewer : (wg : Weighing) (limits : Limits) (s t : Store) → Fewer wg s.slots t.slots → IsBounded wg limits s → IsBounded wg limits t
+bounded-fewer wg limits s t fewer b = record {
   bytes =
-      let less : stored_bytes t ≤ stored_bytes s = total-less body_size (len t.slots) t.slots s.slots refl (fewer-at body_len (λ x y e. ap length e) s.slots t.slots fewer) in
+      let less : stored_bytes t ≤ stored_bytes s = total-less body_size (len t.slots) t.slots s.slots refl (fewer-at wg body_len (λ x y e h. ap length e) s.slots t.slots fewer) in
       let most = b.bytes in
       omega arith;
+  weights =
+      let less : stored_weight wg t ≤ stored_weight wg s = total-less (slot_weight wg) (len t.slots) t.slots s.slots refl (fewer-at wg (body_weight wg) (λ x y e h. h) s.slots t.slots fewer) in
+      let most = b.weights in
+      omega arith;
   count = if_some {P = λ most. slots s ≤ most} {Q = λ most. slots t ≤ most} limits.watermark (λ most h.
-      let less : slots t ≤ slots s = total-less body_count (len t.slots) t.slots s.slots refl (fewer-at one (λ x y e. refl) s.slots t.slots fewer) in
+      let less : slots t ≤ slots s = total-less body_count (len t.slots) t.slots s.slots refl (fewer-at wg one (λ x y e h. refl) s.slots t.slots fewer) in
       omega arith) b.count;
 }
 
+-- a body weighs at least its length
+len-less : (wg : Weighing) (b : Stored) → body_len b ≤ body_weight wg b
+len-less Bodies b = omega arith
+len-less Entries b = omega arith
+
 -- a measure of what is complete under a key, against that of the key's entry
-pub tracked-at : (f : Stored → ℕ) (g : ℕ → ℕ) → ((b : Stored) → f b ≡ g (length b.bytes)) → (s : Store) (m : Tracked) → TracksExactly s m → (q : ℕ) → (share (λ (x : Slot). share f x.body) (get s.slots q) ≡ 0) ⊎ HasEntry (λ (x : Slot). share f x.body) g s.slots m q
-tracked-at f g same s m exact q =
+pub tracked-at : (wg : Weighing) (f : Stored → ℕ) (g : ℕ → ℕ) → ((b : Stored) → f b ≤ g (body_weight wg b)) → (s : Store) (m : Tracked) → TracksExactly wg s m → (q : ℕ) → (share (λ (x : Slot). share f x.body) (get s.slots q) ≡ 0) ⊎ HasEntry (λ (x : Slot). share f x.body) g s.slots m q
+tracked-at wg f g less s m exact q =
     elim (complete_body (get s.slots q)) as (λ o. complete_body (get s.slots q) ≡ o → (share (λ (x : Slot). share f x.body) (get s.slots q) ≡ 0) ⊎ HasEntry (λ (x : Slot). share f x.body) g s.slots m q) [
       | None ↦ λ is. inl (sized f (get s.slots q) ∙ ap (share f) is)
       | Some b ↦ λ is.
           let p = exact q b is in
-          let there : share g (get m p.0) ≡ g (length b.bytes) = ap (share g) p.2 in
+          let there : share g (get m p.0) ≡ g (body_weight wg b) = ap (share g) p.2 in
           let here : share (λ (x : Slot). share f x.body) (get s.slots q) ≡ f b = sized f (get s.slots q) ∙ ap (share f) is in
-          let e = same b in
+          let e = less b in
           inr (p.0, p.1, omega arith)
     ] refl
 
-pub bounded-within : (limits : Limits) (s : Store) (m : Tracked) → TracksExactly s m → IsWithin limits m → IsBounded limits s
-bounded-within limits s m exact within = record {
+pub bounded-within : (wg : Weighing) (limits : Limits) (s : Store) (m : Tracked) → TracksExactly wg s m → IsWithin limits m → IsBounded wg limits s
+bounded-within wg limits s m exact within = record {
   bytes =
-      let most : stored_bytes s ≤ weight m = total-tracked body_size (λ n. n) (len s.slots) s.slots m refl (tracked-at body_len (λ n. n) (λ b. refl) s m exact) in
+      let most : stored_bytes s ≤ weight m = total-tracked body_size (λ n. n) (len s.slots) s.slots m refl (tracked-at wg body_len (λ n. n) (len-less wg) s m exact) in
+      let limit = within.weight in
+      omega arith;
+  weights =
+      let most : stored_weight wg s ≤ weight m = total-tracked (slot_weight wg) (λ n. n) (len s.slots) s.slots m refl (tracked-at wg (body_weight wg) (λ n. n) (λ b. omega arith) s m exact) in
       let limit = within.weight in
       omega arith;
   count = if_some {P = λ most. len m ≤ most} {Q = λ most. slots s ≤ most} limits.watermark (λ most h.
-      let all : slots s ≤ total (λ _. 1) m = total-tracked body_count (λ _. 1) (len s.slots) s.slots m refl (tracked-at one (λ _. 1) (λ b. refl) s m exact) in
+      let all : slots s ≤ total (λ _. 1) m = total-tracked body_count (λ _. 1) (len s.slots) s.slots m refl (tracked-at wg one (λ _. 1) (λ b. omega arith) s m exact) in
       let count = len-total m in
       omega arith) within.count;
 }

@@ -1,5 +1,5 @@
 -- No call of a cache unlocks a permit that is held.
-use Rattle.std.proofs.Common.{◌≡◌, ◌⊎◌, ◌||◌, inl, inr, ℕ, true, false, Option, None, Some, Result, Ok, Err, IfErr, OnOk, OnErr, sym, subst}
+use Rattle.std.proofs.Common.{◌≡◌, ◌||◌, inl, inr, ℕ, true, false, Option, None, Some, Result, Ok, Err, IfErr, OnOk, OnErr, sym, subst}
 use Rattle.std.specs.List.{list_any}
 use Rattle.pcache_base.specs.declared.error.ErrorType.{ErrorType}
 use Rattle.pcache_cache.proofs.Adding.{KeptByDeeds, end_keeps, settled_keeps}

@@ -1,5 +1,5 @@
 -- A call that may have ended in several ways: what follows of each way follows of its result.
-use Rattle.std.proofs.Common.{◌⊎◌, inl, inr, Option, None, Some, Result, Ok, Err}
+use Rattle.std.proofs.Common.{inl, inr, Option, None, Some, Result, Ok, Err}
 use Rattle.pcache_base.specs.declared.error.ErrorType.{ErrorType}
 use Rattle.pcache_put_ctx.specs.Steps as put
 use Rattle.pcache_put_ctx.specs.declared.report.PutEnd.{PutEnd}

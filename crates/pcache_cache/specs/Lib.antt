@@ -2,3 +2,5 @@ pub mod Growing
 pub mod OwnPut
 pub mod Parts
 pub mod PartsCode
+pub mod Renewing
+pub mod Weighing

@@ -10,9 +10,10 @@ use Rattle.pcache_put_ctx.specs.Pasts.{past_after, past_left}
 use Rattle.pcache_put_ctx.specs.State.{Put, write_in}
 use Rattle.pcache_put_ctx.specs.Steps.{Done, EndsPut, evicted_ended, stage_begun, store_after, store_left, tracked_before_put}
 use Rattle.pcache_put_ctx.specs.declared.report.PutEnd.{PutEnd}
-use Rattle.pcache_store.specs.Finishes.{body_number, created}
+use Rattle.pcache_store.specs.Finishes.{body_number}
 use Rattle.pcache_store.specs.Readers.{in_memory}
 use Rattle.pcache_store.specs.Store.{Store}
+use Rattle.pcache_cache.specs.Weighing.{entered_each}
 
 -- a put may end: its write, if it has one, is a write of this store and of the put's key
 abbrev pub MayEndPut : {C : Type 0} → Store → Put C → Type 0
@@ -34,8 +35,8 @@ tracked_at_put_end old p how = tracked_before_put p.key (body_number old.store (
 
 -- a put ended so, and made these parts of those before
 abbrev pub EndsOwnPut : {C : Type 0} → Put C → PutEnd → Parts → Parts → Type 0
-EndsOwnPut p how old new = EndsPut in_memory p.key p.parser (created old.store) old.limits p.stage how old.store new.store (tracked_at_put_end old p how) new.tracked
+EndsOwnPut p how old new = EndsPut in_memory p.key p.parser (entered_each old.weighing old.store (write_in p.stage)) old.limits p.stage how old.store new.store (tracked_at_put_end old p how) new.tracked
 
 -- the totals of what was evicted, once a put ended so
 abbrev pub evicted_put : {C : Type 0} → Put C → PutEnd → Parts → Evicted
-evicted_put p how old = evicted_ended p.key (created old.store) p.stage (tracked_at_put_end old p how) old.evicted how
+evicted_put p how old = evicted_ended p.key (entered_each old.weighing old.store (write_in p.stage)) p.stage (tracked_at_put_end old p how) old.evicted how

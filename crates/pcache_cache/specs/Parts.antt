@@ -1,5 +1,5 @@
 -- A store, an eviction manager and a lock table as one value, and their invariant (own).
-use Rattle.std.specs.Prelude.{◌≡◌, ℕ, ◌≤◌, not, Bool, true, false, List, Option, Some, None, IfSome, cond, length}
+use Rattle.std.specs.Prelude.{◌≡◌, ℕ, ◌≤◌, not, Bool, true, false, List, Option, Some, None, IfSome, cond}
 use Rattle.std.specs.FinMap.{get}
 use Rattle.pcache_base.specs.Key.{Key, slot}
 use Rattle.pcache_evict.specs.Entry.{id_of}
@@ -17,11 +17,15 @@ use Rattle.pcache_store.specs.Past.{Note, Wrote}
 use Rattle.pcache_store.specs.Notes.{noted}
 use Rattle.pcache_store.specs.Store.{Store, Stored, complete_body, is_told, is_write_under, wrote}
 use Rattle.pcache_store.specs.Totals.{stored_bytes, slots}
+use Rattle.pcache_cache.specs.Weighing.{body_weight, stored_weight}
+use Rattle.pcache_cache.specs.declared.weighing.Weighing.{Weighing}
 
 pub record Parts : Type 0 where
   pub store : Store
   -- what was done to the store, the newest first
   pub past : List Note
+  -- what an entry weighs
+  pub weighing : Weighing
   -- what the manager tracks, its limits, and the totals of what it evicted
   pub tracked : Tracked
   pub limits : Limits
@@ -35,20 +39,21 @@ abbrev pub Adds : {A : Type 0} → (Option (List A) → Option (List A)) → Lis
 Adds noted old new = Some new ≡ noted (Some old)
 
 -- each key with a complete body has an entry of its own, with the number of the write that stored the body, tracked with
--- exactly the body's length
-abbrev pub TracksExactly : Store → Tracked → Type 0
-TracksExactly s m = (k : ℕ) (b : Stored) → complete_body (get s.slots k) ≡ Some b
-    → (e : CacheEntryKey) × (entry_slot e ≡ k) × (get m e ≡ Some (length b.bytes)) × (id_of e ≡ b.meta.entry_id)
+-- exactly what the body weighs
+abbrev pub TracksExactly : Weighing → Store → Tracked → Type 0
+TracksExactly how s m = (k : ℕ) (b : Stored) → complete_body (get s.slots k) ≡ Some b
+    → (e : CacheEntryKey) × (entry_slot e ≡ k) × (get m e ≡ Some (body_weight how b)) × (id_of e ≡ b.meta.entry_id)
 
--- the complete bodies are within the limits: the sum of their lengths, and their number
-pub record IsBounded (limits : Limits) (s : Store) : Type 0 where
+-- the complete bodies are within the limits: the sum of their lengths, that of their weights, and their number
+pub record IsBounded (how : Weighing) (limits : Limits) (s : Store) : Type 0 where
   pub bytes : stored_bytes s ≤ limits.weight
+  pub weights : stored_weight how s ≤ limits.weight
   pub count : IfSome limits.watermark (λ most. slots s ≤ most)
 
 -- the invariant
-pub record IsKept (limits : Limits) (m : Tracked) (s : Store) : Type 0 where
-  pub exact : TracksExactly s m
-  pub bounded : IsBounded limits s
+pub record IsKept (how : Weighing) (limits : Limits) (m : Tracked) (s : Store) : Type 0 where
+  pub exact : TracksExactly how s m
+  pub bounded : IsBounded how limits s
 
 -- a request's write, if it has one, is a write of this store and of the request's key
 abbrev pub is_own_write : Store → Option Key → Option ℕ → Bool

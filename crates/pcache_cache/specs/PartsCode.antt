@@ -9,11 +9,13 @@ use Rattle.pcache_lock.specs.PastCode.{known_code as known_locks}
 use Rattle.pcache_store.specs.Notes.{Known as KnownStore}
 use Rattle.pcache_store.specs.NotesCode.{known_code as known_store}
 use Rattle.pcache_cache.specs.Parts.{Parts}
+use Rattle.pcache_cache.specs.contracts.weighing.Weighing as weighing_row
+use Rattle.pcache_cache.specs.declared.weighing.Weighing.{Weighing}
 
 abbrev pub parts_code : Coded Parts
 parts_code =
-    code_by (KnownStore × (Tracked × ((ℕ × Option ℕ) × ((ℕ × ℕ) × KnownLocks))))
-    (coded× known_store (coded× (code key_row.the_row.coded coded_ℕ) (coded× (coded× coded_ℕ (coded_option coded_ℕ)) (coded× (coded× coded_ℕ coded_ℕ) known_locks))))
-    (λ p. (record { state = p.store; past = p.past }, (p.tracked, ((p.limits.weight, p.limits.watermark), ((p.evicted.weight, p.evicted.count), record { table = p.locks; past = p.deeds })))))
-    (λ q. record { store = q.0.state; past = q.0.past; tracked = q.1.0; limits = record { weight = q.1.1.0.0; watermark = q.1.1.0.1 }; evicted = record { weight = q.1.1.1.0.0; count = q.1.1.1.0.1 }; locks = q.1.1.1.1.table; deeds = q.1.1.1.1.past })
+    code_by (Weighing × (KnownStore × (Tracked × ((ℕ × Option ℕ) × ((ℕ × ℕ) × KnownLocks)))))
+    (coded× weighing_row.the_row.coded (coded× known_store (coded× (code key_row.the_row.coded coded_ℕ) (coded× (coded× coded_ℕ (coded_option coded_ℕ)) (coded× (coded× coded_ℕ coded_ℕ) known_locks)))))
+    (λ p. (p.weighing, (record { state = p.store; past = p.past }, (p.tracked, ((p.limits.weight, p.limits.watermark), ((p.evicted.weight, p.evicted.count), record { table = p.locks; past = p.deeds }))))))
+    (λ q. record { weighing = q.0; store = q.1.0.state; past = q.1.0.past; tracked = q.1.1.0; limits = record { weight = q.1.1.1.0.0; watermark = q.1.1.1.0.1 }; evicted = record { weight = q.1.1.1.1.0.0; count = q.1.1.1.1.0.1 }; locks = q.1.1.1.1.1.table; deeds = q.1.1.1.1.1.past })
     (λ _. refl)

@@ -4,6 +4,7 @@ ghost use Rattle.std.specs.FinMap as map;
 
 use crate::fill::is_own_write;
 use crate::request::CacheRequest;
+use crate::weighing::Weighing;
 use pcache_base::seed::Seed;
 use pcache_evict::eviction::EvictionManager;
 use pcache_lock::lock::CacheLock;
@@ -27,9 +28,9 @@ pub struct Totals {
 
 /// A store in memory, an eviction manager and a lock table as one value.
 ///
-/// At all times, whichever calls failed: the sum of the lengths of the complete bodies is at most the manager's limit, their
+/// At all times, whichever calls failed: the sum of the weights of the complete bodies is at most the manager's limit, their
 /// number is at most its watermark, and each key with a complete body has an entry of its own, tracked with exactly that body's
-/// length.
+/// weight: its length, or all that is kept for it ([`Weighing`]).
 ///
 /// `K` is a mark, a type of the caller's that nothing else uses: a request of one cache cannot be used with the parts
 /// of another.
@@ -39,6 +40,7 @@ pub struct Cache<M: EvictionManager, K> {
     pub(crate) store: MemCache,
     pub(crate) manager: M,
     pub(crate) lock: CacheLock,
+    pub(crate) weighing: Weighing,
     pub(crate) of: PhantomData<K>,
 }
 
@@ -51,9 +53,9 @@ impl<M: EvictionManager, K> Model for Cache<M, K> {
 
     ghost coded = { parts_code };
 
-    ghost view = { λ c. record { store = c.store.state; past = c.store.past; tracked = M.tracked c.manager; limits = M.limits c.manager; evicted = M.evicted c.manager; locks = c.lock.table; deeds = c.lock.past } };
+    ghost view = { λ c. record { store = c.store.state; past = c.store.past; weighing = c.weighing; tracked = M.tracked c.manager; limits = M.limits c.manager; evicted = M.evicted c.manager; locks = c.lock.table; deeds = c.lock.past } };
 
-    ghost invariant = { λ c. IsKept (M.limits c.manager) (M.tracked c.manager) c.store.state × UnlocksNone c.lock.past };
+    ghost invariant = { λ c. IsKept c.weighing (M.limits c.manager) (M.tracked c.manager) c.store.state × UnlocksNone c.lock.past };
 }
 
 impl<M: EvictionManager, K> Cache<M, K> {
@@ -63,14 +65,41 @@ impl<M: EvictionManager, K> Cache<M, K> {
     ghost use Rattle.pcache_lock.specs.Locks.{no_locks};
     ghost use Rattle.pcache_store.specs.Totals.{slots, stored_bytes};
     ghost use Rattle.pcache_cache.specs.Parts.{MayEnd, TracksExactly};
+    ghost use Rattle.pcache_cache.specs.Weighing.{stored_weight};
+    ghost use Rattle.pcache_cache.specs.declared.weighing.Weighing.TheVariants.{Bodies};
 
-    /// An empty cache. Permits age out after `age_timeout`. The store's tables hash under the seed, on which no result
-    /// depends. The manager may track entries already, for example loaded ones.
+    /// An empty cache whose entries weigh what their bodies do. Permits age out after `age_timeout`. The store's tables hash under
+    /// the seed, on which no result depends. The manager may track entries already, for example loaded ones.
     pub fn new(alloc: Global, seed: Seed, manager: M, age_timeout: Duration) -> Cache<M, K>
         ensures { result
             ≡ record {
               store = record { slots = map.empty; writes = map.empty; next = 0 };
               past = [];
+              weighing = Bodies;
+              tracked = M.tracked manager;
+              limits = M.limits manager;
+              evicted = M.evicted manager;
+              locks = no_locks (as_nanos age_timeout);
+              deeds = [];
+            } }
+    {
+        Cache::weighing(alloc, seed, manager, age_timeout, Weighing::Bodies)
+    }
+
+    /// The same with entries that weigh as `weighing` says. Of a manager that tracks entries already these keep the weights that
+    /// they have.
+    pub fn weighing(
+        alloc: Global,
+        seed: Seed,
+        manager: M,
+        age_timeout: Duration,
+        weighing: Weighing,
+    ) -> Cache<M, K>
+        ensures { result
+            ≡ record {
+              store = record { slots = map.empty; writes = map.empty; next = 0 };
+              past = [];
+              weighing = weighing;
               tracked = M.tracked manager;
               limits = M.limits manager;
               evicted = M.evicted manager;
@@ -83,8 +112,16 @@ impl<M: EvictionManager, K> Cache<M, K> {
             store: MemCache::new(alloc, seed),
             manager,
             lock: CacheLock::new(alloc, age_timeout),
+            weighing,
             of: PhantomData,
         }
+    }
+
+    /// What its entries weigh.
+    pub fn entries_weigh(&self) -> Weighing
+        ensures { result ≡ self.now.weighing }
+    {
+        self.weighing
     }
 
     /// The allocator that the cache was made with, for the keys and requests of its callers.
@@ -92,12 +129,13 @@ impl<M: EvictionManager, K> Cache<M, K> {
         self.alloc
     }
 
-    /// The sum of the lengths of the complete bodies, in bytes: at most the manager's limit on weight. Each key with a
-    /// complete body has an entry of its own, tracked with exactly that body's length.
+    /// The sum of the lengths of the complete bodies, in bytes: at most the manager's limit on weight, and so is the sum of their
+    /// weights. Each key with a complete body has an entry of its own, tracked with exactly that body's weight.
     pub fn stored_bytes(&self) -> u128
         ensures value { result ≡ stored_bytes self.now.store }
         ensures within { result ≤ self.now.limits.weight }
-        ensures tracked { TracksExactly self.now.store self.now.tracked }
+        ensures weights { stored_weight self.now.weighing self.now.store ≤ self.now.limits.weight }
+        ensures tracked { TracksExactly self.now.weighing self.now.store self.now.tracked }
     {
         self.store.stored_bytes()
     }

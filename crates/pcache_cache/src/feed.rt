@@ -4,11 +4,14 @@ ghost use Rattle.pcache_request.specs.Requests.{dropped_by};
 ghost use Rattle.pcache_request.specs.StorePasts.{dropped_past};
 ghost use Rattle.pcache_cache.specs.OwnPut.{MayEndPut, put_past, store_put};
 ghost use Rattle.pcache_cache.specs.Parts.{Adds};
+ghost use Rattle.pcache_cache.specs.Weighing.{ending_weight};
+ghost use Rattle.pcache_put_ctx.specs.State.{write_in};
 ghost use Rattle.pcache_put_ctx.specs.Readings.{IsReadAt, MayFailOnceRead, StoresPiece};
 ghost use Rattle.pcache_put_ctx.specs.Steps.{Done, RepeatsResult, IsStageAfter};
 
 use crate::cache::Cache;
 use crate::put::{LeftWrite, PendingPut};
+use crate::weighing::{Weighing, ending_weight};
 use pcache_base::error::Result;
 use pcache_base::moment::Moment;
 use pcache_base::reason::NoCacheReason;
@@ -17,6 +20,7 @@ use pcache_put_ctx::context::CachePutCtx;
 use pcache_put_ctx::policy::CachePut;
 use pcache_put_ctx::reading::ReadPiece;
 use pcache_put_ctx::report::{PieceEnd, PieceReport, PutOutcome};
+use pcache_request::cache::ending::Entering;
 use pcache_store::memory::{MemCache, MemMissHandler};
 use pcache_store::storage::HandleMiss;
 
@@ -112,15 +116,19 @@ impl<M: EvictionManager, K> Cache<M, K> {
         ensures withdrawn { OnErr result (LeavesNone (Some put.old.put.key)
             (write_in put.old.put.stage) self.old.store self.new.store) }
         ensures limits { self.new.limits ≡ self.old.limits }
+        ensures weighing { self.new.weighing ≡ self.old.weighing }
         ensures locks { self.new.locks ≡ self.old.locks }
         ensures deeds { self.new.deeds ≡ self.old.deeds }
     {
         // For the prover: the contract of the call says that the entry of the write has the write's
         // number.
         let _writer = put.put.writer();
-        let replaced = self.store.body_number(put.put.key());
+        let entering = Entering {
+            replaced: self.store.body_number(put.put.key()),
+            weight: Some(put_weight(self.weighing, &self.store, &put.put)),
+        };
         put.put
-            .finish_replacing(&mut self.store, &mut self.manager, replaced)
+            .finish_replacing(&mut self.store, &mut self.manager, entering)
     }
 
     /// Ends the put, and drops a write that is still in flight.
@@ -142,6 +150,17 @@ impl<M: EvictionManager, K> Cache<M, K> {
     {
         drop_writer(&mut self.store, left.into_writer());
     }
+}
+
+// The weight that the entry of a put's write is admitted with when the put ends; zero without a write.
+fn put_weight<C: CachePut>(
+    weighing: Weighing,
+    store: &MemCache,
+    put: &CachePutCtx<C, MemCache>,
+) -> usize
+    ensures { result ≡ ending_weight weighing store.now.state (write_in put.now.stage) }
+{
+    ending_weight(weighing, store, put.writer())
 }
 
 // Stores what a put read, over a store.

@@ -4,9 +4,11 @@ ghost use Rattle.pcache_cache.specs.Parts.{is_own_write, replaced_in};
 
 use crate::cache::Cache;
 use crate::request::CacheRequest;
+use crate::weighing::ending_weight;
 use bytes::Bytes;
 use pcache_base::error::Result;
 use pcache_evict::eviction::{CacheEntryId, EvictionManager};
+use pcache_request::cache::ending::Entering;
 use pcache_request::cache::{FinishReport, HttpCache};
 use pcache_store::memory::MemCache;
 use pcache_store::storage::HandleMiss;
@@ -22,11 +24,11 @@ impl<M: EvictionManager, K> Cache<M, K> {
     ghost use Rattle.pcache_request.specs.Requests.{MayWrite, begin_followed, settled, store_begun, write_begun};
     ghost use Rattle.pcache_request.specs.LockPasts.{end_deeds, settled_deeds};
     ghost use Rattle.pcache_request.specs.StorePasts.{EndsRequestPast, writing_past};
-    ghost use Rattle.pcache_request.specs.WriteEnds.{Ends, EndsAs, evicted_after, finishes_of};
-    ghost use Rattle.pcache_store.specs.Finishes.{created};
+    ghost use Rattle.pcache_request.specs.WriteEnds.{Ends, EndsAs, evicted_after};
     ghost use Rattle.pcache_store.specs.Readers.{in_memory};
     ghost use Rattle.pcache_store.specs.Refusals.{MayFailWrite};
     ghost use Rattle.pcache_cache.specs.Parts.{Adds, MayEnd, takes_bytes, tracked_at_end, written_by, written_past};
+    ghost use Rattle.pcache_cache.specs.Weighing.{entered};
 
     /// `HttpCache::set_miss_handler`: begins the write. Requires a phase in which a write may be made, a meta, and no write; ask
     /// `may_write` of the request.
@@ -103,6 +105,7 @@ impl<M: EvictionManager, K> Cache<M, K> {
 
     /// `HttpCache::finish_replacing`: ends the write and stores the body, whose entry is admitted; what is evicted for it is purged.
     /// The entry of the body that stood under the key until then is taken out first, so that it neither counts nor evicts anything.
+    /// The new one is admitted with what the cache says that it weighs.
     /// Requires a phase in which a write may be made, and a write of this cache; ask `may_end`.
     pub fn finish_miss_handler(
         &mut self,
@@ -112,7 +115,7 @@ impl<M: EvictionManager, K> Cache<M, K> {
         requires own { MayEnd self.old.store request.old.cache }
         ensures request { request.new.cache ≡ after_finish request.old.cache }
         ensures ended { EndsAs result (λ end. Ends in_memory request.old.cache request.old.cache.key
-            request.old.cache.write (finishes_of (created self.old.store) request.old.cache.write)
+            request.old.cache.write (entered self.old.weighing self.old.store request.old.cache.write)
             self.old.limits end self.old.store self.new.store
             (tracked_at_end self.old request.old.cache end) self.new.tracked self.old.locks
             self.new.locks
@@ -122,17 +125,21 @@ impl<M: EvictionManager, K> Cache<M, K> {
             self.new.deeds
             × (self.new.evicted
             ≡ evicted_after request.old.cache request.old.cache.key
-            (finishes_of (created self.old.store) request.old.cache.write)
+            (entered self.old.weighing self.old.store request.old.cache.write)
             (tracked_at_end self.old request.old.cache end) self.old.evicted end)) }
         ensures limits { self.new.limits ≡ self.old.limits }
+        ensures weighing { self.new.weighing ≡ self.old.weighing }
         ensures withdrawn { OnErr result (LeavesNone request.old.cache.key request.old.cache.write
             self.old.store self.new.store) }
     {
         // For the prover: the contract of the call says that the entry of the write has the write's
         // number.
-        let _writer = request.cache.writer();
-        let replaced = replaced_by(&self.store, &request.cache);
-        request.cache.finish_replacing(&mut self.store, &mut self.manager, &mut self.lock, replaced)
+        let writer = request.cache.writer();
+        let entering = Entering {
+            replaced: replaced_by(&self.store, &request.cache),
+            weight: Some(ending_weight(self.weighing, &self.store, writer)),
+        };
+        request.cache.finish_replacing(&mut self.store, &mut self.manager, &mut self.lock, entering)
     }
 }
 

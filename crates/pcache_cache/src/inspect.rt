@@ -25,9 +25,10 @@ impl<M: EvictionManager, K> Cache<M, K> {
     /// - `reads`: a reader of a write is given all bytes of that write and of no other, in order and each once, and the end only
     ///   when it was given all and no more can come.
     /// - `grows`: what was written of a write stays as it is, and more bytes come after it.
-    /// - `tracked`: each complete body has an entry of its own in the manager, with exactly its length.
-    /// - `bounded`: the lengths of the complete bodies sum to at most the manager's limit, and their number is at most its
-    ///   watermark.
+    /// - `tracked`: each complete body has an entry of its own in the manager, with exactly its weight: its length, or all that is
+    ///   kept for it.
+    /// - `bounded`: the lengths of the complete bodies sum to at most the manager's limit, and so do their weights, and their number
+    ///   is at most its watermark.
     /// - `one`: at most one permit of a key waits: it was given, and not yet released, let go or found too old.
     /// - `gives`: a request for a key's lock gets the permit exactly when none waits for that key, and else a read lock on the one
     ///   that does.
@@ -43,8 +44,8 @@ impl<M: EvictionManager, K> Cache<M, K> {
         ensures found { FoundIsOfItsWrite self.now.store self.now.past }
         ensures reads { ReadsInOrder self.now.store self.now.past }
         ensures grows { BodiesGrow self.now.store self.now.past }
-        ensures tracked { TracksExactly self.now.store self.now.tracked }
-        ensures bounded { IsBounded self.now.limits self.now.store }
+        ensures tracked { TracksExactly self.now.weighing self.now.store self.now.tracked }
+        ensures bounded { IsBounded self.now.weighing self.now.limits self.now.store }
         ensures one { AtMostOneWaits self.now.deeds }
         ensures gives { GivesByPast self.now.locks self.now.deeds }
         ensures fetches { OneFetchAtATime self.now.deeds }
@@ -73,6 +74,7 @@ impl<M: EvictionManager, K> Cache<M, K> {
             store: _,
             manager,
             lock: _,
+            weighing: _,
             of: _,
         } = self;
         manager
@@ -80,7 +82,7 @@ impl<M: EvictionManager, K> Cache<M, K> {
 
     /// States the invariant of a cache, for proofs of callers. The call does nothing.
     pub fn is_kept(&self)
-        ensures { IsKept self.now.limits self.now.tracked self.now.store }
+        ensures { IsKept self.now.weighing self.now.limits self.now.tracked self.now.store }
     {
         // For the prover: once a field is used, the invariant is known.
         let _store = &self.store;

@@ -3,10 +3,12 @@
 //! with the number of calls, and what it stores is within its manager's limits at all times, whichever calls fail.
 //!
 //! - `cache`: the value, and its getters
+//! - `weighing`: what an entry weighs
 //! - `inspect`: its manager, and its invariant
 //! - `request`, `put`: a request of it, and a put
 //! - `look`, `fill`, `remove`, `locks`, `renew`: the calls of a request, each that of `HttpCache` with the parts
 //!   passed
+//! - `reweigh`: what the entry of a body weighs once its meta is set
 //! - `feed`: the calls of a put, each that of `CachePutCtx`
 
 mod cache;
@@ -19,7 +21,10 @@ mod put;
 mod remove;
 mod renew;
 mod request;
+mod reweigh;
+mod weighing;
 
 pub use cache::{Cache, Totals};
 pub use put::{LeftWrite, PendingPut};
 pub use request::CacheRequest;
+pub use weighing::{OVERHEAD, Weighing};

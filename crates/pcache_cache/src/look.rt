@@ -184,6 +184,7 @@ impl<M: EvictionManager, K> Cache<M, K> {
             (IsTrue (counts_found status (reader_of hit) request.old.cache)
             ⊎ IsTrue (asks_for_hit status request.old.cache)) }
         ensures limits { self.new.limits ≡ self.old.limits }
+        ensures weighing { self.new.weighing ≡ self.old.weighing }
         ensures evicted { self.new.evicted ≡ self.old.evicted }
         ensures kind { IfErr result (λ e. MayFailLock self.old.locks e) }
         ensures numbers { IfErr result (λ e.

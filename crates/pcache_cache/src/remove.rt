@@ -36,6 +36,7 @@ impl<M: EvictionManager, K> Cache<M, K> {
         ensures same_past { OnErr result (self.new.past ≡ self.old.past) }
         ensures same_tracked { OnErr result (self.new.tracked ≡ self.old.tracked) }
         ensures limits { self.new.limits ≡ self.old.limits }
+        ensures weighing { self.new.weighing ≡ self.old.weighing }
         ensures evicted { self.new.evicted ≡ self.old.evicted }
         ensures kind { IfErr result (λ e. e ≡ OutOfMemory) }
         ensures locks { self.new.locks ≡ self.old.locks }
@@ -69,6 +70,7 @@ impl<M: EvictionManager, K> Cache<M, K> {
         ensures same_past { OnErr result (self.new.past ≡ self.old.past) }
         ensures same_tracked { OnErr result (self.new.tracked ≡ self.old.tracked) }
         ensures limits { self.new.limits ≡ self.old.limits }
+        ensures weighing { self.new.weighing ≡ self.old.weighing }
         ensures evicted { self.new.evicted ≡ self.old.evicted }
         ensures kind { IfErr result (λ e. e ≡ OutOfMemory) }
         ensures locks { self.new.locks ≡ self.old.locks }
@@ -100,6 +102,7 @@ impl<M: EvictionManager, K> Cache<M, K> {
         ensures same_past { OnErr result (self.new.past ≡ self.old.past) }
         ensures same_tracked { OnErr result (self.new.tracked ≡ self.old.tracked) }
         ensures limits { self.new.limits ≡ self.old.limits }
+        ensures weighing { self.new.weighing ≡ self.old.weighing }
         ensures evicted { self.new.evicted ≡ self.old.evicted }
         ensures kind { IfErr result (λ e. e ≡ OutOfMemory) }
         ensures locks { self.new.locks ≡ self.old.locks }

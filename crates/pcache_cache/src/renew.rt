@@ -1,6 +1,7 @@
 //! Stale bodies that are still valid, and what responses vary on.
 use crate::cache::Cache;
 use crate::request::CacheRequest;
+use crate::reweigh::set_meta;
 use pcache_base::error::Result;
 use pcache_base::key::HashBinary;
 use pcache_base::reason::NoCacheReason;
@@ -10,22 +11,23 @@ use pcache_meta::meta::CacheMeta;
 use pcache_request::cache::LockName;
 
 impl<M: EvictionManager, K> Cache<M, K> {
-    ghost use Rattle.std.specs.Prelude.{◌≡◌, IfOk, IfErr, OnOk, OnErr, IsTrue, option_map};
+    ghost use Rattle.std.specs.Prelude.{◌≡◌, IfErr, option_map};
     ghost use Rattle.pcache_base.specs.declared.error.ErrorType.TheVariants.{OutOfMemory};
     ghost use Rattle.pcache_lock.specs.declared.lock.status.LockStatus.TheVariants.{Done, GiveUp};
     ghost use Rattle.pcache_meta.specs.Header.{shown};
     ghost use Rattle.pcache_request.specs.Releasing.{MayRelease, status_for};
-    ghost use Rattle.pcache_request.specs.Renewals.{has_body, renewed, renewed_by, with_meta_of};
+    ghost use Rattle.pcache_request.specs.Renewals.{renewed, renewed_by};
     ghost use Rattle.pcache_request.specs.Reports.{name_of};
     ghost use Rattle.pcache_request.specs.Requests.{MayWrite, settled};
     ghost use Rattle.pcache_request.specs.Stale.{MayRevalidate, uncacheable};
     ghost use Rattle.pcache_request.specs.LockPasts.{settled_deeds, varied_deeds};
-    ghost use Rattle.pcache_request.specs.StorePasts.{renewed_past};
     ghost use Rattle.pcache_cache.specs.Parts.{Adds};
+    ghost use Rattle.pcache_cache.specs.Renewing.{Renews, stock};
     ghost use Rattle.pcache_request.specs.Variants.{released_by_variance, table_varied, varied};
 
-    /// `HttpCache::revalidate_cache_meta`: takes the meta of a response that says that the stale body is still valid.
-    /// Ask `may_revalidate` of the request.
+    /// `HttpCache::revalidate_cache_meta`: takes the meta of a response that says that the stale body is still valid. If the body's
+    /// entry weighs something else with that meta, it is admitted anew, and what is evicted for it is purged; if memory is refused
+    /// for that, the body is removed. Ask `may_revalidate` of the request.
     pub fn revalidate_cache_meta(
         &mut self,
         request: &mut CacheRequest<K>,
@@ -33,15 +35,9 @@ impl<M: EvictionManager, K> Cache<M, K> {
     ) -> Result<bool>
         requires { MayRevalidate request.old.cache }
         ensures request { request.new.cache ≡ renewed meta request.old.cache }
-        ensures there { IfOk result (λ b. b ≡ has_body self.old.store request.old.cache.key) }
-        ensures store { OnOk result (self.new.store
-            ≡ with_meta_of (renewed_by meta request.old.cache.meta) request.old.cache.key
-            self.old.store) }
-        ensures past { OnOk result
-            (Adds (renewed_past meta request.old.cache) self.old.past self.new.past) }
-        ensures same_store { OnErr result (self.new.store ≡ self.old.store) }
-        ensures same_past { OnErr result (self.new.past ≡ self.old.past) }
-        ensures something { OnErr result (IsTrue (has_body self.old.store request.old.cache.key)) }
+        ensures renews { Renews self.old.weighing self.old.limits
+            (renewed_by meta request.old.cache.meta) request.old.cache.key result (stock self.old)
+            (stock self.new) }
         ensures kind { IfErr result (λ e. e ≡ OutOfMemory) }
         ensures table { self.new.locks ≡ settled Done request.old.cache.held self.old.locks }
         ensures deeds { Adds (settled_deeds Done request.old.cache.held) self.old.deeds self.new.deeds }
@@ -49,13 +45,24 @@ impl<M: EvictionManager, K> Cache<M, K> {
             ≡ record self.old {
               store = self.new.store;
               past = self.new.past;
+              tracked = self.new.tracked;
+              evicted = self.new.evicted;
               locks = self.new.locks;
               deeds = self.new.deeds;
             } }
     {
-        request
-            .cache
-            .revalidate_cache_meta(&mut self.store, &mut self.lock, meta)
+        let _released = request.cache.renew_request(&mut self.lock, meta);
+        match (request.cache.key(), request.cache.meta()) {
+            (Some(key), Some(meta)) => set_meta(
+                self.alloc,
+                self.weighing,
+                &mut self.store,
+                &mut self.manager,
+                key,
+                meta,
+            ),
+            _ => unreachable!(),
+        }
     }
 
     /// `HttpCache::revalidate_uncacheable`: serves the stale body with this header, and does not store the new

@@ -17,9 +17,10 @@ use pcache_base::error::{Error, Result};
 use pcache_base::key::CacheKey;
 use pcache_base::moment::Moment;
 use pcache_base::reason::NoCacheReason;
-use pcache_evict::eviction::{CacheEntryId, CacheEntryKey, EvictionManager};
+use pcache_evict::eviction::{CacheEntryKey, EvictionManager};
 use pcache_put::max_file_size::MaxFileSizeTracker;
 use pcache_put::response_parse::{INCOMPLETE_BODY, ResponseParse};
+use pcache_request::cache::ending::Entering;
 use pcache_store::storage::{HandleMiss, Storage};
 use std::alloc::Global;
 use std::marker::Model;
@@ -91,6 +92,7 @@ impl<C: CachePut, S: Storage> CachePutCtx<C, S> {
     ghost use Rattle.pcache_meta.specs.Meta.{Meta};
     ghost use Rattle.pcache_put.specs.Progress.{AtHead, HasFailed};
     ghost use Rattle.pcache_request.specs.NoBody.{HasNoBody, LeavesNone};
+    ghost use Rattle.pcache_request.specs.Replacing.{weighed_each};
     ghost use Rattle.pcache_request.specs.Requests.{dropped_by};
     ghost use Rattle.pcache_request.specs.StorePasts.{dropped_past};
     ghost use Rattle.pcache_put_ctx.specs.Pasts.{EndsPutPast, past_at, past_left};
@@ -371,27 +373,29 @@ impl<C: CachePut, S: Storage> CachePutCtx<C, S> {
         }
     }
 
-    /// `finish` that is told the number of the body which the new one replaces: the entry of that body is taken out of the
-    /// manager before the new one's is admitted, so that at no moment both are tracked.
+    /// `finish` that is told the number of the body which the new one replaces, and what the new entry weighs: the entry of that
+    /// body is taken out of the manager before the new one's is admitted, so that at no moment both are tracked.
     pub fn finish_replacing<E: EvictionManager>(
         &mut self,
         storage: &mut S,
         eviction: &mut E,
-        replaced: Option<CacheEntryId>,
+        entering: Entering,
     ) -> Result<PutOutcome>
 
         // In one way: for the store, its past, the manager's totals and the put; and the outcome is that of the put's bytes, all
         // pieces together.
         ensures ended { EndsAs result (λ end. EndsPut S.guarantees self.old.key self.old.parser
-            (S.finishes storage.old) (E.limits eviction.old) self.old.stage end
+            (weighed_each entering.weight (S.finishes storage.old))
+            (E.limits eviction.old) self.old.stage end
             (S.state storage.old) (S.state storage.new)
-            (tracked_before_put self.old.key replaced end (E.tracked eviction.old))
+            (tracked_before_put self.old.key entering.replaced end (E.tracked eviction.old))
             (E.tracked eviction.new)
             × EndsPutPast S.guarantees self.old.key self.old.stage end (S.past storage.old)
             (S.past storage.new)
             × (E.evicted eviction.new
-            ≡ evicted_ended self.old.key (S.finishes storage.old) self.old.stage
-            (tracked_before_put self.old.key replaced end (E.tracked eviction.old))
+            ≡ evicted_ended self.old.key (weighed_each entering.weight (S.finishes storage.old))
+            self.old.stage
+            (tracked_before_put self.old.key entering.replaced end (E.tracked eviction.old))
             (E.evicted eviction.old) end)
             × (self.new.stage ≡ stage_ended end)
             × ((pieces : List Piece) (f : Option Filled)
@@ -405,7 +409,7 @@ impl<C: CachePut, S: Storage> CachePutCtx<C, S> {
             → OnErr result (LeavesNone (Some self.old.key) (write_in self.old.stage)
             (S.state storage.old) (S.state storage.new)) }
     {
-        let PutReport { end, entry: _ } = self.end_put_replacing(storage, eviction, replaced);
+        let PutReport { end, entry: _ } = self.end_put_replacing(storage, eviction, entering);
         match end {
             PutEnd::NotCached(why) => Ok(PutOutcome::NotCached(why)),
             PutEnd::Stored(report) => Ok(PutOutcome::Stored(report)),
@@ -439,29 +443,35 @@ impl<C: CachePut, S: Storage> CachePutCtx<C, S> {
         ensures withdrawn { IsTrue S.guarantees.purges
             → IfWithdrawn result.end (HasNoBody (S.state storage.new) self.old.key) }
     {
-        self.end_put_replacing(storage, eviction, None)
+        let entering = Entering {
+            replaced: None,
+            weight: None,
+        };
+        self.end_put_replacing(storage, eviction, entering)
     }
 
-    /// `end_put` that is told the number of the body which the new one replaces, as `finish_replacing`.
+    /// `end_put` that is told how the new entry comes into the manager, as `finish_replacing`.
     pub fn end_put_replacing<E: EvictionManager>(
         &mut self,
         storage: &mut S,
         eviction: &mut E,
-        replaced: Option<CacheEntryId>,
+        entering: Entering,
     ) -> PutReport
         ensures policy { self.new.policy ≡ self.old.policy }
         ensures key { self.new.key ≡ self.old.key }
-        ensures ends { EndsPut S.guarantees self.old.key self.old.parser (S.finishes storage.old)
+        ensures ends { EndsPut S.guarantees self.old.key self.old.parser
+            (weighed_each entering.weight (S.finishes storage.old))
             (E.limits eviction.old) self.old.stage result.end (S.state storage.old)
             (S.state storage.new)
-            (tracked_before_put self.old.key replaced result.end (E.tracked eviction.old))
+            (tracked_before_put self.old.key entering.replaced result.end (E.tracked eviction.old))
             (E.tracked eviction.new) }
         ensures past { EndsPutPast S.guarantees self.old.key self.old.stage result.end
             (S.past storage.old) (S.past storage.new) }
         ensures entry { result.entry ≡ entry_reported self.old.key self.old.stage result.end }
         ensures evicted { E.evicted eviction.new
-            ≡ evicted_ended self.old.key (S.finishes storage.old) self.old.stage
-            (tracked_before_put self.old.key replaced result.end (E.tracked eviction.old))
+            ≡ evicted_ended self.old.key (weighed_each entering.weight (S.finishes storage.old))
+            self.old.stage
+            (tracked_before_put self.old.key entering.replaced result.end (E.tracked eviction.old))
             (E.evicted eviction.old) result.end }
         ensures limits { E.limits eviction.new ≡ E.limits eviction.old }
         ensures stage { self.new.stage ≡ stage_ended result.end }
@@ -481,7 +491,7 @@ impl<C: CachePut, S: Storage> CachePutCtx<C, S> {
                 None,
             ),
             Stage::Body(filling) => {
-                let (end, entry) = self.intake.end_body(storage, eviction, filling, replaced);
+                let (end, entry) = self.intake.end_body(storage, eviction, filling, entering);
                 leave(&mut self.stage, end, entry)
             }
             Stage::Declined(reason) => leave(&mut self.stage, PutEnd::NotCached(reason), None),

@@ -6,6 +6,7 @@ ghost use Rattle.pcache_base.specs.declared.error.ErrorType.TheVariants.{OutOfMe
 ghost use Rattle.pcache_meta.specs.Meta.{Meta};
 ghost use Rattle.pcache_put.specs.Progress.{HasFailed};
 ghost use Rattle.pcache_put.specs.Response.{IsUnreadable};
+ghost use Rattle.pcache_request.specs.Replacing.{weighed_each};
 ghost use Rattle.pcache_store.specs.Notes.{noted};
 ghost use Rattle.pcache_store.specs.Past.{Began};
 ghost use Rattle.pcache_store.specs.Purge.{entry_given};
@@ -32,13 +33,13 @@ use pcache_base::key::CacheKey;
 use pcache_base::moment::Moment;
 use pcache_base::reason::NoCacheReason;
 use pcache_control::RespCacheable;
-use pcache_evict::eviction::{CacheEntryId, CacheEntryKey, EvictionManager};
+use pcache_evict::eviction::{CacheEntryKey, EvictionManager};
 use pcache_meta::header::ResponseHeader;
 use pcache_meta::meta::CacheMeta;
 use pcache_put::max_file_size::{ERR_RESPONSE_TOO_LARGE, MaxFileSizeTracker};
 use pcache_put::response_parse::ResponseParse;
 use pcache_request::cache::WriteEnd;
-use pcache_request::cache::ending::{EndedWrite, end_writer};
+use pcache_request::cache::ending::{EndedWrite, Entering, end_writer};
 use pcache_store::storage::{HandleMiss, Storage};
 use std::alloc::Global;
 
@@ -426,20 +427,21 @@ impl<C: CachePut> Intake<C> {
     }
 
     // Ends the write. If the response ended before its body did, the write is dropped; else it ends as
-    // any write does, and is passed the number of the body that the new one replaces.
+    // any write does, and is passed how its entry comes into the manager.
     pub(crate) fn end_body<S: Storage, E: EvictionManager>(
         &mut self,
         storage: &mut S,
         eviction: &mut E,
         filling: Filling<S::Miss>,
-        replaced: Option<CacheEntryId>,
+        entering: Entering,
     ) -> (PutEnd, Option<CacheEntryKey>)
         ensures same { self.new ≡ record self.old { parser = self.new.parser } }
-        ensures ends { EndsPut S.guarantees self.old.key self.old.parser (S.finishes storage.old)
+        ensures ends { EndsPut S.guarantees self.old.key self.old.parser
+            (weighed_each entering.weight (S.finishes storage.old))
             (E.limits eviction.old)
             (InBody (S.Miss.write filling.writer) (S.Miss.entry_number filling.writer)
             filling.fresh_until) result.0 (S.state storage.old) (S.state storage.new)
-            (tracked_before_put self.old.key replaced result.0 (E.tracked eviction.old))
+            (tracked_before_put self.old.key entering.replaced result.0 (E.tracked eviction.old))
             (E.tracked eviction.new) }
         ensures past { EndsPutPast S.guarantees self.old.key
             (InBody (S.Miss.write filling.writer) (S.Miss.entry_number filling.writer)
@@ -449,10 +451,10 @@ impl<C: CachePut> Intake<C> {
             (InBody (S.Miss.write filling.writer) (S.Miss.entry_number filling.writer)
             filling.fresh_until) result.0 }
         ensures evicted { E.evicted eviction.new
-            ≡ evicted_ended self.old.key (S.finishes storage.old)
+            ≡ evicted_ended self.old.key (weighed_each entering.weight (S.finishes storage.old))
             (InBody (S.Miss.write filling.writer) (S.Miss.entry_number filling.writer)
             filling.fresh_until)
-            (tracked_before_put self.old.key replaced result.0 (E.tracked eviction.old))
+            (tracked_before_put self.old.key entering.replaced result.0 (E.tracked eviction.old))
             (E.evicted eviction.old) result.0 }
         ensures limits { E.limits eviction.new ≡ E.limits eviction.old }
         ensures tells { (pieces : List Piece) (f : Option Filled)
@@ -477,7 +479,7 @@ impl<C: CachePut> Intake<C> {
             &self.key,
             writer,
             fresh_until,
-            replaced,
+            entering,
         );
         match end {
             WriteEnd::Stored(report) => (PutEnd::Stored(report), entry),

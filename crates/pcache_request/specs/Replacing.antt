@@ -8,6 +8,8 @@ use Rattle.pcache_base.specs.declared.key.CompactCacheKey.{CompactCacheKey}
 use Rattle.pcache_evict.specs.Entry.{entry_with}
 use Rattle.pcache_evict.specs.Tracked.{Tracked}
 use Rattle.pcache_request.specs.Requests.{Request}
+use Rattle.pcache_store.specs.declared.storage.MissFinishType.{MissFinishType}
+use Rattle.pcache_store.specs.declared.storage.MissFinishType.TheVariants.{Created}
 use Rattle.pcache_request.specs.declared.cache.finish.WriteEnd.{WriteEnd}
 use Rattle.pcache_request.specs.declared.cache.finish.WriteEnd.TheVariants as end
 
@@ -28,3 +30,12 @@ tracked_before used k replaced (end.Withdrawn e) m = without_entry used (compact
 abbrev pub tracked_before_end : Request → Option Key → Option ℕ → WriteEnd → Tracked → Tracked
 tracked_before_end r None replaced how m = m
 tracked_before_end r (Some k) replaced how m = tracked_before r.uses.eviction k replaced how m
+
+-- what the end of a write returned, with this weight in its place if one is given
+abbrev pub weighed : Option ℕ → MissFinishType → MissFinishType
+weighed None kind = kind
+weighed (Some n) kind = Created n
+
+-- the same of each write
+abbrev pub weighed_each : Option ℕ → (ℕ → MissFinishType) → ℕ → MissFinishType
+weighed_each weight finishes w = weighed weight (finishes w)

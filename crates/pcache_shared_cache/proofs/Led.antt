@@ -1,10 +1,11 @@
 -- Each call led from the state that it found to the one that it left: the limits stay, and of the two pasts nothing is forgotten.
-use Rattle.std.proofs.Common.{◌≡◌, ◌⊎◌, ⊎_elim, inl, inr, ℕ, Bool, true, List, Option, None, Some, Result, Ok, Err, OnErr, OnOk, ap, option_map, sym, subst}
+use Rattle.std.proofs.Common.{◌≡◌, ⊎_elim, inl, inr, ℕ, Bool, true, List, Option, None, Some, Result, Ok, Err, OnErr, OnOk, ap, option_map, sym, subst}
 use Rattle.pcache_base.specs.Key.{slot}
 use Rattle.pcache_base.specs.declared.error.ErrorType.{ErrorType}
-use Rattle.pcache_cache.proofs.Adding.{dropped_keeps, end_keeps, ends_request_keeps, found_keeps, handed_keeps, left_keeps, looked_keeps, published_keeps, searched_keeps, settled_keeps, taken_keeps, varied_keeps, waited_keeps, writing_keeps, begun_keeps, written_keeps}
+use Rattle.pcache_cache.proofs.Adding.{dropped_keeps, end_keeps, ends_request_keeps, found_keeps, handed_keeps, left_keeps, looked_keeps, published_keeps, renews_keeps, searched_keeps, settled_keeps, taken_keeps, varied_keeps, waited_keeps, writing_keeps, begun_keeps, written_keeps}
 use Rattle.pcache_cache.proofs.Growing.{GrewFrom, grew_by, grew_if, grew_not, grew_same, kept_by_deeds, kept_by_notes}
 use Rattle.pcache_cache.specs.Growing.{Grew}
+use Rattle.pcache_cache.specs.Renewing.{stock}
 use Rattle.pcache_cache.specs.Parts.{Adds, MayEnd, Parts, written_past}
 use Rattle.pcache_lock.specs.declared.lock.outcome.LockWaitOutcome.{LockWaitOutcome}
 use Rattle.pcache_lock.specs.declared.lock.permit.WritePermit.{WritePermit}
@@ -17,18 +18,18 @@ use Rattle.pcache_request.specs.LockPasts.{end_deeds, found_deeds, handed_deeds,
 use Rattle.pcache_request.specs.Releasing.{status_for}
 use Rattle.pcache_request.specs.Renewals.{renewed_by}
 use Rattle.pcache_request.specs.Requests.{Request}
-use Rattle.pcache_request.specs.StorePasts.{begun_past, dropped_past, expired_past, left_past, purged_past, renewed_past, searched_past, taken_past, writing_past}
+use Rattle.pcache_request.specs.StorePasts.{begun_past, dropped_past, expired_past, left_past, purged_past, searched_past, taken_past, writing_past}
 use Rattle.pcache_request.specs.WriteEnds.{EndsAs}
 use Rattle.pcache_request.specs.declared.cache.finish.FinishReport.{FinishReport}
 use Rattle.pcache_request.specs.declared.cache.finish.WriteEnd.{WriteEnd}
 use Rattle.pcache_request.specs.declared.cache.finish.WriteEnd.TheVariants as end
 use Rattle.pcache_request.specs.declared.phase.HitStatus.{HitStatus}
 use Rattle.pcache_store.specs.Notes.{expiry_noted, leave_noted, noted}
-use Rattle.pcache_store.specs.Past.{MetaSet, Purged}
+use Rattle.pcache_store.specs.Past.{Purged}
 use Rattle.pcache_store.specs.Readers.{in_memory}
 use Rattle.pcache_store.specs.Store.{Reader}
 use Rattle.pcache_store.specs.declared.memory.hit.MemHitHandler.{MemHitHandler}
-use Rattle.pcache_shared_cache.specs.Calls.{BeginsWrite, Disables, EndsHit, EndsWriteOf, Expires, LetsGo, LooksUp, Publishes, Purges, Releases, Renews, TakesFound, TakesPermit, Varies, Waits, Writes}
+use Rattle.pcache_shared_cache.specs.Calls.{BeginsWrite, Disables, EndsHit, EndsWriteOf, Expires, LetsGo, LooksUp, Publishes, Purges, Releases, Revalidates, TakesFound, TakesPermit, Varies, Waits, Writes}
 use Rattle.pcache_shared_cache.specs.Seen.{Leads}
 
 err_ap : {A X Y : Type 0} (f : X → Y) (result : Result A ErrorType) (x y : X) → OnErr result (x ≡ y) → OnErr result (f x ≡ f y)
@@ -42,6 +43,7 @@ same_deeds p q is = grew_same p.deeds q.deeds is
 pub purged : (result : Result Bool ErrorType) (r : Request) (p q : Parts) → Purges result r p q → Leads p q
 purged result r p q row = record {
   limits = ap (λ (x : Parts). x.limits) row.rest;
+  weighing = ap (λ (x : Parts). x.weighing) row.rest;
   past = grew_if result (purged_past r.key) p.past q.past (kept_by_notes p.past (option_map (λ k. Purged (slot k)) r.key)) row.past (err_ap (λ (x : Parts). x.past) result q p row.same);
   deeds = grew_same p.deeds q.deeds (ap (λ (x : Parts). x.deeds) row.rest);
 }
@@ -49,6 +51,7 @@ purged result r p q row = record {
 pub expired : (result : Result Bool ErrorType) (now : ℕ) (r : Request) (p q : Parts) → Expires result now r p q → Leads p q
 expired result now r p q row = record {
   limits = ap (λ (x : Parts). x.limits) row.rest;
+  weighing = ap (λ (x : Parts). x.weighing) row.rest;
   past = grew_if result (expired_past now r.key) p.past q.past (kept_by_notes p.past (expiry_noted now (option_map slot r.key))) row.past (err_ap (λ (x : Parts). x.past) result q p row.same);
   deeds = grew_same p.deeds q.deeds (ap (λ (x : Parts). x.deeds) row.rest);
 }
@@ -56,6 +59,7 @@ expired result now r p q row = record {
 pub written : (result : Result Bool ErrorType) (bytes : List ℕ) (eof : Bool) (r : Request) (p q : Parts) → Writes result bytes eof r p q → Leads p q
 written result bytes eof r p q row = record {
   limits = ap (λ (x : Parts). x.limits) row.rest;
+  weighing = ap (λ (x : Parts). x.weighing) row.rest;
   past = grew_if result (written_past p.store r.write bytes eof) p.past q.past (written_keeps (kept_by_notes p.past) p.store r.write bytes eof) row.past (err_ap (λ (x : Parts). x.past) result q p row.same);
   deeds = grew_same p.deeds q.deeds (ap (λ (x : Parts). x.deeds) row.rest);
 }
@@ -73,7 +77,7 @@ looked_table (Ok f) now r s p q row = grew_by (looked_deeds p.store now p.locks 
 looked_table (Err e) now r s p q row = grew_same p.deeds q.deeds row.same_deeds
 
 pub looked : (result : Result (Option (Meta × MemHitHandler)) ErrorType) (now : ℕ) (r s : Request) (p q : Parts) → LooksUp result now r s p q → Leads p q
-looked result now r s p q row = record { limits = ap (λ (x : Parts). x.limits) row.rest; past = looked_past result now r s p q row; deeds = looked_table result now r s p q row }
+looked result now r s p q row = record { limits = ap (λ (x : Parts). x.limits) row.rest; weighing = ap (λ (x : Parts). x.weighing) row.rest; past = looked_past result now r s p q row; deeds = looked_table result now r s p q row }
 
 grew_either : {A R : Type 0} (result : Result R ErrorType) (f h : Option (List A) → Option (List A)) (p q : List A) → ((x : Option (List A)) → GrewFrom (Some p) x → GrewFrom (Some p) (f x)) → ((x : Option (List A)) → GrewFrom (Some p) x → GrewFrom (Some p) (h x))
     → OnOk result (Adds f p q) → OnErr result (Adds h p q) → Grew p q
@@ -83,6 +87,7 @@ grew_either (Err e) f h p q keeps keeps' ok err = grew_by h p q keeps' err
 pub taken : (result : Result (Unit {0}) ErrorType) (status : HitStatus) (m : Meta) (h : Reader) (now : ℕ) (r s : Request) (p q : Parts) → TakesFound result status m h now r s p q → Leads p q
 taken result status m h now r s p q row = record {
   limits = row.limits;
+  weighing = row.weighing;
   past = grew_either result (taken_past status h r) (noted (leave_noted h)) p.past q.past (taken_keeps (kept_by_notes p.past) status h r) (kept_by_notes p.past (leave_noted h)) row.past row.left_past;
   deeds = grew_if result (found_deeds status now p.locks r) p.deeds q.deeds (found_keeps (kept_by_deeds p.deeds) status now p.locks r) row.deeds row.same_deeds;
 }
@@ -90,6 +95,7 @@ taken result status m h now r s p q row = record {
 pub let_go : (h : Reader) (p q : Parts) → LetsGo h p q → Leads p q
 let_go h p q row = record {
   limits = ap (λ (x : Parts). x.limits) row.rest;
+  weighing = ap (λ (x : Parts). x.weighing) row.rest;
   past = grew_by (noted (leave_noted h)) p.past q.past (kept_by_notes p.past (leave_noted h)) row.past;
   deeds = grew_same p.deeds q.deeds (ap (λ (x : Parts). x.deeds) row.rest);
 }
@@ -97,6 +103,7 @@ let_go h p q row = record {
 pub hit_ended : (r : Request) (p q : Parts) → EndsHit r p q → Leads p q
 hit_ended r p q row = record {
   limits = ap (λ (x : Parts). x.limits) row.rest;
+  weighing = ap (λ (x : Parts). x.weighing) row.rest;
   past = grew_by (left_past r.reader) p.past q.past (left_keeps (kept_by_notes p.past) r.reader) row.past;
   deeds = grew_same p.deeds q.deeds (ap (λ (x : Parts). x.deeds) row.rest);
 }
@@ -104,6 +111,7 @@ hit_ended r p q row = record {
 pub disabled : (reason : NoCacheReason) (r : Request) (p q : Parts) → Disables reason r p q → Leads p q
 disabled reason r p q row = record {
   limits = ap (λ (x : Parts). x.limits) row.rest;
+  weighing = ap (λ (x : Parts). x.weighing) row.rest;
   past = grew_by (λ l. left_past r.reader (dropped_past r.write l)) p.past q.past (λ x is. left_keeps (kept_by_notes p.past) r.reader (dropped_past r.write x) (dropped_keeps (kept_by_notes p.past) r.write x is)) row.past;
   deeds = grew_by (settled_deeds (status_for (λ text. GiveUp) reason) r.held) p.deeds q.deeds (settled_keeps (kept_by_deeds p.deeds) (status_for (λ text. GiveUp) reason) r.held) row.deeds;
 }
@@ -111,6 +119,7 @@ disabled reason r p q row = record {
 pub asked_on : (result : Result (Poll LockWaitOutcome) ErrorType) (now : ℕ) (r s : Request) (p q : Parts) → Waits result now r s p q → Leads p q
 asked_on result now r s p q row = record {
   limits = ap (λ (x : Parts). x.limits) row.rest;
+  weighing = ap (λ (x : Parts). x.weighing) row.rest;
   past = grew_same p.past q.past (ap (λ (x : Parts). x.past) row.rest);
   deeds = grew_if result (waited_deeds p.locks now r.held r) p.deeds q.deeds (waited_keeps (kept_by_deeds p.deeds) p.locks now r.held r) row.deeds (err_ap (λ (x : Parts). x.deeds) result q p row.same);
 }
@@ -118,6 +127,7 @@ asked_on result now r s p q row = record {
 pub released : (status : LockStatus) (r : Request) (p q : Parts) → Releases status r p q → Leads p q
 released status r p q row = record {
   limits = ap (λ (x : Parts). x.limits) row.rest;
+  weighing = ap (λ (x : Parts). x.weighing) row.rest;
   past = grew_same p.past q.past (ap (λ (x : Parts). x.past) row.rest);
   deeds = grew_by (settled_deeds status r.held) p.deeds q.deeds (settled_keeps (kept_by_deeds p.deeds) status r.held) row.deeds;
 }
@@ -125,6 +135,7 @@ released status r p q row = record {
 pub permit_taken : (permit : WritePermit) (r : Request) (p q : Parts) → TakesPermit permit r p q → Leads p q
 permit_taken permit r p q row = record {
   limits = ap (λ (x : Parts). x.limits) row.rest;
+  weighing = ap (λ (x : Parts). x.weighing) row.rest;
   past = grew_same p.past q.past (ap (λ (x : Parts). x.past) row.rest);
   deeds = grew_by (handed_deeds permit r) p.deeds q.deeds (handed_keeps (kept_by_deeds p.deeds) permit r) row.deeds;
 }
@@ -132,20 +143,23 @@ permit_taken permit r p q row = record {
 pub published : {A : Type 0} (result : Result A ErrorType) (tokens : List ℕ) (r : Request) (p q : Parts) → Publishes result tokens r p q → Leads p q
 published result tokens r p q row = record {
   limits = ap (λ (x : Parts). x.limits) row.rest;
+  weighing = ap (λ (x : Parts). x.weighing) row.rest;
   past = grew_same p.past q.past (ap (λ (x : Parts). x.past) row.rest);
   deeds = grew_if result (published_deeds tokens r.held) p.deeds q.deeds (published_keeps (kept_by_deeds p.deeds) tokens r.held) row.deeds (err_ap (λ (x : Parts). x.deeds) result q p row.same);
 }
 
-pub renewed_body : (result : Result Bool ErrorType) (m : Meta) (r : Request) (p q : Parts) → Renews result m r p q → Leads p q
+pub renewed_body : (result : Result Bool ErrorType) (m : Meta) (r : Request) (p q : Parts) → Revalidates result m r p q → Leads p q
 renewed_body result m r p q row = record {
   limits = ap (λ (x : Parts). x.limits) row.rest;
-  past = grew_if result (renewed_past m r) p.past q.past (kept_by_notes p.past (option_map (λ k. MetaSet (slot k) (renewed_by m r.meta)) r.key)) row.past row.same_past;
+  weighing = ap (λ (x : Parts). x.weighing) row.rest;
+  past = renews_keeps (kept_by_notes p.past) p.weighing p.limits (renewed_by m r.meta) r.key result (stock p) (stock q) row.renews (grew_not p.past);
   deeds = grew_by (settled_deeds Done r.held) p.deeds q.deeds (settled_keeps (kept_by_deeds p.deeds) Done r.held) row.deeds;
 }
 
 pub varied_on : (variance : Option (List ℕ)) (r : Request) (p q : Parts) → Varies variance r p q → Leads p q
 varied_on variance r p q row = record {
   limits = ap (λ (x : Parts). x.limits) row.rest;
+  weighing = ap (λ (x : Parts). x.weighing) row.rest;
   past = grew_same p.past q.past (ap (λ (x : Parts). x.past) row.rest);
   deeds = grew_by (varied_deeds variance r) p.deeds q.deeds (varied_keeps (kept_by_deeds p.deeds) variance r) row.deeds;
 }
@@ -161,7 +175,7 @@ begun_deeds (Err e) r s p q row = ⊎_elim (λ same. grew_as p.deeds q.deeds (So
     (λ gone. grew_as p.deeds q.deeds (settled_deeds Done r.held (Some p.deeds)) gone.4 (settled_keeps (kept_by_deeds p.deeds) Done r.held (Some p.deeds) (grew_not p.deeds))) row.failed
 
 pub begun : (result : Result (Unit {0}) ErrorType) (r s : Request) (p q : Parts) → BeginsWrite result r s p q → Leads p q
-begun result r s p q row = record { limits = ap (λ (x : Parts). x.limits) row.rest; past = begun_notes result r s p q row; deeds = begun_deeds result r s p q row }
+begun result r s p q row = record { limits = ap (λ (x : Parts). x.limits) row.rest; weighing = ap (λ (x : Parts). x.weighing) row.rest; past = begun_notes result r s p q row; deeds = begun_deeds result r s p q row }
 
 -- what holds of each way in which a write can have ended
 ended_any : {X : Type 0} {P : WriteEnd → Type 0} (result : Result (Option FinishReport) ErrorType) → EndsAs result P → ((how : WriteEnd) → P how → X) → X
@@ -173,10 +187,11 @@ ended_any (Err e) (inr is) so = so (end.Withdrawn e) is
 pub ended : (result : Result (Option FinishReport) ErrorType) (r : Request) (p q : Parts) → EndsWriteOf result r p q → MayEnd p.store r → Leads p q
 ended result r p q row may = record {
   limits = row.limits;
+  weighing = row.weighing;
   past = ended_any result (row.ended may) (λ how is. ends_request_keeps (kept_by_notes p.past) in_memory r.key r.write how (Some p.past) (Some q.past) is.1 (grew_not p.past));
   deeds = ended_any result (row.ended may) (λ how is. grew_by (end_deeds r.write r.held how) p.deeds q.deeds (end_keeps (kept_by_deeds p.deeds) r.write r.held how) is.2);
 }
 
 -- nothing changed
 pub stayed : (p q : Parts) → q ≡ p → Leads p q
-stayed p q same = record { limits = ap (λ (x : Parts). x.limits) same; past = grew_same p.past q.past (ap (λ (x : Parts). x.past) same); deeds = grew_same p.deeds q.deeds (ap (λ (x : Parts). x.deeds) same) }
+stayed p q same = record { limits = ap (λ (x : Parts). x.limits) same; weighing = ap (λ (x : Parts). x.weighing) same; past = grew_same p.past q.past (ap (λ (x : Parts). x.past) same); deeds = grew_same p.deeds q.deeds (ap (λ (x : Parts). x.deeds) same) }

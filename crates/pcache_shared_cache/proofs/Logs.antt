@@ -17,6 +17,18 @@ added (x ∷ l) p q is leads sound = (is.0, goes x l p q is.1 leads sound)
 pub log_added : (log : List Parts) (p q : Parts) → EndsWith log p → IsLog log → Leads p q → IsSound q → IsLog (log ++ q ∷ [])
 log_added log p q ends is leads sound = subst (λ (l : List Parts). IsLog (l ++ q ∷ [])) (sym ends.1) (added ends.0 p q (subst IsLog ends.1 is) leads sound)
 
+-- each state of a log is sound, and so is the last
+sound_on : (x : Parts) (l : List Parts) (p : Parts) → goes_on x (l ++ p ∷ []) → IsSound p
+sound_on x [] p is = is.0.1
+sound_on x (y ∷ l) p is = sound_on y l p is.1
+
+sound_in : (earlier : List Parts) (p : Parts) → IsLog (earlier ++ p ∷ []) → IsSound p
+sound_in [] p is = is.0
+sound_in (x ∷ l) p is = sound_on x l p is.1
+
+pub sound_last : (log : List Parts) (p : Parts) → EndsWith log p → IsLog log → IsSound p
+sound_last log p ends is = sound_in ends.0 p (subst IsLog ends.1 is)
+
 pub log_as : (a b : List Parts) → a ≡ b → IsLog b → IsLog a
 log_as a b e is = subst IsLog (sym e) is
 

@@ -40,6 +40,7 @@ takes_in {C} says x mid y piece part result p q reads unread stores may own rest
 pub piece_taken : {C : Type 0} (result : Result (Option NoCacheReason) ErrorType) (says : Says) (x y : Put C) (piece : Piece) (p q : Parts) → TakesIn result says x y piece p q → Leads p q
 piece_taken result says x y piece p q row = record {
   limits = ap (λ (r : Parts). r.limits) row.rest;
+  weighing = ap (λ (r : Parts). r.weighing) row.rest;
   past = grew_by (put_past x row.step.0 result p.store) p.past q.past (put_keeps (kept_by_notes p.past) x row.step.0 result p.store) row.step.3;
   deeds = grew_same p.deeds q.deeds (ap (λ (r : Parts). r.deeds) row.rest);
 }
@@ -56,6 +57,7 @@ put_any (Err e) (inr (inr is)) so = so (put_end.Withdrawn e) is
 pub put_ended : {C : Type 0} (result : Result PutOutcome ErrorType) (x y : Put C) (p q : Parts) → EndsPutOf result x y p q → MayEndPut p.store x → Leads p q
 put_ended result x y p q row may = record {
   limits = ap (λ (r : Parts). r.limits) row.rest;
+  weighing = ap (λ (r : Parts). r.weighing) row.rest;
   past = put_any result (row.ended may) (λ how is. ends_put_keeps (kept_by_notes p.past) in_memory x.key x.stage how (Some p.past) (Some q.past) is.1 (grew_not p.past));
   deeds = grew_same p.deeds q.deeds (ap (λ (r : Parts). r.deeds) row.rest);
 }

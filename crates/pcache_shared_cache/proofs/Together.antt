@@ -14,7 +14,7 @@ use Rattle.pcache_shared_cache.specs.Shared.{OfPart}
 use Rattle.pcache_shared_cache.proofs.Adding.{add_up}
 
 abbrev pub Kept : Parts → Type 0
-Kept p = IsKept p.limits p.tracked p.store
+Kept p = IsKept p.weighing p.limits p.tracked p.store
 
 pub within : (ps : List Parts) → All Kept ps → sum_by (λ (p : Parts). stored_bytes p.store) ps ≤ whole_weight (map (λ (p : Parts). p.limits) ps)
 within [] all = omega arith

@@ -1,12 +1,14 @@
 -- What each call of a request does to the state of its part, from p to q, with this result: what `Cache`'s call of the same name
 -- says. The request is r before it and, where the call changes it, s after it (own).
-use Rattle.std.specs.Prelude.{◌≡◌, ◌⊎◌, ℕ, Bool, true, List, Option, Some, IfErr, IfOk, IfSome, IsTrue, OnErr, OnOk, Result, option_map}
+use Rattle.std.specs.Prelude.{◌≡◌, ◌⊎◌, ℕ, Bool, true, List, Option, Some, IfErr, IfOk, IfSome, OnErr, OnOk, Result, option_map}
 use Rattle.pcache_base.specs.Key.{slot}
 use Rattle.pcache_base.specs.declared.error.ErrorType.{ErrorType}
 use Rattle.pcache_base.specs.declared.error.ErrorType.TheVariants.{InternalError, OutOfMemory}
 use Rattle.pcache_base.specs.declared.poll.Poll.{Poll}
 use Rattle.pcache_base.specs.declared.reason.NoCacheReason.{NoCacheReason}
 use Rattle.pcache_cache.specs.Parts.{Adds, MayEnd, Parts, takes_bytes, tracked_at_end, written_by, written_past}
+use Rattle.pcache_cache.specs.Renewing.{Renews, stock}
+use Rattle.pcache_cache.specs.Weighing.{entered}
 use Rattle.pcache_lock.specs.Locks.{MayFailLock}
 use Rattle.pcache_lock.specs.declared.lock.outcome.LockWaitOutcome.{LockWaitOutcome}
 use Rattle.pcache_lock.specs.declared.lock.permit.WritePermit.{WritePermit}
@@ -18,14 +20,13 @@ use Rattle.pcache_request.specs.LockPasts.{end_deeds, found_deeds, handed_deeds,
 use Rattle.pcache_request.specs.LockUse.{published_by, table_handed}
 use Rattle.pcache_request.specs.LockWaits.{table_waited, wait_result, waited}
 use Rattle.pcache_request.specs.Releasing.{status_for}
-use Rattle.pcache_request.specs.Renewals.{has_body, renewed_by, with_meta_of}
+use Rattle.pcache_request.specs.Renewals.{renewed_by}
 use Rattle.pcache_request.specs.Requests.{Request, dropped_by, found_row, is_removed_by, left_by, settled, store_begun, store_found, table_found, tracked_found, tracked_gone_for, write_begun}
-use Rattle.pcache_request.specs.StorePasts.{EndsRequestPast, dropped_past, expired_past, left_past, purged_past, renewed_past, searched_past, taken_past, writing_past}
+use Rattle.pcache_request.specs.StorePasts.{EndsRequestPast, dropped_past, expired_past, left_past, purged_past, searched_past, taken_past, writing_past}
 use Rattle.pcache_request.specs.Variants.{looked_for, searched, seen_for, table_looked_for, table_varied}
-use Rattle.pcache_request.specs.WriteEnds.{Ends, EndsAs, evicted_after, finishes_of}
+use Rattle.pcache_request.specs.WriteEnds.{Ends, EndsAs, evicted_after}
 use Rattle.pcache_request.specs.declared.cache.finish.FinishReport.{FinishReport}
 use Rattle.pcache_request.specs.declared.phase.HitStatus.{HitStatus}
-use Rattle.pcache_store.specs.Finishes.{created}
 use Rattle.pcache_store.specs.Notes.{leave_noted, noted}
 use Rattle.pcache_store.specs.Purge.{expire_outcome, expired_at, purge_outcome, purged_at}
 use Rattle.pcache_store.specs.Readers.{in_memory, reader_of}
@@ -73,12 +74,13 @@ pub record Writes (result : Result Bool ErrorType) (bytes : List ℕ) (eof : Boo
 -- the write ends, if it is one of this part; if not, the call fails, and nothing changes
 pub record EndsWriteOf (result : Result (Option FinishReport) ErrorType) (r : Request) (p q : Parts) : Type 0 where
   pub ended :
-      MayEnd p.store r → EndsAs result (λ end. Ends in_memory r r.key r.write (finishes_of (created p.store) r.write) p.limits end p.store q.store (tracked_at_end p r end) q.tracked p.locks q.locks
+      MayEnd p.store r → EndsAs result (λ end. Ends in_memory r r.key r.write (entered p.weighing p.store r.write) p.limits end p.store q.store (tracked_at_end p r end) q.tracked p.locks q.locks
       × EndsRequestPast in_memory r.key r.write end (Some p.past) (Some q.past)
       × Adds (end_deeds r.write r.held end) p.deeds q.deeds
-      × (q.evicted ≡ evicted_after r r.key (finishes_of (created p.store) r.write) (tracked_at_end p r end) p.evicted end))
+      × (q.evicted ≡ evicted_after r r.key (entered p.weighing p.store r.write) (tracked_at_end p r end) p.evicted end))
   pub refused : (MayEnd p.store r → ⊥) → OnOk result ⊥ × IfErr result (λ e. e ≡ InternalError) × (q ≡ p)
   pub limits : q.limits ≡ p.limits
+  pub weighing : q.weighing ≡ p.weighing
 
 -- the key is looked up, with this pair
 pub record LooksUp (result : Result (Option (Meta × MemHitHandler)) ErrorType) (now : ℕ) (r s : Request) (p q : Parts) : Type 0 where
@@ -109,6 +111,7 @@ pub record TakesFound (result : Result (Unit {0}) ErrorType) (status : HitStatus
   pub counted : OnErr result ((q.tracked ≡ p.tracked) ⊎ (q.tracked ≡ tracked_found status h (write_read h) r p.tracked))
   pub kind : IfErr result (λ e. MayFailLock p.locks e)
   pub limits : q.limits ≡ p.limits
+  pub weighing : q.weighing ≡ p.weighing
   pub evicted : q.evicted ≡ p.evicted
 
 -- a reader is let go
@@ -165,16 +168,11 @@ pub record Publishes {A : Type 0} (result : Result A ErrorType) (tokens : List �
   pub rest : q ≡ record p { locks = q.locks; deeds = q.deeds }
 
 -- the stale body gets the meta of a response that says that it is still valid
-pub record Renews (result : Result Bool ErrorType) (m : Meta) (r : Request) (p q : Parts) : Type 0 where
-  pub there : IfOk result (λ b. b ≡ has_body p.store r.key)
-  pub store : OnOk result (q.store ≡ with_meta_of (renewed_by m r.meta) r.key p.store)
-  pub past : OnOk result (Adds (renewed_past m r) p.past q.past)
-  pub same_store : OnErr result (q.store ≡ p.store)
-  pub same_past : OnErr result (q.past ≡ p.past)
-  pub something : OnErr result (IsTrue (has_body p.store r.key))
+pub record Revalidates (result : Result Bool ErrorType) (m : Meta) (r : Request) (p q : Parts) : Type 0 where
+  pub renews : Renews p.weighing p.limits (renewed_by m r.meta) r.key result (stock p) (stock q)
   pub locks : q.locks ≡ settled Done r.held p.locks
   pub deeds : Adds (settled_deeds Done r.held) p.deeds q.deeds
-  pub rest : q ≡ record p { store = q.store; past = q.past; locks = q.locks; deeds = q.deeds }
+  pub rest : q ≡ record p { store = q.store; past = q.past; tracked = q.tracked; evicted = q.evicted; locks = q.locks; deeds = q.deeds }
 
 -- what the response varies on is set
 pub record Varies (variance : Option (List ℕ)) (r : Request) (p q : Parts) : Type 0 where

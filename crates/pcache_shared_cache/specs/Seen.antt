@@ -4,6 +4,7 @@ use Rattle.std.specs.Prelude.{◌≡◌, ◌⊎◌, ℕ, Option, Some, IfSome, L
 use mathlib.Core.List.{IsPrefix}
 use Rattle.pcache_cache.specs.Growing.{Grew}
 use Rattle.pcache_cache.specs.Parts.{Parts, IsBounded, TracksExactly}
+use Rattle.pcache_cache.specs.declared.weighing.Weighing.TheVariants.{Entries}
 use Rattle.pcache_evict.specs.Tracked.{Limits}
 use Rattle.pcache_lock.specs.PastLaws.{AtMostOneWaits, GivesByPast, OneFetchAtATime}
 use Rattle.pcache_store.specs.PastLaws.{BodiesAreLast, BodiesGrow, Finds, Finishes, FoundIsOfItsWrite, NothingIsLost, PurgedIsGone, ReadsInOrder}
@@ -34,7 +35,7 @@ abbrev pub EndsWith : List Parts → Parts → Type 0
 EndsWith log p = (earlier : List Parts) × (log ≡ earlier ++ p ∷ [])
 
 -- What holds of each state, as `Cache::headline` says it: of its store by its past, of its locks by its deeds, and of what is
--- tracked.
+-- tracked. An entry weighs all that is kept for it.
 pub record IsSound (p : Parts) : Type 0 where
   pub finds : Finds p.store p.past
   pub finishes : Finishes p.store p.past
@@ -44,16 +45,18 @@ pub record IsSound (p : Parts) : Type 0 where
   pub found : FoundIsOfItsWrite p.store p.past
   pub reads : ReadsInOrder p.store p.past
   pub grows : BodiesGrow p.store p.past
-  pub tracked : TracksExactly p.store p.tracked
-  pub bounded : IsBounded p.limits p.store
+  pub tracked : TracksExactly p.weighing p.store p.tracked
+  pub bounded : IsBounded p.weighing p.limits p.store
   pub one : AtMostOneWaits p.deeds
   pub gives : GivesByPast p.locks p.deeds
   pub fetches : OneFetchAtATime p.deeds
+  pub weighing : p.weighing ≡ Entries
 
--- a call led from the state p to q: no call changes a part's limits, and of what was done to the store and to the locks nothing is
+-- a call led from the state p to q: no call changes a part's limits or what its entries weigh, and of what was done to the store and to the locks nothing is
 -- forgotten
 pub record Leads (p q : Parts) : Type 0 where
   pub limits : q.limits ≡ p.limits
+  pub weighing : q.weighing ≡ p.weighing
   pub past : Grew p.past q.past
   pub deeds : Grew p.deeds q.deeds
 

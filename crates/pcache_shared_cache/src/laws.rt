@@ -19,10 +19,10 @@ pub fn portions_add_up()
 /// complete bodies is at most the sum of all limits, and their number at most the sum of all watermarks if each part has one.
 pub fn parts_keep_the_whole()
     ensures bytes { (ps : List Parts)
-        → All (λ p. IsKept p.limits p.tracked p.store) ps
+        → All (λ p. IsKept p.weighing p.limits p.tracked p.store) ps
         → sum_by (λ p. stored_bytes p.store) ps ≤ whole_weight (map (λ p. p.limits) ps) }
     ensures count { (ps : List Parts)
-        → All (λ p. IsKept p.limits p.tracked p.store) ps
+        → All (λ p. IsKept p.weighing p.limits p.tracked p.store) ps
         → IfSome (whole_watermark (map (λ p. p.limits) ps)) (λ most.
         sum_by (λ p. slots p.store) ps ≤ most) }
 {}

@@ -20,8 +20,9 @@ impl<K: Mark, const N: usize> SharedCache<Manager, K, N> {
     ghost use Rattle.pcache_base.specs.declared.error.ErrorType.TheVariants.{OutOfMemory};
     ghost use Rattle.pcache_shared_cache.specs.Portions.{portions, whole_weight};
 
-    /// An empty cache whose parts evict the least recently used bodies. The limit on the bytes of all bodies, and on their number
-    /// if one is given, is split evenly; the first parts get one more each, for the remainder. Permits age out after
+    /// An empty cache whose parts evict the least recently used bodies. The limit on what is kept for all responses (body, head and
+    /// 512 bytes beside them), and on their number if one is given, is split evenly; the first parts get one more each, for the
+    /// remainder. Permits age out after
     /// `age_timeout`. Fails when memory runs out. For marks that name no place; for others take `new_lists` and `SharedCache::over`.
     pub fn with_lists(
         alloc: Global,
@@ -41,8 +42,8 @@ impl<K: Mark, const N: usize> SharedCache<Manager, K, N> {
     }
 }
 
-/// So many parts that are to be made, for `over_parts`, which evict the least recently used bodies. The limit on the bytes of
-/// all bodies, and on their number if one is given, is split evenly; the first parts get one more each, for the remainder. Fails when
+/// So many parts that are to be made, for `over_parts`, which evict the least recently used bodies. The limit on what is kept for
+/// all responses, and on their number if one is given, is split evenly; the first parts get one more each, for the remainder. Fails when
 /// memory runs out.
 pub fn new_lists(
     alloc: Global,

@@ -103,6 +103,7 @@ impl<K: Mark> Model for PartLog<K> {
 impl<K: Mark> PartLog<K> {
     ghost use Rattle.std.specs.Prelude.{◌≡◌, [], ◌∷◌, ◌++◌};
     ghost use Rattle.pcache_cache.specs.Parts.{Parts};
+    ghost use Rattle.pcache_cache.specs.declared.weighing.Weighing.TheVariants.{Entries};
     ghost use Rattle.pcache_shared_cache.specs.Seen.{Begins, EndsWith, IsNamed, Leads, Looks, Moves};
 
     // The log of a part that begins in the state of this cache.
@@ -113,6 +114,7 @@ impl<K: Mark> PartLog<K> {
     ) -> PartLog<K>
         requires named { IsNamed (K.names place) keeper.name }
         requires empty { keeper.log ≡ [] }
+        requires weighing { cache.now.weighing ≡ Entries }
         ensures { result ≡ record { place = place; log = cache.now ∷ [] } }
     {
         cache.headline(); // for the prover

@@ -4,7 +4,7 @@ use crate::mark::Mark;
 use crate::opening::NewPart;
 use crate::portion::Portion;
 use pcache_base::seed::Seed;
-use pcache_cache::Cache;
+use pcache_cache::{Cache, Weighing};
 use pcache_evict::eviction::EvictionManager;
 use std::alloc::Global;
 use std::hint::spin_loop;
@@ -99,7 +99,7 @@ impl<M: EvictionManager, K: Mark> PartLock<M, K> {
         let (portion, keeper) = new_part.into_both();
         let limit = portion.limit();
         let watermark = portion.watermark();
-        let cache = Cache::new(alloc, seed, portion, age_timeout);
+        let cache = Cache::weighing(alloc, seed, portion, age_timeout, Weighing::Entries);
         let mut log = PartLog::new(place, keeper, &cache);
         PartLock {
             limit,
@@ -123,7 +123,8 @@ impl<M: EvictionManager, K: Mark> PartLock<M, K> {
     pub(crate) fn lock<R: Wait>(&self, rt: &R) -> MutexGuard<'_, Part<M, K>>
         ensures place { (mutex_guard_value result).place ≡ self.now.place }
         ensures limits { (mutex_guard_value result).now.limits ≡ self.now.limits }
-        ensures kept { IsKept (mutex_guard_value result).now.limits
+        ensures kept { IsKept (mutex_guard_value result).now.weighing
+            (mutex_guard_value result).now.limits
             (mutex_guard_value result).now.tracked (mutex_guard_value result).now.store }
     {
         // The first round returns (see the type); the test provides the clauses of the contract.

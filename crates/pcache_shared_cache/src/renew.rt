@@ -22,7 +22,7 @@ impl<M: EvictionManager, K: Mark, const N: usize> SharedCache<M, K, N> {
     ghost use Rattle.pcache_request.specs.Requests.{MayWrite};
     ghost use Rattle.pcache_request.specs.Stale.{MayRevalidate, uncacheable};
     ghost use Rattle.pcache_request.specs.Variants.{released_by_variance, varied};
-    ghost use Rattle.pcache_shared_cache.specs.Calls.{Releases, Renews, Varies};
+    ghost use Rattle.pcache_shared_cache.specs.Calls.{Releases, Revalidates, Varies};
     ghost use Rattle.pcache_shared_cache.specs.Seen.{Goes};
 
     /// `Cache::revalidate_cache_meta`: takes the meta of a response that says that the stale body is still valid.
@@ -35,7 +35,7 @@ impl<M: EvictionManager, K: Mark, const N: usize> SharedCache<M, K, N> {
     ) -> Result<bool>
         requires { MayRevalidate request.old.cache }
         ensures goes { Goes self.now K.names request.old.place request.old.seen request.new.seen
-            (Renews result meta request.old.cache) }
+            (Revalidates result meta request.old.cache) }
         ensures request { request.new.cache ≡ renewed meta request.old.cache }
         ensures place { request.new.place ≡ request.old.place }
         ensures kind { IfErr result (λ e. e ≡ OutOfMemory) }

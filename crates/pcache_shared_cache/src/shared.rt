@@ -22,7 +22,8 @@ use std::sync::Wait;
 use std::time::Duration;
 
 /// A cache in `N` parts, each a `Cache` behind a lock of its own. A key is in the part of its primary hash. Each part has at all
-/// times the invariant of a `Cache`, with the part's own limits. A contract sees the limits of the parts.
+/// times the invariant of a `Cache`, with the part's own limits, against which an entry counts with all that is kept for it
+/// (`Weighing::Entries`). A contract sees the limits of the parts.
 ///
 /// `K` is a mark, a type of the caller's that nothing else uses: a request of one cache cannot be used with the parts
 /// of another.

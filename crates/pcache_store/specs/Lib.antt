@@ -1,5 +1,6 @@
 pub mod Drafts
 pub mod Finishes
+pub mod Kept
 pub mod Noted
 pub mod Notes
 pub mod NotesCode

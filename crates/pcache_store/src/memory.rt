@@ -5,12 +5,13 @@ ghost use Rattle.pcache_base.specs.declared.error.ErrorType.TheVariants.{OutOfMe
 ghost use Rattle.pcache_base.specs.Key.{slot};
 ghost use Rattle.pcache_table.specs.Sharding.{part_of};
 ghost use Rattle.pcache_store.specs.Finishes.{body_number, created};
+ghost use Rattle.pcache_store.specs.Kept.{lengths, write_lengths};
 ghost use Rattle.pcache_store.specs.Notes.{added, leave_noted, look_noted, target_id};
 ghost use Rattle.pcache_store.specs.Past.{Dropped, Finished, Joined, Wrote};
 ghost use Rattle.pcache_store.specs.Readers.{in_memory, reader_of};
 ghost use Rattle.pcache_store.specs.Refusals.{MayFailFinish};
 ghost use Rattle.pcache_store.specs.Shards.{of_shard};
-ghost use Rattle.pcache_store.specs.Store.{Part, dropped, find, finished, is_untouched, is_write_under, left, wrote};
+ghost use Rattle.pcache_store.specs.Store.{Part, complete_body, dropped, find, finished, is_untouched, is_write_under, left, wrote};
 ghost use Rattle.pcache_store.specs.Totals.{stored_bytes, slots};
 
 mod bare;
@@ -185,6 +186,21 @@ impl MemCache {
         ensures { result ≡ body_number self.now.state (slot key.now) }
     {
         self.bare.body_number(key)
+    }
+
+    /// The lengths of the key's complete body and of the text of its head, in bytes, if there is one.
+    pub fn body_lengths(&self, key: &CacheKey) -> Option<(usize, usize)>
+        ensures { result
+            ≡ option_map lengths (complete_body (map.get self.now.state.slots (slot key.now))) }
+    {
+        self.bare.body_lengths(key)
+    }
+
+    // The lengths of a write's body so far and of the text of its head; zero if it has no record.
+    pub(crate) fn write_lengths(&self, slot: u128, number: u64) -> (usize, usize)
+        ensures { result ≡ write_lengths (map.get self.now.state.writes number) }
+    {
+        self.bare.write_lengths(slot, number)
     }
 
     /// The meta of what a look-up of the key finds, as it is kept: a copy of its bytes, which are not read. Fails only when

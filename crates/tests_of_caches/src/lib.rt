@@ -20,3 +20,5 @@ mod refills;
 mod requests;
 #[cfg(test)]
 mod waits;
+#[cfg(test)]
+mod weights;

@@ -9,7 +9,7 @@ use pcache_base::error::Result;
 use pcache_base::moment::Moment;
 use pcache_base::poll::Poll;
 use pcache_base::seed::Seed;
-use pcache_cache::{Cache, CacheRequest};
+use pcache_cache::{Cache, CacheRequest, Weighing};
 use pcache_evict::eviction::EvictionManager;
 use pcache_evict::eviction::simple_lru::Manager;
 use pcache_meta::header::ResponseHeader;
@@ -32,12 +32,18 @@ pub type Request = CacheRequest<OfTest>;
 
 /// A cache with nothing stored, in which bodies may have `limit` bytes together.
 pub fn list_of(alloc: Global, limit: usize) -> Result<List> {
+    list_weighing(alloc, limit, Weighing::Bodies)
+}
+
+/// The same in which entries weigh so.
+pub fn list_weighing(alloc: Global, limit: usize, weighing: Weighing) -> Result<List> {
     let seed = Seed::fixed();
-    Ok(Cache::new(
+    Ok(Cache::weighing(
         alloc,
         seed,
         Manager::new(alloc, seed, limit)?,
         Duration::from_secs(10),
+        weighing,
     ))
 }
 

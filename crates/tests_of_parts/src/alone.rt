@@ -1,5 +1,5 @@
 //! What one thread sees of a cache in parts.
-use crate::requests::{Lists, fill, finds, lists_of, place_of, purges};
+use crate::requests::{Lists, ROOM, fill, finds, lists_of, place_of, purges};
 use pcache_base::error::Result;
 use pcache_base::seed::Seed;
 use pcache_evict::eviction::EvictionManager;
@@ -44,7 +44,7 @@ fn have_their_places<R: Wait>(rt: &R, cache: &Lists) -> bool {
         && matches!(place_of(rt, cache, "one"), Ok(2))
 }
 
-// Each part keeps its own limit: of nine bytes the first part has three and the others two each.
+// Each part keeps its own limit: beside the room for an entry the first part has three of nine bytes, and the others two each.
 #[test]
 fn each_part_keeps_its_portion(rt: HostRuntime) -> Result<()> {
     let cache = lists_of(rt.alloc(), 9)?;
@@ -88,12 +88,12 @@ fn stores_two<R: Wait>(rt: &R, cache: &Lists) -> bool {
         && matches!(fill(rt, cache, "c", b"abc"), Ok(true))
 }
 
-// Of nine bytes the first part has three and the others two each.
+// The limit of each part, and what it tracks.
 fn track_both(portions: &[Portion<Manager>]) -> bool {
-    tracks(portions, 0, 3, 3)
-        && tracks(portions, 1, 2, 0)
-        && tracks(portions, 2, 2, 0)
-        && tracks(portions, 3, 2, 2)
+    tracks(portions, 0, ROOM + 3, ROOM + 3)
+        && tracks(portions, 1, ROOM + 2, 0)
+        && tracks(portions, 2, ROOM + 2, 0)
+        && tracks(portions, 3, ROOM + 2, ROOM + 2)
 }
 
 fn tracks(portions: &[Portion<Manager>], place: usize, limit: usize, weight: usize) -> bool {

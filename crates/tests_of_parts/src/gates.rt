@@ -2,7 +2,7 @@
 ghost use Rattle.std.specs.Prelude.{◌≡◌, IsSome};
 ghost use Rattle.pcache_request.specs.declared.phase.CachePhase.TheVariants.{CacheKey};
 
-use crate::requests::{NOW, Parts, Request, fill, finds, request_for};
+use crate::requests::{NOW, Parts, ROOM, Request, fill, finds, request_for};
 use bytes::Bytes;
 use pcache_base::error::Result;
 use pcache_base::moment::Moment;
@@ -152,11 +152,12 @@ impl<M: EvictionManager> EvictionManager for Gated<M> {
     }
 }
 
-// A portion of four bytes, whose first admission passes the gate.
+// A portion with room for an entry with four bytes, whose first admission passes the gate.
 fn portion_of(alloc: Global, gate: &Arc<Gate, Global>) -> Result<Portion<Gated<Manager>>> {
-    let list = Manager::new(alloc, Seed::fixed(), 4)?;
+    let limit = ROOM + 4;
+    let list = Manager::new(alloc, Seed::fixed(), limit)?;
     let gate = Arc::try_clone(gate)?;
-    Ok(Portion::new(Gated { list, gate }, 4, None))
+    Ok(Portion::new(Gated { list, gate }, limit, None))
 }
 
 fn parts_of(alloc: Global, gate: &Arc<Gate, Global>) -> Result<Parts<Gated<Manager>>> {

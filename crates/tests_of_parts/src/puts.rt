@@ -111,7 +111,7 @@ fn is_empty<R: Wait>(rt: &R, cache: &Lists) -> bool {
 
 #[test]
 fn a_pushed_body_is_stored_and_found(rt: HostRuntime) -> Result<()> {
-    let cache = lists_of(rt.alloc(), 16)?;
+    let cache = lists_of(rt.alloc(), 1_024)?;
     let is_there = pushed_and_found(&rt, &cache);
     assert!(rt; is_there);
     Ok(())
@@ -129,7 +129,7 @@ fn pushed_and_found<R: Wait>(rt: &R, cache: &Lists) -> bool {
 
 #[test]
 fn what_a_policy_declines_is_not_stored(rt: HostRuntime) -> Result<()> {
-    let cache = lists_of(rt.alloc(), 16)?;
+    let cache = lists_of(rt.alloc(), 1_024)?;
     let is_left_out = declines_are_told(&rt, &cache);
     assert!(rt; is_left_out);
     Ok(())
@@ -146,7 +146,7 @@ fn declines_are_told<R: Wait>(rt: &R, cache: &Lists) -> bool {
 
 #[test]
 fn a_body_over_its_limit_is_not_stored(rt: HostRuntime) -> Result<()> {
-    let cache = lists_of(rt.alloc(), 16)?;
+    let cache = lists_of(rt.alloc(), 1_024)?;
     let is_left_out = limits_are_kept(&rt, &cache);
     assert!(rt; is_left_out);
     Ok(())
@@ -192,7 +192,7 @@ fn push_over_and_over<R: Wait>(rt: &R, cache: &Lists, worker: usize) -> bool {
 }
 
 fn both_push<R: Threads + Wait + Sync>(rt: &R, alloc: Global) -> Result<bool> {
-    let cache = lists_of(alloc, 16)?;
+    let cache = lists_of(alloc, 1_024)?;
     let mut done = [false; 2];
     thread::for_each_mut(
         rt,
@@ -232,7 +232,7 @@ fn beside_a_policy<R: Wait>(
 
 fn goes_on_beside_a_policy<R: Threads + Wait + Sync>(rt: &R, alloc: Global) -> Result<bool> {
     let gate = Arc::new(alloc, Gate::new(1))?;
-    let cache = lists_of(alloc, 64)?;
+    let cache = lists_of(alloc, 1_024)?;
     let mut done = [false; 2];
     thread::for_each_mut(
         rt,

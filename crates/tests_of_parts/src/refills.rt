@@ -1,5 +1,5 @@
 //! A body that is stored again counts once in its part, and evicts nothing.
-use crate::requests::{Lists, fill, finds, lists_of, place_of, refill};
+use crate::requests::{Lists, ROOM, fill, finds, lists_of, place_of, refill};
 use pcache_base::error::Result;
 use std::sync::Wait;
 
@@ -18,7 +18,7 @@ fn neighbour<R: Wait>(rt: &R, cache: &Lists) -> Result<&'static str> {
     Ok("a")
 }
 
-// Each part has room for four bytes: for one body of two bytes beside the one that is stored again and again.
+// Each part has room for two entries with four bytes: for one body of two bytes beside the one that is stored again and again.
 fn leaves_the_other<R: Wait>(rt: &R, cache: &Lists) -> Result<bool> {
     let other = neighbour(rt, cache)?;
     let mut all = other != "a" && fill(rt, cache, other, b"hi")?;
@@ -30,7 +30,7 @@ fn leaves_the_other<R: Wait>(rt: &R, cache: &Lists) -> Result<bool> {
 
 #[test]
 fn a_refill_leaves_the_other_of_its_part(rt: HostRuntime) -> Result<()> {
-    let cache = lists_of(rt.alloc(), 16)?;
+    let cache = lists_of(rt.alloc(), 4 * ROOM + 16)?;
     let leaves = leaves_the_other(&rt, &cache)?;
     assert!(rt; leaves);
     Ok(())

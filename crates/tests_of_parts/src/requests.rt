@@ -31,8 +31,12 @@ pub type Lists = Parts<Manager>;
 /// A request of it.
 pub type Request = SharedRequest<Unnamed, 4>;
 
-/// A cache with nothing stored, in which bodies may have `limit` bytes together.
-pub fn lists_of(alloc: Global, limit: usize) -> Result<Lists> {
+/// What an entry weighs beside its body, if its head has no field: 16 bytes of text, and 512 for all that is kept beside.
+pub const ROOM: usize = 528;
+
+/// A cache with nothing stored, with room for an entry in each part and for `bodies` bytes of their bodies together.
+pub fn lists_of(alloc: Global, bodies: usize) -> Result<Lists> {
+    let limit = 4 * ROOM + bodies;
     Lists::with_lists(alloc, Seed::fixed(), limit, None, Duration::from_secs(10))
 }
 

@@ -8,7 +8,7 @@ ghost use Rattle.pcache_store.specs.Purge.{entry_purged};
 ghost use Rattle.pcache_store.specs.Refusals.{MayFailFinish};
 ghost use Rattle.pcache_store.specs.Store.{dropped, finished, is_untouched};
 ghost use Rattle.pcache_request.specs.Finishing.{PurgesAll, Admits, TakesAll, size_reported, with_entry};
-ghost use Rattle.pcache_request.specs.Replacing.{tracked_before, without_entry};
+ghost use Rattle.pcache_request.specs.Replacing.{tracked_before, weighed, without_entry};
 ghost use Rattle.pcache_request.specs.Reports.{entry_stored};
 ghost use Rattle.pcache_request.specs.Requests.{entry_of};
 ghost use Rattle.pcache_store.specs.Notes.{noted};
@@ -24,6 +24,15 @@ use pcache_base::moment::Moment;
 use pcache_evict::eviction::{CacheEntryId, CacheEntryKey, EvictionManager};
 use pcache_store::storage::{HandleMiss, MissFinishType, PurgeTarget, PurgeType, Storage};
 use std::alloc::Global;
+
+/// How the entry of a new body comes into the manager.
+#[derive(Clone, Copy, Debug, PartialEq, Eq)]
+pub struct Entering {
+    /// The number of the body that the new one replaces, whose entry is taken out first.
+    pub replaced: Option<CacheEntryId>,
+    /// The weight of the entry, if it is not what the storage returns at the end of the write.
+    pub weight: Option<usize>,
+}
 
 /// How a write ended.
 #[derive(Debug, Drop)]
@@ -49,8 +58,8 @@ fn has_purge_failed<S: Storage>(storage: &mut S, entry: &CacheEntryKey) -> bool
         .is_err()
 }
 
-// Purges each entry in order, and returns for how many that failed.
-fn purge_all<S: Storage>(storage: &mut S, entries: &[CacheEntryKey]) -> usize
+/// Purges each entry in order, and returns for how many that failed.
+pub fn purge_all<S: Storage>(storage: &mut S, entries: &[CacheEntryKey]) -> usize
     ensures purges { PurgesAll S.guarantees.numbers (S.state storage.old) entries.now result
         (S.state storage.new) }
     ensures past { TakesAll (entry_past S.guarantees.numbers) (S.past storage.old) entries.now
@@ -146,16 +155,18 @@ fn entry_and_key(
     Ok((entry, compact))
 }
 
-// Makes the entry and the key of a write, and then finishes it. If that fails, the write is
-// dropped.
+// Makes the entry and the key of a write, and then finishes it, which returns what its entry weighs. If that fails, the write
+// is dropped.
 fn finish_writer<S: Storage>(
     storage: &mut S,
     key: &CacheKey,
     writer: S::Miss,
+    weight: Option<usize>,
 ) -> Result<(CacheEntryKey, CompactCacheKey, MissFinishType)>
     ensures entry { IfOk result (λ p. p.0 ≡ entry_of key.now (S.Miss.entry_number writer)) }
     ensures compact { IfOk result (λ p. p.1 ≡ compact_of key.now) }
-    ensures answer { IfOk result (λ p. p.2 ≡ S.finishes storage.old (S.Miss.write writer)) }
+    ensures answer { IfOk result (λ p. p.2
+        ≡ weighed weight (S.finishes storage.old (S.Miss.write writer))) }
     ensures ok { OnOk result (S.state storage.new
         ≡ finished (S.state storage.old) (S.Miss.write writer)) }
     ensures past { OnOk result (S.past storage.new
@@ -176,8 +187,18 @@ fn finish_writer<S: Storage>(
             return Err(refused);
         }
     };
-    let kind = writer.finish(storage)?;
+    let kind = weighed(writer.finish(storage)?, weight);
     Ok((entry, compact, kind))
+}
+
+// What the end of a write returned, with this weight if one is given.
+fn weighed(kind: MissFinishType, weight: Option<usize>) -> MissFinishType
+    ensures { result ≡ weighed weight kind }
+{
+    match weight {
+        Some(weight) => MissFinishType::Created(weight),
+        None => kind,
+    }
 }
 
 fn reported_size(kind: MissFinishType) -> usize
@@ -218,7 +239,7 @@ fn remove_replaced<E: EvictionManager>(
 ///
 /// If the number of the body that the new one replaces is named, the entry of that body is taken out of the manager once the
 /// new body is stored, before the new entry is admitted: at no moment both are tracked. If the write is dropped, the old
-/// body stays, and so does its entry.
+/// body stays, and so does its entry. If a weight is given, the entry has it in place of what the storage returns.
 pub fn end_writer<S: Storage, E: EvictionManager>(
     alloc: Global,
     is_used: bool,
@@ -227,12 +248,14 @@ pub fn end_writer<S: Storage, E: EvictionManager>(
     key: &CacheKey,
     writer: S::Miss,
     fresh_until: Moment,
-    replaced: Option<CacheEntryId>,
+    entering: Entering,
 ) -> EndedWrite
     ensures end { EndsBody S.guarantees is_used (S.Miss.entry_number writer) HoldsNoLock key.now
-        (S.Miss.write writer) (S.finishes storage.old (S.Miss.write writer)) (E.limits eviction.old)
+        (S.Miss.write writer)
+        (weighed entering.weight (S.finishes storage.old (S.Miss.write writer)))
+        (E.limits eviction.old)
         result.end (S.state storage.old) (S.state storage.new)
-        (tracked_before is_used key.now replaced result.end (E.tracked eviction.old))
+        (tracked_before is_used key.now entering.replaced result.end (E.tracked eviction.old))
         (E.tracked eviction.new) }
     ensures past { EndsPast S.guarantees key.now (S.Miss.write writer) result.end
         (S.past storage.old) (S.past storage.new) }
@@ -240,13 +263,13 @@ pub fn end_writer<S: Storage, E: EvictionManager>(
         ≡ entry_stored (Some key.now) (S.Miss.entry_number writer) result.end }
     ensures evicted { E.evicted eviction.new
         ≡ evicted_by is_used (S.Miss.entry_number writer) key.now
-        (S.finishes storage.old (S.Miss.write writer))
-        (tracked_before is_used key.now replaced result.end (E.tracked eviction.old))
+        (weighed entering.weight (S.finishes storage.old (S.Miss.write writer)))
+        (tracked_before is_used key.now entering.replaced result.end (E.tracked eviction.old))
         (E.evicted eviction.old) result.end }
     ensures limits { E.limits eviction.new ≡ E.limits eviction.old }
 {
     let id = writer.entry_id();
-    let (entry, compact, kind) = match finish_writer(storage, key, writer) {
+    let (entry, compact, kind) = match finish_writer(storage, key, writer, entering.weight) {
         Ok(made) => made,
         Err(refused) => {
             return EndedWrite {
@@ -257,7 +280,7 @@ pub fn end_writer<S: Storage, E: EvictionManager>(
     };
     // Not before the finish, which may drop the write and leave the old body; and not after the admission, which would evict others
     // to make room for both.
-    let compact = remove_replaced(is_used, eviction, compact, replaced);
+    let compact = remove_replaced(is_used, eviction, compact, entering.replaced);
     match admit_and_purge(alloc, is_used, storage, eviction, entry, kind, fresh_until) {
         Ok(report) => EndedWrite {
             end: WriteEnd::Stored(report),

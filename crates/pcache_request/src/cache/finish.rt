@@ -3,18 +3,18 @@ ghost use Rattle.std.specs.Prelude.{◌≡◌};
 ghost use Rattle.pcache_lock.specs.Statuses.{IsReason};
 ghost use Rattle.pcache_request.specs.WriteEnds.{status_after};
 
-use super::ending::{EndedWrite, end_writer};
+use super::ending::{EndedWrite, Entering, end_writer};
 use super::report::{LockName, WriteReport};
 use super::{HttpCache, settle};
 use pcache_base::error::{Error, Result};
-use pcache_evict::eviction::{CacheEntryId, CacheEntryKey, EvictionManager};
+use pcache_evict::eviction::{CacheEntryKey, EvictionManager};
 use pcache_lock::lock::{CacheKeyLock, LockStatus};
 use pcache_store::storage::Storage;
 
 /// What the end of a write did.
 #[derive(Debug, Drop)]
 pub struct FinishReport {
-    /// The size that the storage returned.
+    /// The weight of the entry: what the storage returned, or the weight that was given in its place.
     pub size: usize,
     /// The entries that were evicted, in order.
     pub evicted: Vec<CacheEntryKey>,
@@ -54,7 +54,7 @@ impl<S: Storage> HttpCache<S> {
     ghost use Rattle.pcache_request.specs.Finishing.{after_finish};
     ghost use Rattle.pcache_request.specs.NoBody.{HasNoBodyFor, IfWithdrawn, LeavesNone};
     ghost use Rattle.pcache_request.specs.WriteEnds.{Ends, EndsAs, finishes_of, evicted_after};
-    ghost use Rattle.pcache_request.specs.Replacing.{tracked_before_end};
+    ghost use Rattle.pcache_request.specs.Replacing.{tracked_before_end, weighed};
     ghost use Rattle.pcache_request.specs.Reports.{name_of, entry_stored};
     ghost use Rattle.pcache_request.specs.LockPasts.{end_deeds, settled_deeds};
     ghost use Rattle.pcache_request.specs.StorePasts.{EndsRequestPast};
@@ -115,30 +115,33 @@ impl<S: Storage> HttpCache<S> {
         }
     }
 
-    /// `finish_miss_handler` that is told the number of the body which the new one replaces: the entry of that body is taken
-    /// out of the manager before the new one's is admitted, so that at no moment both are tracked.
+    /// `finish_miss_handler` that is told the number of the body which the new one replaces, and what the new entry weighs: the
+    /// entry of that body is taken out of the manager before the new one's is admitted, so that at no moment both are tracked.
     /// Requires the phase Miss or Expired; ask `phase().is_filling()`.
     pub fn finish_replacing<L: CacheKeyLock, E: EvictionManager>(
         &mut self,
         storage: &mut S,
         eviction: &mut E,
         lock: &mut L,
-        replaced: Option<CacheEntryId>,
+        entering: Entering,
     ) -> Result<Option<FinishReport>>
         requires { IsFilling self.old.phase }
         ensures request { self.new ≡ after_finish self.old }
         ensures ended { EndsAs result (λ end. Ends S.guarantees self.old self.old.key self.old.write
-            (finishes_of (S.finishes storage.old) self.old.write) (E.limits eviction.old) end
+            (weighed entering.weight (finishes_of (S.finishes storage.old) self.old.write))
+            (E.limits eviction.old) end
             (S.state storage.old) (S.state storage.new)
-            (tracked_before_end self.old self.old.key replaced end (E.tracked eviction.old))
+            (tracked_before_end self.old self.old.key entering.replaced end
+            (E.tracked eviction.old))
             (E.tracked eviction.new) (L.table lock.old) (L.table lock.new)
             × EndsRequestPast S.guarantees self.old.key self.old.write end (S.past storage.old)
             (S.past storage.new)
             × (L.past lock.new ≡ end_deeds self.old.write self.old.held end (L.past lock.old))
             × (E.evicted eviction.new
             ≡ evicted_after self.old self.old.key
-            (finishes_of (S.finishes storage.old) self.old.write)
-            (tracked_before_end self.old self.old.key replaced end (E.tracked eviction.old))
+            (weighed entering.weight (finishes_of (S.finishes storage.old) self.old.write))
+            (tracked_before_end self.old self.old.key entering.replaced end
+            (E.tracked eviction.old))
             (E.evicted eviction.old) end)) }
         ensures limits { E.limits eviction.new ≡ E.limits eviction.old }
         ensures withdrawn { IsTrue S.guarantees.purges
@@ -149,7 +152,7 @@ impl<S: Storage> HttpCache<S> {
             end,
             entry: _,
             released: _,
-        } = self.end_write_replacing(storage, eviction, lock, replaced);
+        } = self.end_write_replacing(storage, eviction, lock, entering);
         match end {
             WriteEnd::Nothing => Ok(None),
             WriteEnd::Stored(report) => Ok(Some(report)),
@@ -187,24 +190,30 @@ impl<S: Storage> HttpCache<S> {
         ensures withdrawn { IsTrue S.guarantees.purges
             → IfWithdrawn result.end (HasNoBodyFor (S.state storage.new) self.old.key) }
     {
-        self.end_write_replacing(storage, eviction, lock, None)
+        let entering = Entering {
+            replaced: None,
+            weight: None,
+        };
+        self.end_write_replacing(storage, eviction, lock, entering)
     }
 
-    /// `end_write` that is told the number of the body which the new one replaces, as `finish_replacing`.
+    /// `end_write` that is told how the new entry comes into the manager, as `finish_replacing`.
     /// Requires the phase Miss or Expired; ask `phase().is_filling()`.
     pub fn end_write_replacing<L: CacheKeyLock, E: EvictionManager>(
         &mut self,
         storage: &mut S,
         eviction: &mut E,
         lock: &mut L,
-        replaced: Option<CacheEntryId>,
+        entering: Entering,
     ) -> WriteReport
         requires { IsFilling self.old.phase }
         ensures request { self.new ≡ after_finish self.old }
         ensures end { Ends S.guarantees self.old self.old.key self.old.write
-            (finishes_of (S.finishes storage.old) self.old.write) (E.limits eviction.old) result.end
+            (weighed entering.weight (finishes_of (S.finishes storage.old) self.old.write))
+            (E.limits eviction.old) result.end
             (S.state storage.old) (S.state storage.new)
-            (tracked_before_end self.old self.old.key replaced result.end (E.tracked eviction.old))
+            (tracked_before_end self.old self.old.key entering.replaced result.end
+            (E.tracked eviction.old))
             (E.tracked eviction.new) (L.table lock.old) (L.table lock.new) }
         ensures past { EndsRequestPast S.guarantees self.old.key self.old.write result.end
             (S.past storage.old) (S.past storage.new) }
@@ -215,8 +224,9 @@ impl<S: Storage> HttpCache<S> {
             ≡ cond (is_some self.old.write) (option_map name_of self.old.held) None }
         ensures evicted { E.evicted eviction.new
             ≡ evicted_after self.old self.old.key
-            (finishes_of (S.finishes storage.old) self.old.write)
-            (tracked_before_end self.old self.old.key replaced result.end (E.tracked eviction.old))
+            (weighed entering.weight (finishes_of (S.finishes storage.old) self.old.write))
+            (tracked_before_end self.old self.old.key entering.replaced result.end
+            (E.tracked eviction.old))
             (E.evicted eviction.old) result.end }
         ensures limits { E.limits eviction.new ≡ E.limits eviction.old }
         ensures withdrawn { IsTrue S.guarantees.purges
@@ -238,7 +248,7 @@ impl<S: Storage> HttpCache<S> {
             key,
             writer,
             meta.fresh_until(),
-            replaced,
+            entering,
         );
         let released = self.settle_held(lock, status_after(&end));
         WriteReport::new(end, entry, released)

@@ -8,7 +8,7 @@ ghost use Rattle.pcache_base.specs.declared.error.ErrorType.TheVariants.{OutOfMe
 ghost use Rattle.pcache_meta.specs.Header.{shown_fields};
 ghost use Rattle.pcache_request.specs.Renewals.{LacksRoom, LacksRoomAfter, LacksRoomFor, added_all, field_renewed, fields_renewed, renewed_by, renewed_names, shown_values};
 
-use super::{HttpCache, Renewal, settle};
+use super::{HttpCache, LockName, Renewal, settle};
 use crate::phase::CachePhase;
 use http_header::{HeaderMap, HeaderMapError, HeaderValue, ValueIter};
 use pcache_base::error::{Error, ErrorType, Result};
@@ -208,6 +208,37 @@ impl<S: Storage> HttpCache<S> {
         self.phase = CachePhase::Revalidated;
         Renewal { updated, released }
     }
+
+    /// The part of `renew_meta` that needs no storage, which its caller is to tell of the new meta: the request goes on as
+    /// revalidated with it, and the permit is released as done. Returns the lock that was released.
+    /// Requires the phase Stale, and a meta; ask `may_revalidate()`.
+    pub fn renew_request<L: CacheKeyLock>(
+        &mut self,
+        lock: &mut L,
+        meta: CacheMeta,
+    ) -> Option<LockName>
+        requires { MayRevalidate self.old }
+        ensures request { self.new ≡ renewed meta self.old }
+        ensures table { L.table lock.new ≡ settled Done self.old.held (L.table lock.old) }
+        ensures deeds { L.past lock.new ≡ settled_deeds Done self.old.held (L.past lock.old) }
+        ensures released { result ≡ option_map name_of self.old.held }
+    {
+        let Some(old) = &self.meta else {
+            unreachable!()
+        };
+        let mut meta = meta;
+        renew(&mut meta, old);
+        self.meta = Some(meta);
+        self.phase = CachePhase::Revalidated;
+        settle(
+            self.alloc,
+            &self.key,
+            &mut self.held,
+            lock,
+            LockStatus::Done,
+        )
+    }
+
     /// The head of the stale response with the fields that the new response renews: Cache-Control,
     /// Expires, Cache-Tag, CDN-Cache-Control and ETag, each with the new response's values if it has
     /// any. Fails with `OutOfMemory` when memory runs out, and with `InternalError` only if the head

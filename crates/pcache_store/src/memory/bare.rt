@@ -6,6 +6,7 @@ ghost use Rattle.pcache_base.specs.Key.{slot};
 ghost use Rattle.pcache_table.specs.Sharding.{part_of};
 ghost use Rattle.pcache_store.specs.declared.storage.PurgeOutcome.TheVariants.{Expired};
 ghost use Rattle.pcache_store.specs.Finishes.{body_number, created};
+ghost use Rattle.pcache_store.specs.Kept.{lengths, write_lengths};
 ghost use Rattle.pcache_store.specs.Purge.{expire_outcome, expired_at, slot_expired, target_outcome, target_purged};
 ghost use Rattle.pcache_store.specs.Refusals.{MayFailFinish, MayFailWrite};
 ghost use Rattle.pcache_store.specs.Readers.{reader_of, slot_named};
@@ -134,6 +135,25 @@ impl BareStore {
         ensures { result ≡ body_number self.now (slot key.now) }
     {
         self.slots.get(key.slot())?.entry_id()
+    }
+
+    /// The lengths of the key's complete body and of the text of its head, in bytes, if there is one.
+    pub fn body_lengths(&self, key: &CacheKey) -> Option<(usize, usize)>
+        ensures { result
+            ≡ option_map lengths (complete_body (map.get self.now.slots (slot key.now))) }
+    {
+        let body = self.slots.body(key.slot())?;
+        Some((body.len(), body.head_len()))
+    }
+
+    /// The lengths of a write's body so far and of the text of its head, in bytes; zero if it has no record.
+    pub fn write_lengths(&self, slot: u128, number: u64) -> (usize, usize)
+        ensures { result ≡ write_lengths (map.get self.now.writes number) }
+    {
+        match self.drafts.get(slot, number) {
+            Some(draft) => (draft.len(), draft.head_len()),
+            None => (0, 0),
+        }
     }
 
     /// The meta of what a look-up of the key finds, as it is kept: a copy of its bytes, which are not read. Fails only when

@@ -4,6 +4,7 @@ ghost use Rattle.std.specs.FinMap as map;
 ghost use Rattle.pcache_base.specs.declared.error.ErrorType.TheVariants.{OutOfMemory};
 ghost use Rattle.pcache_meta.specs.Meta as meta_of;
 ghost use Rattle.pcache_table.specs.Numbers.{least};
+ghost use Rattle.pcache_store.specs.Kept.{head_size};
 ghost use Rattle.pcache_store.specs.Store.{opened_in, is_idle, with_meta, has_write, number_of_body, body_with, slot_without};
 
 use crate::memory::untouched::Untouched;
@@ -56,6 +57,13 @@ impl Body {
         self.meta.copied(alloc)
     }
 
+    // The length of the text of its head, as it is kept.
+    pub(crate) fn head_len(&self) -> usize
+        ensures { result ≡ head_size self.now.meta }
+    {
+        head_len(&self.meta)
+    }
+
     // The meta, read back, and the bytes, which are shared.
     pub(crate) fn shared(&self, alloc: Global) -> Result<(CacheMeta, Bytes)>
         ensures ok { IfOk result (λ p. p ≡ (self.now.meta, self.now.bytes)) }
@@ -91,6 +99,14 @@ impl Body {
         self.meta = SpelledMeta::new(alloc, &meta)?;
         Ok(())
     }
+}
+
+// The length of the text of a meta's head, as it is kept.
+pub(crate) fn head_len(meta: &SpelledMeta) -> usize
+    ensures { result ≡ head_size meta.now }
+{
+    let (_internal, header) = meta.strings();
+    header.len()
 }
 
 /// The slot of a key: its complete body, and the numbers of its writes in flight that met no

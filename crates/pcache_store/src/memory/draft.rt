@@ -1,9 +1,10 @@
 //! The record of a write.
 ghost use Rattle.std.specs.Prelude.{◌≡◌, ◌<◌, ◌≤◌, ◌+◌, ◌-◌, ◌^◌, ◌++◌, ◌&&◌, not, ℕ, Option, Some, None, List, IfOk, IfErr, OnOk, OnErr, length, drop, true, false};
 ghost use Rattle.pcache_base.specs.declared.error.ErrorType.TheVariants.{OutOfMemory};
+ghost use Rattle.pcache_store.specs.Kept.{head_size};
 ghost use Rattle.pcache_store.specs.Store.{new_write, is_named};
 
-use crate::memory::body::Body;
+use crate::memory::body::{Body, head_len};
 use crate::memory::draft_text::DraftText;
 use bytes::Bytes;
 use pcache_base::entry_id::CacheEntryId;
@@ -62,6 +63,13 @@ impl Draft {
         ensures kind { IfErr result (λ e. e ≡ OutOfMemory) }
     {
         self.meta.copied(alloc)
+    }
+
+    // The length of the text of its head, as it is kept.
+    pub(crate) fn head_len(&self) -> usize
+        ensures { result ≡ head_size self.now.meta }
+    {
+        head_len(&self.meta)
     }
 
     // The number that the meta has.

@@ -1,5 +1,7 @@
 //! Handlers of writes of the store in memory.
 ghost use Rattle.std.specs.Prelude.{◌≡◌, ◌<◌, ◌^◌, Some, None, ℕ};
+ghost use Rattle.std.specs.FinMap as map;
+ghost use Rattle.pcache_store.specs.Kept.{write_lengths};
 ghost use Rattle.pcache_store.specs.Tag.{number_of_tag};
 
 use crate::memory::MemCache;
@@ -34,6 +36,13 @@ impl MemMissHandler {
         ensures { result ≡ self.now.number }
     {
         self.number
+    }
+
+    /// The lengths of the write's body so far and of the text of its head, in bytes.
+    pub fn lengths(&self, store: &MemCache) -> (usize, usize)
+        ensures { result ≡ write_lengths (map.get store.now.state.writes self.now.number) }
+    {
+        store.write_lengths(self.slot, self.number)
     }
 }
 

@@ -12,6 +12,7 @@ returns-in-Ok-Some c =
         request = c.finish_miss_handler.ensures.request;
         ended = rw c.in-Ok-Some.field-0-is at c.in-Ok-Some.ensures.ended;
         limits = c.finish_miss_handler.ensures.limits;
+        weighing = c.finish_miss_handler.ensures.weighing;
         rest = (refl, refl, refl);
       },
     )

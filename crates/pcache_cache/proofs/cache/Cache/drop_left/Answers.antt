@@ -7,6 +7,6 @@ pub invariant_of-self : goal.invariant_of-self
 invariant_of-self g c =
     let limits = g.M.EvictionManager.limits c.self.inside.manager in
     let tracked = g.M.EvictionManager.tracked c.self.inside.manager in (
-      kept_dropped limits tracked c.self.inside.store.state c.drop_writer.new.store.state c.args.left (c.drop_writer.ensures.store ∙ ap (λ w. dropped_by w c.self.inside.store.state) c.into_writer.ensures) c.self.invariant.0,
+      kept_dropped c.self.inside.weighing limits tracked c.self.inside.store.state c.drop_writer.new.store.state c.args.left (c.drop_writer.ensures.store ∙ ap (λ w. dropped_by w c.self.inside.store.state) c.into_writer.ensures) c.self.invariant.0,
       c.self.invariant.1,
     )

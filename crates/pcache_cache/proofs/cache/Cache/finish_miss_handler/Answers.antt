@@ -1,4 +1,5 @@
-use Rattle.std.proofs.Common.{subst, sym, ◌∙◌, Some}
+use Rattle.std.proofs.Common.{ap, subst, sym, ◌∙◌, Some}
+use Rattle.pcache_cache.specs.Weighing.{ending_weight}
 use Rattle.pcache_cache.specs.Parts.{IsKept, MayEnd, Parts}
 use Rattle.pcache_cache.proofs.Ended.{kept_finished, same-number}
 use Rattle.pcache_cache.proofs.Unlocking.{if_ended}
@@ -8,8 +9,8 @@ use Rattle.pcache_cache.proofs.cache.Cache.finish_miss_handler.Goals as goal
 pub invariant_of-self : goal.invariant_of-self
 invariant_of-self g c =
     let tracked = g.M.EvictionManager.tracked in (
-      subst (λ l. IsKept l (tracked c.finish_replacing.new.eviction) c.finish_replacing.new.storage.state) (sym c.finish_replacing.ensures.limits)
-          (kept_finished (g.M.EvictionManager.limits c.self.inside.manager) c.args.request.now.cache c.replaced_by-replaced.result c.self.inside.store.state c.finish_replacing.new.storage.state (tracked c.self.inside.manager) (tracked c.finish_replacing.new.eviction) c.self.inside.lock.table c.finish_replacing.new.lock.table c.finish_replacing.result
-          (subst (λ (p : Parts). MayEnd p.store c.args.request.now.cache) (sym c.self.view_is) c.requires.own) (sym c.writer-writer.ensures.entry ∙ same-number _ c.writer-writer.result ∙ c.writer-writer.ensures.write) (each_end c.finish_replacing.result (λ how is. is.0) c.finish_replacing.ensures.ended) c.self.invariant.0),
+      subst (λ l. IsKept c.self.inside.weighing l (tracked c.finish_replacing.new.eviction) c.finish_replacing.new.storage.state) (sym c.finish_replacing.ensures.limits)
+          (kept_finished c.self.inside.weighing (g.M.EvictionManager.limits c.self.inside.manager) c.args.request.now.cache c.replaced_by.result c.ending_weight.result c.self.inside.store.state c.finish_replacing.new.storage.state (tracked c.self.inside.manager) (tracked c.finish_replacing.new.eviction) c.self.inside.lock.table c.finish_replacing.new.lock.table c.finish_replacing.result
+          (subst (λ (p : Parts). MayEnd p.store c.args.request.now.cache) (sym c.self.view_is) c.requires.own) (sym c.writer-writer.ensures.entry ∙ same-number _ c.writer-writer.result ∙ c.writer-writer.ensures.write) (c.ending_weight.ensures ∙ ap (ending_weight c.self.inside.weighing c.self.inside.store.state) c.writer-writer.ensures.write) (each_end c.finish_replacing.result (λ how is. is.0) c.finish_replacing.ensures.ended) c.self.invariant.0),
       if_ended c.finish_replacing.result c.args.request.now.cache.write c.args.request.now.cache.held (Some c.self.inside.lock.past) (Some c.finish_replacing.new.lock.past) (each_end c.finish_replacing.result (λ how is. is.2) c.finish_replacing.ensures.ended) c.self.invariant.1,
     )

@@ -10,9 +10,9 @@ pub invariant_of-self : goal.invariant_of-self
 invariant_of-self g c =
     let tracked = g.M.EvictionManager.tracked in
     let put = c.args.put.now.put in (
-      subst (λ l. IsKept l (tracked c.finish_replacing.new.eviction) c.finish_replacing.new.storage.state) (sym c.finish_replacing.ensures.limits)
-          (kept_put_ended (g.M.EvictionManager.limits c.self.inside.manager) put.key put.parser put.stage c.body_number-replaced.result c.self.inside.store.state c.finish_replacing.new.storage.state (tracked c.self.inside.manager) (tracked c.finish_replacing.new.eviction) c.finish_replacing.result
+      subst (λ l. IsKept c.self.inside.weighing l (tracked c.finish_replacing.new.eviction) c.finish_replacing.new.storage.state) (sym c.finish_replacing.ensures.limits)
+          (kept_put_ended c.self.inside.weighing (g.M.EvictionManager.limits c.self.inside.manager) put.key put.parser put.stage c.body_number.result c.put_weight.result c.self.inside.store.state c.finish_replacing.new.storage.state (tracked c.self.inside.manager) (tracked c.finish_replacing.new.eviction) c.finish_replacing.result
           (sym c.writer-writer.ensures.entry ∙ same-number _ c.writer-writer.result ∙ c.writer-writer.ensures.write)
-          (subst (λ (p : Parts). is_own_write p.store (Some put.key) (write_in put.stage) ≡ true) (sym c.self.view_is) c.requires.own) (each_put_end c.finish_replacing.result (λ how is. is.0) c.finish_replacing.ensures.ended) c.self.invariant.0),
+          (subst (λ (p : Parts). is_own_write p.store (Some put.key) (write_in put.stage) ≡ true) (sym c.self.view_is) c.requires.own) c.put_weight.ensures (each_put_end c.finish_replacing.result (λ how is. is.0) c.finish_replacing.ensures.ended) c.self.invariant.0),
       c.self.invariant.1,
     )

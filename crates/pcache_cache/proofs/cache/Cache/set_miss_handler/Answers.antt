@@ -10,7 +10,7 @@ invariant_of-self g c =
     let r = c.args.request.now.cache in
     let call = c.set_miss_handler in
     let new = call.new in (
-      kept_beginning (g.M.EvictionManager.limits inside.manager) (g.M.EvictionManager.tracked inside.manager) inside.store.state new.storage.state (Some inside.store.past) (Some new.storage.past) inside.lock.table new.lock.table (Some inside.lock.past) (Some new.lock.past) r new.self call.result call.ensures.store call.ensures.err c.self.invariant.0,
+      kept_beginning inside.weighing (g.M.EvictionManager.limits inside.manager) (g.M.EvictionManager.tracked inside.manager) inside.store.state new.storage.state (Some inside.store.past) (Some new.storage.past) inside.lock.table new.lock.table (Some inside.lock.past) (Some new.lock.past) r new.self call.result call.ensures.store call.ensures.err c.self.invariant.0,
       if_begun call.result inside.store.state new.storage.state (Some inside.store.past) (Some new.storage.past) inside.lock.table new.lock.table (Some inside.lock.past) (Some new.lock.past) r new.self call.ensures.deeds call.ensures.err c.self.invariant.1,
     )
 

@@ -7,7 +7,7 @@ pub invariant_of-self : goal.invariant_of-self
 invariant_of-self g c =
     let limits = g.M.EvictionManager.limits c.self.inside.manager in
     let tracked = g.M.EvictionManager.tracked c.self.inside.manager in (
-      subst (λ l. IsKept l (g.M.EvictionManager.tracked c.spawn_async_purge.new.eviction) c.spawn_async_purge.new.storage.state) (sym c.spawn_async_purge.ensures.limits)
-          (kept_removed limits tracked (g.M.EvictionManager.tracked c.spawn_async_purge.new.eviction) c.self.inside.store.state c.spawn_async_purge.new.storage.state c.args.request.now.cache.uses.eviction c.args.request.now.cache.key c.spawn_async_purge.result c.spawn_async_purge.ensures.store c.spawn_async_purge.ensures.tracked c.spawn_async_purge.ensures.same_store c.spawn_async_purge.ensures.same_tracked c.self.invariant.0),
+      subst (λ l. IsKept c.self.inside.weighing l (g.M.EvictionManager.tracked c.spawn_async_purge.new.eviction) c.spawn_async_purge.new.storage.state) (sym c.spawn_async_purge.ensures.limits)
+          (kept_removed c.self.inside.weighing limits tracked (g.M.EvictionManager.tracked c.spawn_async_purge.new.eviction) c.self.inside.store.state c.spawn_async_purge.new.storage.state c.args.request.now.cache.uses.eviction c.args.request.now.cache.key c.spawn_async_purge.result c.spawn_async_purge.ensures.store c.spawn_async_purge.ensures.tracked c.spawn_async_purge.ensures.same_store c.spawn_async_purge.ensures.same_tracked c.self.invariant.0),
       c.self.invariant.1,
     )

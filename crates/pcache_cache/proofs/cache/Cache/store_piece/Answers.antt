@@ -6,6 +6,6 @@ invariant_of-self g c =
     let limits = g.M.EvictionManager.limits c.self.inside.manager in
     let tracked = g.M.EvictionManager.tracked c.self.inside.manager in
     let step = c.store_in.ensures.step in (
-      kept_fed limits tracked c.self.inside.store.state c.store_in.new.store.state c.args.put.now.put.key c.args.put.now.put.stage step.0.began step.0.wrote c.store_in.result step.2 c.self.invariant.0,
+      kept_fed c.self.inside.weighing limits tracked c.self.inside.store.state c.store_in.new.store.state c.args.put.now.put.key c.args.put.now.put.stage step.0.began step.0.wrote c.store_in.result step.2 c.self.invariant.0,
       c.self.invariant.1,
     )

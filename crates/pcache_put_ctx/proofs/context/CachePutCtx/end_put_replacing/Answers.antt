@@ -1,6 +1,7 @@
 use Rattle.std.proofs.Common.{◌≡◌, ◌∙◌, ap, sym, subst}
 use Rattle.pcache_base.specs.Key.{Key}
 use Rattle.pcache_request.specs.NoBody.{HasNoBody}
+use Rattle.pcache_request.specs.Replacing.{weighed_each}
 use Rattle.pcache_put_ctx.proofs.NoBody.{put_none}
 use Rattle.pcache_put_ctx.specs.Steps.{IfWithdrawn, tracked_before_put}
 use Rattle.pcache_put_ctx.specs.declared.report.PutReport.{PutReport}
@@ -29,6 +30,6 @@ returns-in-Body-clause-withdrawn g c = λ sure.
     let left = g.S.StoreMeaning.state c.end_body-end.new.storage in
     let writer = c.in-Body.filling.writer in
     let stage = InBody (g.S.Miss.HandleMiss.write writer) (g.S.Miss.HandleMiss.entry_number writer) c.in-Body.filling.fresh_until in
-    let none = put_none c.self.inside.intake.key c.self.inside.intake.parser (g.S.StoreMeaning.finishes c.args.storage.now) (g.E.EvictionManager.limits c.args.eviction.now) (g.S.StoreMeaning.state c.args.storage.now) left (tracked_before_put c.self.inside.intake.key c.args.replaced c.end_body-end.result.0 (g.E.EvictionManager.tracked c.args.eviction.now)) (g.E.EvictionManager.tracked c.end_body-end.new.eviction) g.S.StoreMeaning.guarantees sure stage c.end_body-end.result.0 c.end_body-end.ensures.ends in
+    let none = put_none c.self.inside.intake.key c.self.inside.intake.parser (weighed_each c.args.entering.weight (g.S.StoreMeaning.finishes c.args.storage.now)) (g.E.EvictionManager.limits c.args.eviction.now) (g.S.StoreMeaning.state c.args.storage.now) left (tracked_before_put c.self.inside.intake.key c.args.entering.replaced c.end_body-end.result.0 (g.E.EvictionManager.tracked c.args.eviction.now)) (g.E.EvictionManager.tracked c.end_body-end.new.eviction) g.S.StoreMeaning.guarantees sure stage c.end_body-end.result.0 c.end_body-end.ensures.ends in
     subst (λ (told : PutReport). IfWithdrawn told.end (HasNoBody left c.args.self.now.key)) (sym c.leave-in-Body.ensures.report)
     (subst (λ (k : Key). IfWithdrawn c.end_body-end.result.0 (HasNoBody left k)) (ap (λ (p : Put g.row.C.Denot). p.key) c.self.view_is) none)

@@ -7,9 +7,9 @@ pub invariant_of-result : goal.invariant_of-result
 invariant_of-result g c =
     let weight = sym c.limit-limit.ensures in
     let watermark = sym c.watermark-watermark.ensures in (
-      c.new-cache.result,
-      ap (λ (p : Parts). p.limits) c.new-cache.ensures ∙ (λ i. record { weight = weight i; watermark = watermark i }),
-      ap (λ (p : Parts). p.past) c.new-cache.ensures,
-      ap (λ (p : Parts). p.deeds) c.new-cache.ensures,
+      c.weighing-cache.result,
+      ap (λ (p : Parts). p.limits) c.weighing-cache.ensures ∙ (λ i. record { weight = weight i; watermark = watermark i }),
+      ap (λ (p : Parts). p.past) c.weighing-cache.ensures,
+      ap (λ (p : Parts). p.deeds) c.weighing-cache.ensures,
       ap (λ (v : Placed). v.log) (c.see.ensures.seen ∙ c.new-log.ensures),
     )

@@ -14,6 +14,7 @@ notes-requires g c =
     let r = c.into_request-request.result.cache in
     let leads : Leads p q = record {
       limits = ap (λ (x : Parts). x.limits) c.end-result.ensures.rest;
+      weighing = ap (λ (x : Parts). x.weighing) c.end-result.ensures.rest;
       past = grew_by (λ l. left_past r.reader (dropped_past r.write l)) p.past q.past (λ x is. left_keeps (kept_by_notes p.past) r.reader (dropped_past r.write x) (dropped_keeps (kept_by_notes p.past) r.write x is)) c.end-result.ensures.past;
       deeds = grew_by (let_go_deeds r.held) p.deeds q.deeds (let_go_keeps (kept_by_deeds p.deeds) r.held) c.end-result.ensures.deeds;
     } in

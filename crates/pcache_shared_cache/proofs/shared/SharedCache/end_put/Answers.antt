@@ -15,6 +15,7 @@ notes-requires g c =
     let w = c.into_left-left.result in
     let leads : Leads p q = record {
       limits = ap (λ (x : Parts). x.limits) c.drop_left.ensures.rest;
+      weighing = ap (λ (x : Parts). x.weighing) c.drop_left.ensures.rest;
       past = grew_by (dropped_past w) p.past q.past (dropped_keeps (kept_by_notes p.past) w) c.drop_left.ensures.past;
       deeds = grew_same p.deeds q.deeds (ap (λ (x : Parts). x.deeds) c.drop_left.ensures.rest);
     } in

@@ -3,7 +3,7 @@ use Rattle.std.specs.Duration.{as_nanos}
 use Rattle.pcache_evict.specs.Listed.{empty_list}
 use Rattle.pcache_c.specs.Opening.{new_cache}
 use Rattle.pcache_c.proofs.Changed.{good_some}
-use Rattle.pcache_c.proofs.caches.pcache_cache_new.Goals as goal
+use Rattle.pcache_c.proofs.caches.cache_weighing.Goals as goal
 
 pub returns-in-Ok : goal.returns-in-Ok
 returns-in-Ok c =
@@ -12,7 +12,7 @@ returns-in-Ok c =
     (λ s. inr (
       c.new-served.result,
       record {
-        parts = c.new-served.ensures.cache ∙ (ap (λ m. new_cache m (as_nanos c.from_millis-age_timeout.result)) manager ∙ ap (new_cache (empty_list c.args.limit _)) c.from_millis-age_timeout.ensures);
+        parts = c.new-served.ensures.cache ∙ (ap (λ m. new_cache c.args.weighing m (as_nanos c.from_millis-age_timeout.result)) manager ∙ ap (new_cache c.args.weighing (empty_list c.args.limit _)) c.from_millis-age_timeout.ensures);
         none = c.new-served.ensures.none;
       },
       c.fill.ensures,

@@ -1,10 +1,10 @@
 use Rattle.pcache_cache.proofs.Kept.{kept_none}
 use Rattle.std.proofs.Common.{subst, sym, refl}
 use Rattle.pcache_lock.specs.PastLaws.{UnlocksNone}
-use Rattle.pcache_cache.proofs.cache.Cache.new.Goals as goal
+use Rattle.pcache_cache.proofs.cache.Cache.weighing.Goals as goal
 
 pub invariant_of-result : goal.invariant_of-result
 invariant_of-result g c = (
-  kept_none (g.M.EvictionManager.limits c.args.manager) (g.M.EvictionManager.tracked c.args.manager) c.new.result.state c.new.ensures.state,
+  kept_none c.args.weighing (g.M.EvictionManager.limits c.args.manager) (g.M.EvictionManager.tracked c.args.manager) c.new.result.state c.new.ensures.state,
   subst UnlocksNone (sym c.new-2.ensures.past) refl,
 )
