@@ -36,7 +36,7 @@ pub const ROOM: usize = 528;
 
 /// A cache with nothing stored, with room for an entry in each part and for `bodies` bytes of their bodies together.
 pub fn lists_of(alloc: Global, bodies: usize) -> Result<Lists> {
-    let limit = 4 * ROOM + bodies;
+    let limit = bodies.saturating_add(4 * ROOM);
     Lists::with_lists(alloc, Seed::fixed(), limit, None, Duration::from_secs(10))
 }
 
