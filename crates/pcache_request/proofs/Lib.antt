@@ -3,3 +3,4 @@ pub mod NoBody
 pub mod Polled
 pub mod Purging
 pub mod Replacing
+pub mod Untracked

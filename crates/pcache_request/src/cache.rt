@@ -23,6 +23,7 @@ mod disable;
 pub mod ending;
 mod finish;
 mod found;
+mod found_tracked;
 mod lock_use;
 mod lock_wait;
 mod prediction;

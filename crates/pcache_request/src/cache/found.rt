@@ -104,7 +104,7 @@ impl<S: Storage> HttpCache<S> {
 
     // Takes the pair that a look-up found, whose use was recorded. Returns the lock that was asked
     // for. If that fails, the hit is let go.
-    fn place_found<L: CacheKeyLock>(
+    pub(super) fn place_found<L: CacheKeyLock>(
         &mut self,
         storage: &mut S,
         lock: &mut L,

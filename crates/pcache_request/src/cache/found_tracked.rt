@@ -1,0 +1,151 @@
+//! Taking the pair that a look-up found, where a use adds nothing to what the manager tracks.
+ghost use Rattle.std.specs.Prelude.{◌≡◌, IfErr, OnErr, true, false};
+ghost use Rattle.pcache_base.specs.declared.error.ErrorType.TheVariants.{OutOfMemory};
+ghost use Rattle.pcache_request.specs.Requests.{counts_hit};
+
+use super::{HttpCache, entry_for};
+use crate::phase::HitStatus;
+use pcache_base::error::Result;
+use pcache_base::key::CacheKey;
+use pcache_base::moment::Moment;
+use pcache_evict::eviction::{CacheEntryKey, EvictionManager};
+use pcache_lock::lock::CacheKeyLock;
+use pcache_meta::meta::CacheMeta;
+use pcache_store::storage::{HandleHit, Storage};
+
+// Records a use of an entry that is tracked. An access adds one that is not, which is taken out again: so an entry that is tracked,
+// as nearly all are, is looked up once.
+fn use_tracked<E: EvictionManager>(
+    eviction: &mut E,
+    entry: &CacheEntryKey,
+    weight: usize,
+    fresh_until: Moment,
+) -> Result<()>
+    ensures tracked { E.tracked eviction.new ≡ E.tracked eviction.old }
+    ensures limits { E.limits eviction.new ≡ E.limits eviction.old }
+    ensures evicted { E.evicted eviction.new ≡ E.evicted eviction.old }
+    ensures kind { IfErr result (λ e. e ≡ OutOfMemory) }
+{
+    let was_tracked = eviction.access(entry, weight, fresh_until)?;
+    if !was_tracked {
+        eviction.remove(entry);
+    }
+    Ok(())
+}
+
+// Records the use of a body that counts as accessed and is not treated as a miss.
+fn note_use<S: Storage, E: EvictionManager>(
+    eviction: &mut E,
+    key: &CacheKey,
+    meta: &CacheMeta,
+    hit: &S::Hit,
+    status: HitStatus,
+) -> Result<()>
+    ensures tracked { E.tracked eviction.new ≡ E.tracked eviction.old }
+    ensures unused { counts_hit status (S.Hit.reader hit.now) ≡ false
+        → eviction.new ≡ eviction.old }
+    ensures limits { E.limits eviction.new ≡ E.limits eviction.old }
+    ensures evicted { E.evicted eviction.new ≡ E.evicted eviction.old }
+    ensures counts { OnErr result (counts_hit status (S.Hit.reader hit.now) ≡ true) }
+    ensures kind { IfErr result (λ e. e ≡ OutOfMemory) }
+{
+    if !hit.should_count_access() || status.is_treated_as_miss() {
+        return Ok(());
+    }
+    let entry = entry_for(key, hit.entry_id())?;
+    use_tracked(
+        eviction,
+        &entry,
+        hit.get_eviction_weight(),
+        meta.fresh_until(),
+    )
+}
+
+impl<S: Storage> HttpCache<S> {
+    ghost use Rattle.std.specs.Prelude.{◌≡◌, ◌⊎◌, IfErr, OnOk, OnErr, IsTrue, false};
+    ghost use Rattle.pcache_base.specs.declared.error.ErrorType.TheVariants.{OutOfMemory, NumbersExhausted};
+    ghost use Rattle.pcache_lock.specs.Locks.{MayFailLock};
+    ghost use Rattle.pcache_store.specs.Store.{left};
+    ghost use Rattle.pcache_request.specs.Phases.{MayLookUp};
+    ghost use Rattle.pcache_request.specs.Requests.{found_row, asks_for_hit, counts_found, store_found, table_found};
+    ghost use Rattle.pcache_store.specs.Notes.{leave_noted, noted};
+    ghost use Rattle.pcache_request.specs.LockPasts.{found_deeds};
+    ghost use Rattle.pcache_request.specs.StorePasts.{taken_past};
+
+    // Records the use of the found entry, if a manager is in use and the hit counts and is not treated as a miss.
+    fn use_found<E: EvictionManager>(
+        &self,
+        eviction: &mut E,
+        meta: &CacheMeta,
+        hit: &S::Hit,
+        status: HitStatus,
+    ) -> Result<()>
+        requires { MayLookUp self.now.phase }
+        ensures tracked { E.tracked eviction.new ≡ E.tracked eviction.old }
+        ensures unused { counts_found status (S.Hit.reader hit.now) self.now ≡ false
+            → eviction.new ≡ eviction.old }
+        ensures limits { E.limits eviction.new ≡ E.limits eviction.old }
+        ensures evicted { E.evicted eviction.new ≡ E.evicted eviction.old }
+        ensures counts { OnErr result
+            (IsTrue (counts_found status (S.Hit.reader hit.now) self.now)) }
+        ensures kind { IfErr result (λ e. e ≡ OutOfMemory) }
+    {
+        let Some(key) = &self.key else { unreachable!() };
+        if !self.uses.eviction {
+            return Ok(());
+        }
+        note_use::<S, E>(eviction, key, meta, hit, status)
+    }
+
+    /// `cache_found`, but an entry that is not tracked stays so: the body of a hit may have been removed since it was found, and its
+    /// entry with it.
+    /// Requires the phase CacheKey or Stale; ask `phase().may_look_up()`.
+    pub fn cache_found_tracked<L: CacheKeyLock, E: EvictionManager>(
+        &mut self,
+        storage: &mut S,
+        eviction: &mut E,
+        lock: &mut L,
+        meta: CacheMeta,
+        hit: S::Hit,
+        status: HitStatus,
+        now: Moment,
+    ) -> Result<()>
+        requires { MayLookUp self.old.phase }
+        ensures request { OnOk result (self.new
+            ≡ found_row status meta (S.Hit.reader hit) (L.table lock.old) self.old) }
+        ensures store { OnOk result (S.state storage.new
+            ≡ store_found status (S.Hit.reader hit) self.old (S.state storage.old)) }
+        ensures past { OnOk result (S.past storage.new
+            ≡ taken_past status (S.Hit.reader hit) self.old (S.past storage.old)) }
+        ensures table { OnOk result (L.table lock.new
+            ≡ table_found status now self.old (L.table lock.old)) }
+        ensures deeds { OnOk result (L.past lock.new
+            ≡ found_deeds status now (L.table lock.old) self.old (L.past lock.old)) }
+        ensures same_request { OnErr result (self.new ≡ self.old) }
+        ensures left_store { OnErr result (S.state storage.new
+            ≡ left (S.state storage.old) (S.Hit.reader hit)) }
+        ensures left_past { OnErr result (S.past storage.new
+            ≡ noted (leave_noted (S.Hit.reader hit)) (S.past storage.old)) }
+        ensures same_table { OnErr result (L.table lock.new ≡ L.table lock.old) }
+        ensures same_deeds { OnErr result (L.past lock.new ≡ L.past lock.old) }
+        ensures tracked { E.tracked eviction.new ≡ E.tracked eviction.old }
+        ensures unused { counts_found status (S.Hit.reader hit) self.old ≡ false
+            → eviction.new ≡ eviction.old }
+        ensures something { OnErr result (IsTrue (counts_found status (S.Hit.reader hit) self.old)
+            ⊎ IsTrue (asks_for_hit status self.old)) }
+        ensures limits { E.limits eviction.new ≡ E.limits eviction.old }
+        ensures evicted { E.evicted eviction.new ≡ E.evicted eviction.old }
+        ensures kind { IfErr result (λ e. MayFailLock (L.table lock.old) e) }
+        ensures numbers { IfErr result (λ e.
+            e ≡ NumbersExhausted → IsTrue (asks_for_hit status self.old)) }
+    {
+        if let Err(refused) = self.use_found(eviction, &meta, &hit, status) {
+            hit.let_go(storage);
+            return Err(refused);
+        }
+        match self.place_found(storage, lock, meta, hit, status, now) {
+            Ok(_asked) => Ok(()),
+            Err(refused) => Err(refused),
+        }
+    }
+}
