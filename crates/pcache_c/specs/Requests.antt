@@ -22,7 +22,7 @@ use Rattle.pcache_request.specs.NoBody.{LeavesNone}
 use Rattle.pcache_request.specs.Phases.{IsDisabled, IsFilling, IsOn, MayFinishHit, MayLookUp, MayMiss, MayPurge}
 use Rattle.pcache_request.specs.Releasing.{MayDisable, MayRelease, disabled_for, status_for}
 use Rattle.pcache_request.specs.Renewals.{renewed, renewed_by}
-use Rattle.pcache_request.specs.Requests.{HoldsNothing, MayTakeMeta, MayWrite, Request, asks_for_hit, begin_followed, begun_for, dropped_by, found_for, found_row, is_removed_by, left_by, length_by, missed, settled, store_found, store_writing, table_found, tracked_found, tracked_gone_for, whole_by, with_meta, without_reader, writing}
+use Rattle.pcache_request.specs.Requests.{HoldsNothing, MayTakeMeta, MayWrite, Request, asks_for_hit, begin_followed, begun_for, dropped_by, found_for, found_row, is_removed_by, left_by, length_by, missed, settled, store_found, store_writing, table_found, tracked_gone_for, whole_by, with_meta, without_reader, writing}
 use Rattle.pcache_request.specs.Stale.{MayRevalidate}
 use Rattle.pcache_request.specs.Variants.{asks_unseen, hides_for, looked_for, searched, seen_for, table_looked_for, table_varied, varied}
 use Rattle.pcache_request.specs.LockPasts.{end_deeds}
@@ -105,7 +105,7 @@ pub record TakesPair (status : HitStatus) (now : ℕ) (m : Meta) (h : Reader) (c
   pub request : p.request.cache ≡ found_row status m h c.locks o.request.cache
   pub store : d.store ≡ store_found status h o.request.cache c.store
   pub table : d.locks ≡ table_found status now o.request.cache c.locks
-  pub tracked : d.tracked ≡ tracked_found status h (write_read h) o.request.cache c.tracked
+  pub tracked : d.tracked ≡ c.tracked
   pub rest : (d.limits ≡ c.limits) × (d.evicted ≡ c.evicted)
   pub none : p.found ≡ None
   pub piece : p.piece ≡ []
@@ -116,7 +116,7 @@ pub record RefusesPair (status : HitStatus) (h : Reader) (c d : Parts) (o p : Op
   pub request : p.request.cache ≡ o.request.cache
   pub store : d.store ≡ left c.store h
   pub table : d.locks ≡ c.locks
-  pub tracked : (d.tracked ≡ c.tracked) ⊎ (d.tracked ≡ tracked_found status h (write_read h) o.request.cache c.tracked)
+  pub tracked : d.tracked ≡ c.tracked
   pub rest : (d.limits ≡ c.limits) × (d.evicted ≡ c.evicted)
   pub none : p.found ≡ None
   pub piece : (p.piece ≡ o.piece) × (p.next_byte ≡ o.next_byte)

@@ -80,7 +80,7 @@ impl Served {
         ensures none { (number : ℕ) → request_at result.seats number ≡ None }
     {
         Served {
-            cache: Cache::weighing(alloc, seed, manager, age_timeout, weighing),
+            cache: Cache::with_weighing(alloc, seed, manager, age_timeout, weighing),
             seats: Seats::new(alloc),
         }
     }

@@ -90,7 +90,7 @@ kept-put wg limits k parser (InBody w id fresh_until) replaced how s s' m m' nam
     kept_body wg limits HoldsNoLock k w replaced (write_end how) s s' m m' own (subst (λ i. EndsBody in_memory true i HoldsNoLock k w (entered wg s (Some w)) limits (write_end how) s s' (tracked_before_put k replaced how m) m') named ends) kept
 
 -- what holds however a put ended
-any-end : {A : Type 0} {P : PutEnd → Type 0} (result : Result PutOutcome ErrorType) → ((how : PutEnd) → P how → A) → EndsAs result P → A
+pub any-end : {A : Type 0} {P : PutEnd → Type 0} (result : Result PutOutcome ErrorType) → ((how : PutEnd) → P how → A) → EndsAs result P → A
 any-end (Ok (answer.NotCached reason)) f ends = f (end.NotCached reason) ends
 any-end (Ok (answer.Stored report)) f ends = f (end.Stored report) ends
 any-end (Err e) f (inl ends) = f (end.Refused e) ends

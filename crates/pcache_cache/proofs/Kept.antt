@@ -104,34 +104,6 @@ kept_looked_with wg limits m s t p q r d result ok err k =
 
 -- ---- what was found is taken
 
--- an access leaves what is tracked, and may add an entry
-stays-added : (m : Tracked) (e x : CacheEntryKey) (n v : ℕ) → get m x ≡ Some v → get (added m e n) x ≡ Some v
-stays-added m e x n v is =
-    elim (contains_key m e) as (λ b. contains_key m e ≡ b → get (if b then m else insert m e n) x ≡ Some v) [
-      | true ↦ λ _. is
-      | false ↦ λ none. get-insert entries_total m e n x ∙ other none
-    ] refl
-  where
-    other : contains_key m e ≡ false → cond (eq_by_cmp entry_cmp x e) (Some n) (get m x) ≡ Some v
-    other none = elim (eq_by_cmp entry_cmp x e) as (λ b. eq_by_cmp entry_cmp x e ≡ b → cond b (Some n) (get m x) ≡ Some v) [
-      | true ↦ λ t. absurd (both_ways _ none (ap is_some (subst (λ y. get m y ≡ Some v) (entry-same x e t) is)))
-      | false ↦ λ t. is
-    ] refl
-
-pub kept_tracked : (wg : Weighing) (limits : Limits) (m n : Tracked) (s : Store) → ((x : CacheEntryKey) (v : ℕ) → get m x ≡ Some v → get n x ≡ Some v) → IsKept wg limits m s → IsKept wg limits n s
-kept_tracked wg limits m n s stays k = record { exact = λ q b is. let e = k.exact q b is in (e.0, e.1, stays e.0 (body_weight wg b) e.2, e.3); bounded = k.bounded }
-
-stays-counted : (b : Bool) (m : Tracked) (e x : CacheEntryKey) (n v : ℕ) → get m x ≡ Some v → get (cond b (added m e n) m) x ≡ Some v
-stays-counted true m e x n v is = stays-added m e x n v is
-stays-counted false m e x n v is = is
-
-stays-found : (status : HitStatus) (h : Reader) (id : Option ℕ) (r : Request) (k : Option Key) (m : Tracked) (x : CacheEntryKey) (v : ℕ) → get m x ≡ Some v → get (tracked_found_at status h id r k m) x ≡ Some v
-stays-found status h id r None m x v is = is
-stays-found status h id r (Some k) m x v is = stays-counted (counts_found status h r) m (entry_of k id) x (reader_weight h) v is
-
-pub kept_noted : (wg : Weighing) (limits : Limits) (m n : Tracked) (s : Store) (status : HitStatus) (h : Reader) (id : Option ℕ) (r : Request) → n ≡ tracked_found status h id r m → IsKept wg limits m s → IsKept wg limits n s
-kept_noted wg limits m n s status h id r is k = subst (λ x. IsKept wg limits x s) (sym is) (kept_tracked wg limits m (tracked_found status h id r m) s (λ x v there. stays-found status h id r r.key m x v there) k)
-
 slots-passed : (b : Bool) (s : Store) (h : Reader) → (cond b (left s h) s).slots ≡ s.slots
 slots-passed true s h = slots-left s h
 slots-passed false s h = refl
@@ -139,16 +111,13 @@ slots-passed false s h = refl
 pub slots-found : (status : HitStatus) (h : Reader) (r : Request) (s : Store) → (store_found status h r s).slots ≡ s.slots
 slots-found status h r s = slots-left_by (cond (is_treated_as_miss status) (left s h) s) r.reader ∙ slots-passed (is_treated_as_miss status) s h
 
-pub kept_found : {A : Type 0} (wg : Weighing) (limits : Limits) (m n : Tracked) (s t : Store) (status : HitStatus) (h : Reader) (id : Option ℕ) (r : Request) (result : Result A ErrorType)
-    → OnOk result (t ≡ store_found status h r s) → OnOk result (n ≡ tracked_found status h id r m) → OnErr result (t ≡ left s h) → OnErr result ((n ≡ m) ⊎ (n ≡ tracked_found status h id r m)) → IsKept wg limits m s → IsKept wg limits n t
-kept_found wg limits m n s t status h id r (Ok a) store tracked left_store noted k =
-    kept_slots wg limits n s t (ap (λ (x : Store). x.slots) store ∙ slots-found status h r s) (kept_noted wg limits m n s status h id r tracked k)
-kept_found wg limits m n s t status h id r (Err e) store tracked left_store noted k =
-    kept_slots wg limits n s t (ap (λ (x : Store). x.slots) left_store ∙ slots-left s h)
-    (elim noted [
-      | inl same ↦ subst (λ x. IsKept wg limits x s) (sym same) k
-      | inr is ↦ kept_noted wg limits m n s status h id r is k
-    ])
+-- the slots stay, whether the pair was taken or let go
+pub slots_taken : {A : Type 0} (s t : Store) (status : HitStatus) (h : Reader) (r : Request) (result : Result A ErrorType) → OnOk result (t ≡ store_found status h r s) → OnErr result (t ≡ left s h) → t.slots ≡ s.slots
+slots_taken s t status h r (Ok a) store left_store = ap (λ (x : Store). x.slots) store ∙ slots-found status h r s
+slots_taken s t status h r (Err e) store left_store = ap (λ (x : Store). x.slots) left_store ∙ slots-left s h
+
+pub kept_found : (wg : Weighing) (limits : Limits) (m n : Tracked) (s t : Store) → t.slots ≡ s.slots → n ≡ m → IsKept wg limits m s → IsKept wg limits n t
+kept_found wg limits m n s t same tracked k = subst (λ x. IsKept wg limits x t) (sym tracked) (kept_slots wg limits m s t same k)
 
 -- ---- a reader goes, and what else is given back
 

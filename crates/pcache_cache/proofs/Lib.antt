@@ -1,8 +1,11 @@
 pub mod Standing
+pub mod Strays
 pub mod Sums
+pub mod SumsToStored
 pub mod Kept
 pub mod Ended
 pub mod Own
+pub mod Only
 pub mod Renewed
 pub mod Fed
 pub mod Adding

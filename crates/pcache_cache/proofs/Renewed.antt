@@ -23,11 +23,11 @@ use Rattle.pcache_cache.proofs.Kept.{entry-of-slot, kept_fewer, kept_purged, kep
 use Rattle.pcache_cache.proofs.Standing.{Fewer, Stands, body-insert, body-remove, cmp_same, same-key}
 
 -- the body that has this meta
-abbrev given : Meta → Stored → Stored
+abbrev pub given : Meta → Stored → Stored
 given x a = record a { meta = in_place_of a.meta x }
 
 -- what is complete once a meta is set for the body of a key
-body-set : (x : Meta) (s : Store) (k q : ℕ) (a : Stored) → complete_body (get s.slots k) ≡ Some a → complete_body (get (meta_set x s k).slots q) ≡ cond (eq_by_cmp nat_cmp q k) (Some (given x a)) (complete_body (get s.slots q))
+pub body-set : (x : Meta) (s : Store) (k q : ℕ) (a : Stored) → complete_body (get s.slots k) ≡ Some a → complete_body (get (meta_set x s k).slots q) ≡ cond (eq_by_cmp nat_cmp q k) (Some (given x a)) (complete_body (get s.slots q))
 body-set x s k q a is =
     elim (get s.slots k) as (λ o. complete_body o ≡ Some a → complete_body (get (meta_changed_on (λ old. in_place_of old x) s.slots k o) q) ≡ cond (eq_by_cmp nat_cmp q k) (Some (given x a)) (complete_body (get s.slots q))) [
       | None ↦ λ none. absurd (cc)
@@ -38,7 +38,7 @@ body-set x s k q a is =
     ] is
 
 -- and if there is none
-slots-unset : (x : Meta) (s : Store) (k : ℕ) → complete_body (get s.slots k) ≡ None → (meta_set x s k).slots ≡ s.slots
+pub slots-unset : (x : Meta) (s : Store) (k : ℕ) → complete_body (get s.slots k) ≡ None → (meta_set x s k).slots ≡ s.slots
 slots-unset x s k is =
     elim (get s.slots k) as (λ o. complete_body o ≡ None → meta_changed_on (λ old. in_place_of old x) s.slots k o ≡ s.slots) [
       | None ↦ λ none. refl
@@ -97,20 +97,20 @@ module _ (wg : Weighing) (limits : Limits) (m : Tracked) (s : Store) (x : Meta) 
 same-cmp : (q : ℕ) → eq_by_cmp nat_cmp q q ≡ true
 same-cmp q = cmp_same q q ∙ eq-eqb q q refl
 
-weight-set : (wg : Weighing) (x : Meta) (s : Store) (k : Key) (a : Stored) → complete_body (get s.slots (slot k)) ≡ Some a → weight_at wg (meta_set x s (slot k)) k ≡ body_weight wg (given x a)
+pub weight-set : (wg : Weighing) (x : Meta) (s : Store) (k : Key) (a : Stored) → complete_body (get s.slots (slot k)) ≡ Some a → weight_at wg (meta_set x s (slot k)) k ≡ body_weight wg (given x a)
 weight-set wg x s k a is = ap (share (body_weight wg)) (body-set x s (slot k) (slot k) a is ∙ ap (λ y. cond y (Some (given x a)) (complete_body (get s.slots (slot k)))) (same-cmp (slot k)))
 
 weighs_not : (wg : Weighing) (x : Meta) (k : Key) (s : Store) → weight_at wg (meta_set x s (slot k)) k ≡ weight_at wg s k → reweighs wg x (Some k) s ≡ false
 weighs_not wg x k s same = ap not (eq-eqb _ _ same)
 
-same_weight : (wg : Weighing) (x : Meta) (k : Key) (s : Store) → reweighs wg x (Some k) s ≡ false → weight_at wg (meta_set x s (slot k)) k ≡ weight_at wg s k
+pub same_weight : (wg : Weighing) (x : Meta) (k : Key) (s : Store) → reweighs wg x (Some k) s ≡ false → weight_at wg (meta_set x s (slot k)) k ≡ weight_at wg s k
 same_weight wg x k s alike =
     elim (weight_at wg (meta_set x s (slot k)) k == weight_at wg s k) as (λ b. (weight_at wg (meta_set x s (slot k)) k == weight_at wg s k) ≡ b → not b ≡ false → weight_at wg (meta_set x s (slot k)) k ≡ weight_at wg s k) [
       | true ↦ λ t h. eqb-true _ _ t
       | false ↦ λ t h. absurd (cc)
     ] refl alike
 
-weight-unset : (wg : Weighing) (x : Meta) (k : Key) (s : Store) → complete_body (get s.slots (slot k)) ≡ None → reweighs wg x (Some k) s ≡ false
+pub weight-unset : (wg : Weighing) (x : Meta) (k : Key) (s : Store) → complete_body (get s.slots (slot k)) ≡ None → reweighs wg x (Some k) s ≡ false
 weight-unset wg x k s none = weighs_not wg x k s (ap (λ y. share (body_weight wg) (complete_body (get y (slot k)))) (slots-unset x s (slot k) none))
 
 -- ---- the invariant

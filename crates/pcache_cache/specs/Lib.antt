@@ -3,4 +3,5 @@ pub mod OwnPut
 pub mod Parts
 pub mod PartsCode
 pub mod Renewing
+pub mod Strays
 pub mod Weighing

@@ -83,12 +83,12 @@ impl<M: EvictionManager, K> Cache<M, K> {
               deeds = [];
             } }
     {
-        Cache::weighing(alloc, seed, manager, age_timeout, Weighing::Bodies)
+        Cache::with_weighing(alloc, seed, manager, age_timeout, Weighing::Bodies)
     }
 
     /// The same with entries that weigh as `weighing` says. Of a manager that tracks entries already these keep the weights that
     /// they have.
-    pub fn weighing(
+    pub fn with_weighing(
         alloc: Global,
         seed: Seed,
         manager: M,
@@ -118,7 +118,7 @@ impl<M: EvictionManager, K> Cache<M, K> {
     }
 
     /// What its entries weigh.
-    pub fn entries_weigh(&self) -> Weighing
+    pub fn weighing(&self) -> Weighing
         ensures { result ≡ self.now.weighing }
     {
         self.weighing

@@ -38,6 +38,7 @@ impl<M: EvictionManager, K> Cache<M, K> {
     ghost use Rattle.pcache_store.specs.Readers.{in_memory};
     ghost use Rattle.pcache_cache.specs.OwnPut.{EndsOwnPut, MayEndPut, evicted_put, put_past, store_put};
     ghost use Rattle.pcache_cache.specs.Parts.{Adds};
+    ghost use Rattle.pcache_cache.specs.Strays.{LeavesNoStray};
 
     /// Whether a put may end here: it has no write, or one of this cache and of its own key. This holds of each put whose pieces
     /// all came here.
@@ -115,6 +116,7 @@ impl<M: EvictionManager, K> Cache<M, K> {
             (IsResult (C.says put.old.put.policy) (limit_of put.old.put.size) pieces) f end)) }
         ensures withdrawn { OnErr result (LeavesNone (Some put.old.put.key)
             (write_in put.old.put.stage) self.old.store self.new.store) }
+        ensures only { LeavesNoStray (Some put.old.put.key) self.old self.new }
         ensures limits { self.new.limits ≡ self.old.limits }
         ensures weighing { self.new.weighing ≡ self.old.weighing }
         ensures locks { self.new.locks ≡ self.old.locks }

@@ -28,6 +28,7 @@ impl<M: EvictionManager, K> Cache<M, K> {
     ghost use Rattle.pcache_store.specs.Readers.{in_memory};
     ghost use Rattle.pcache_store.specs.Refusals.{MayFailWrite};
     ghost use Rattle.pcache_cache.specs.Parts.{Adds, MayEnd, takes_bytes, tracked_at_end, written_by, written_past};
+    ghost use Rattle.pcache_cache.specs.Strays.{LeavesNoStray};
     ghost use Rattle.pcache_cache.specs.Weighing.{entered};
 
     /// `HttpCache::set_miss_handler`: begins the write. Requires a phase in which a write may be made, a meta, and no write; ask
@@ -129,6 +130,7 @@ impl<M: EvictionManager, K> Cache<M, K> {
             (tracked_at_end self.old request.old.cache end) self.old.evicted end)) }
         ensures limits { self.new.limits ≡ self.old.limits }
         ensures weighing { self.new.weighing ≡ self.old.weighing }
+        ensures only { LeavesNoStray request.old.cache.key self.old self.new }
         ensures withdrawn { OnErr result (LeavesNone request.old.cache.key request.old.cache.write
             self.old.store self.new.store) }
     {

@@ -7,6 +7,7 @@ impl<M: EvictionManager, K> Cache<M, K> {
     ghost use Rattle.pcache_lock.specs.PastLaws.{AtMostOneWaits, GivesByPast, OneFetchAtATime};
     ghost use Rattle.pcache_store.specs.PastLaws.{BodiesAreLast, BodiesGrow, Finds, Finishes, FoundIsOfItsWrite, NothingIsLost, PurgedIsGone, ReadsInOrder};
     ghost use Rattle.pcache_cache.specs.Parts.{IsBounded, IsKept, TracksExactly};
+    ghost use Rattle.pcache_cache.specs.Strays.{SumsToStored};
 
     /// What holds of each cache at all times, whichever calls failed: of its store by the list of all that was done to the store
     /// (`past`), and of its locks by the list of all that was done to those (`deeds`). The contract of each call says what it added
@@ -29,6 +30,9 @@ impl<M: EvictionManager, K> Cache<M, K> {
     ///   kept for it.
     /// - `bounded`: the lengths of the complete bodies sum to at most the manager's limit, and so do their weights, and their number
     ///   is at most its watermark.
+    /// - `sums`: where nothing is tracked beside the entries of the complete bodies, the weights of what is tracked sum to those of
+    ///   the complete bodies, and their numbers are equal. Of each call that changes what is tracked or complete, the clause `only`
+    ///   says that it leaves nothing tracked beside them, if it was made for the key that all requests of the slot have.
     /// - `one`: at most one permit of a key waits: it was given, and not yet released, let go or found too old.
     /// - `gives`: a request for a key's lock gets the permit exactly when none waits for that key, and else a read lock on the one
     ///   that does.
@@ -46,6 +50,7 @@ impl<M: EvictionManager, K> Cache<M, K> {
         ensures grows { BodiesGrow self.now.store self.now.past }
         ensures tracked { TracksExactly self.now.weighing self.now.store self.now.tracked }
         ensures bounded { IsBounded self.now.weighing self.now.limits self.now.store }
+        ensures sums { SumsToStored self.now }
         ensures one { AtMostOneWaits self.now.deeds }
         ensures gives { GivesByPast self.now.locks self.now.deeds }
         ensures fetches { OneFetchAtATime self.now.deeds }

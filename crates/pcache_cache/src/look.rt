@@ -24,14 +24,15 @@ impl<M: EvictionManager, K> Cache<M, K> {
     ghost use Rattle.pcache_request.specs.Phases.{IsDisabled, MayFinishHit, MayLookUp};
     ghost use Rattle.pcache_request.specs.Releasing.{MayDisable, disabled_for, status_for};
     ghost use Rattle.pcache_request.specs.Reports.{name_of};
-    ghost use Rattle.pcache_request.specs.Requests.{HoldsNothing, asks_for_hit, counts_found, dropped_by, found_for, found_row, left_by, length_by, let_go_by, settled, store_found, table_found, tracked_found, whole_by, without_reader};
+    ghost use Rattle.pcache_request.specs.Requests.{HoldsNothing, asks_for_hit, counts_found, dropped_by, found_for, found_row, left_by, length_by, let_go_by, settled, store_found, table_found, whole_by, without_reader};
     ghost use Rattle.pcache_request.specs.Variants.{asks_unseen, hides_for, looked_for, searched, seen_for, table_looked_for};
     ghost use Rattle.pcache_request.specs.LockPasts.{found_deeds, let_go_deeds, looked_deeds, looked_with_deeds, settled_deeds};
     ghost use Rattle.pcache_request.specs.StorePasts.{dropped_past, left_past, looked_past, searched_past, taken_past};
     ghost use Rattle.pcache_store.specs.Notes.{leave_noted, noted};
     ghost use Rattle.pcache_store.specs.Readers.{reader_of};
     ghost use Rattle.pcache_cache.specs.Parts.{Adds};
-    ghost use Rattle.pcache_store.specs.Store.{gives_piece, left, read_of, reader_after, write_read};
+    ghost use Rattle.pcache_cache.specs.Strays.{LeavesNoStray};
+    ghost use Rattle.pcache_store.specs.Store.{gives_piece, left, read_of, reader_after};
 
     /// `HttpCache::cache_lookup_without_policy`: returns what the store has for the request's key, a meta and a reader, unless
     /// a variant hides it; if it returns nothing, the key's lock is asked for. No policy is asked. The caller has to pass a
@@ -141,7 +142,8 @@ impl<M: EvictionManager, K> Cache<M, K> {
             .cache_lookup(&mut self.store, &mut self.lock, policy, now)
     }
 
-    /// `HttpCache::cache_found`: takes the pair that a look-up found.
+    /// `HttpCache::cache_found_tracked`: takes the pair that a look-up found. An entry that is not tracked stays so: its body was
+    /// removed since it was found.
     /// Requires the phase CacheKey or Stale; ask `phase().may_look_up()` of the request.
     pub fn cache_found(
         &mut self,
@@ -163,23 +165,14 @@ impl<M: EvictionManager, K> Cache<M, K> {
         ensures deeds { OnOk result (Adds
             (found_deeds status now self.old.locks request.old.cache) self.old.deeds
             self.new.deeds) }
-        ensures tracked { OnOk result (self.new.tracked
-            ≡ tracked_found status (reader_of hit) (write_read (reader_of hit)) request.old.cache
-            self.old.tracked) }
+        ensures tracked { self.new.tracked ≡ self.old.tracked }
+        ensures only { LeavesNoStray None self.old self.new }
         ensures same_request { OnErr result (request.new.cache ≡ request.old.cache) }
         ensures left_store { OnErr result (self.new.store ≡ left self.old.store (reader_of hit)) }
         ensures left_past { OnErr result (Adds (noted (leave_noted (reader_of hit))) self.old.past
             self.new.past) }
         ensures same_table { OnErr result (self.new.locks ≡ self.old.locks) }
         ensures same_deeds { OnErr result (self.new.deeds ≡ self.old.deeds) }
-        ensures noted { OnErr result ((self.new.tracked ≡ self.old.tracked)
-            ⊎ (self.new.tracked
-            ≡ tracked_found status (reader_of hit) (write_read (reader_of hit))
-            request.old.cache self.old.tracked)) }
-        ensures stays { OnErr result ((self.new.tracked ≡ self.old.tracked)
-            ⊎ IsTrue (asks_for_hit status request.old.cache)) }
-        ensures unused { counts_found status (reader_of hit) request.old.cache ≡ false
-            → self.new.tracked ≡ self.old.tracked }
         ensures something { OnErr result
             (IsTrue (counts_found status (reader_of hit) request.old.cache)
             ⊎ IsTrue (asks_for_hit status request.old.cache)) }
@@ -190,7 +183,7 @@ impl<M: EvictionManager, K> Cache<M, K> {
         ensures numbers { IfErr result (λ e.
             e ≡ NumbersExhausted → IsTrue (asks_for_hit status request.old.cache)) }
     {
-        request.cache.cache_found(
+        request.cache.cache_found_tracked(
             &mut self.store,
             &mut self.manager,
             &mut self.lock,

@@ -6,13 +6,14 @@ use pcache_base::moment::Moment;
 use pcache_evict::eviction::EvictionManager;
 
 impl<M: EvictionManager, K> Cache<M, K> {
-    ghost use Rattle.std.specs.Prelude.{◌≡◌, true, IfOk, IfErr, OnOk, OnErr, option_map};
+    ghost use Rattle.std.specs.Prelude.{◌≡◌, true, IfOk, IfErr, None, OnOk, OnErr, option_map};
     ghost use Rattle.pcache_base.specs.Key.{slot};
     ghost use Rattle.pcache_base.specs.declared.error.ErrorType.TheVariants.{OutOfMemory};
     ghost use Rattle.pcache_request.specs.Phases.{MayPurge, MaySpawnPurge};
     ghost use Rattle.pcache_request.specs.Requests.{is_removed_by, tracked_gone_for};
     ghost use Rattle.pcache_request.specs.StorePasts.{expired_past, purged_past};
     ghost use Rattle.pcache_cache.specs.Parts.{Adds};
+    ghost use Rattle.pcache_cache.specs.Strays.{LeavesNoStray};
     ghost use Rattle.pcache_store.specs.Purge.{expire_outcome, expired_at, purge_outcome, purged_at};
 
     /// `HttpCache::purge`: removes what is stored for the key, and its entry from the manager. Returns whether anything was
@@ -32,6 +33,8 @@ impl<M: EvictionManager, K> Cache<M, K> {
             ≡ tracked_gone_for request.old.cache.uses.eviction request.old.cache.key
             (purge_outcome true self.old.store (option_map slot request.old.cache.key))
             self.old.tracked) }
+        ensures only { request.old.cache.uses.eviction ≡ true
+            → LeavesNoStray request.old.cache.key self.old self.new }
         ensures same_store { OnErr result (self.new.store ≡ self.old.store) }
         ensures same_past { OnErr result (self.new.past ≡ self.old.past) }
         ensures same_tracked { OnErr result (self.new.tracked ≡ self.old.tracked) }
@@ -66,6 +69,8 @@ impl<M: EvictionManager, K> Cache<M, K> {
             ≡ tracked_gone_for request.old.cache.uses.eviction request.old.cache.key
             (purge_outcome true self.old.store (option_map slot request.old.cache.key))
             self.old.tracked) }
+        ensures only { request.old.cache.uses.eviction ≡ true
+            → LeavesNoStray request.old.cache.key self.old self.new }
         ensures same_store { OnErr result (self.new.store ≡ self.old.store) }
         ensures same_past { OnErr result (self.new.past ≡ self.old.past) }
         ensures same_tracked { OnErr result (self.new.tracked ≡ self.old.tracked) }
@@ -98,6 +103,7 @@ impl<M: EvictionManager, K> Cache<M, K> {
             ≡ tracked_gone_for request.old.cache.uses.eviction request.old.cache.key
             (expire_outcome self.old.store (option_map slot request.old.cache.key))
             self.old.tracked) }
+        ensures only { LeavesNoStray None self.old self.new }
         ensures same_store { OnErr result (self.new.store ≡ self.old.store) }
         ensures same_past { OnErr result (self.new.past ≡ self.old.past) }
         ensures same_tracked { OnErr result (self.new.tracked ≡ self.old.tracked) }

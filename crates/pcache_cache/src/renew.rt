@@ -23,6 +23,7 @@ impl<M: EvictionManager, K> Cache<M, K> {
     ghost use Rattle.pcache_request.specs.LockPasts.{settled_deeds, varied_deeds};
     ghost use Rattle.pcache_cache.specs.Parts.{Adds};
     ghost use Rattle.pcache_cache.specs.Renewing.{Renews, stock};
+    ghost use Rattle.pcache_cache.specs.Strays.{LeavesNoStray};
     ghost use Rattle.pcache_request.specs.Variants.{released_by_variance, table_varied, varied};
 
     /// `HttpCache::revalidate_cache_meta`: takes the meta of a response that says that the stale body is still valid. If the body's
@@ -39,6 +40,7 @@ impl<M: EvictionManager, K> Cache<M, K> {
             (renewed_by meta request.old.cache.meta) request.old.cache.key result (stock self.old)
             (stock self.new) }
         ensures kind { IfErr result (λ e. e ≡ OutOfMemory) }
+        ensures only { LeavesNoStray request.old.cache.key self.old self.new }
         ensures table { self.new.locks ≡ settled Done request.old.cache.held self.old.locks }
         ensures deeds { Adds (settled_deeds Done request.old.cache.held) self.old.deeds self.new.deeds }
         ensures rest { self.new
@@ -51,6 +53,8 @@ impl<M: EvictionManager, K> Cache<M, K> {
               deeds = self.new.deeds;
             } }
     {
+        // For the prover: a complete body has the number of its write.
+        self.store.headline();
         let _released = request.cache.renew_request(&mut self.lock, meta);
         match (request.cache.key(), request.cache.meta()) {
             (Some(key), Some(meta)) => set_meta(

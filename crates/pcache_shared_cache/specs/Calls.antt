@@ -21,7 +21,7 @@ use Rattle.pcache_request.specs.LockUse.{published_by, table_handed}
 use Rattle.pcache_request.specs.LockWaits.{table_waited, wait_result, waited}
 use Rattle.pcache_request.specs.Releasing.{status_for}
 use Rattle.pcache_request.specs.Renewals.{renewed_by}
-use Rattle.pcache_request.specs.Requests.{Request, dropped_by, found_row, is_removed_by, left_by, settled, store_begun, store_found, table_found, tracked_found, tracked_gone_for, write_begun}
+use Rattle.pcache_request.specs.Requests.{Request, dropped_by, found_row, is_removed_by, left_by, settled, store_begun, store_found, table_found, tracked_gone_for, write_begun}
 use Rattle.pcache_request.specs.StorePasts.{EndsRequestPast, dropped_past, expired_past, left_past, purged_past, searched_past, taken_past, writing_past}
 use Rattle.pcache_request.specs.Variants.{looked_for, searched, seen_for, table_looked_for, table_varied}
 use Rattle.pcache_request.specs.WriteEnds.{Ends, EndsAs, evicted_after}
@@ -103,12 +103,11 @@ pub record TakesFound (result : Result (Unit {0}) ErrorType) (status : HitStatus
   pub past : OnOk result (Adds (taken_past status h r) p.past q.past)
   pub locks : OnOk result (q.locks ≡ table_found status now r p.locks)
   pub deeds : OnOk result (Adds (found_deeds status now p.locks r) p.deeds q.deeds)
-  pub tracked : OnOk result (q.tracked ≡ tracked_found status h (write_read h) r p.tracked)
+  pub tracked : q.tracked ≡ p.tracked
   pub left_store : OnErr result (q.store ≡ left p.store h)
   pub left_past : OnErr result (Adds (noted (leave_noted h)) p.past q.past)
   pub same_locks : OnErr result (q.locks ≡ p.locks)
   pub same_deeds : OnErr result (q.deeds ≡ p.deeds)
-  pub counted : OnErr result ((q.tracked ≡ p.tracked) ⊎ (q.tracked ≡ tracked_found status h (write_read h) r p.tracked))
   pub kind : IfErr result (λ e. MayFailLock p.locks e)
   pub limits : q.limits ≡ p.limits
   pub weighing : q.weighing ≡ p.weighing

@@ -99,7 +99,7 @@ impl<M: EvictionManager, K: Mark> PartLock<M, K> {
         let (portion, keeper) = new_part.into_both();
         let limit = portion.limit();
         let watermark = portion.watermark();
-        let cache = Cache::weighing(alloc, seed, portion, age_timeout, Weighing::Entries);
+        let cache = Cache::with_weighing(alloc, seed, portion, age_timeout, Weighing::Entries);
         let mut log = PartLog::new(place, keeper, &cache);
         PartLock {
             limit,

@@ -2,7 +2,8 @@
 //!
 //! Rows: the limit, and then calls on keys that are numbers. `fill KEY SIZE` stores a body of so many bytes, whatever stands
 //! under the key, and `fill-each COUNT SIZE` one for each key from 0; `again COUNT KEY SIZE` stores it so many times, and
-//! `find-each COUNT` looks each key up. `random SEED COUNT` makes so many calls of every kind, and compares after each what is
+//! `find-each COUNT` looks each key up, and `late KEY` purges a
+//! key between its look-up and its hit. `random SEED COUNT` makes so many calls of every kind, and compares after each what is
 //! tracked with what is stored.
 ghost use Rattle.std.specs.Prelude.{◌≡◌, IfOk, true};
 ghost use Rattle.pcache_request.specs.declared.phase.CachePhase.TheVariants.{CacheKey};
@@ -132,6 +133,25 @@ fn find_in(cache: &mut List, request: &mut Request) -> Result<bool>
     Ok(true)
 }
 
+// Whether a key is found, whose body is purged before it is taken.
+fn find_late(cache: &mut List, key: usize) -> Result<bool> {
+    let mut request = request_of(cache.alloc(), key)?;
+    let found = find_late_in(cache, &mut request, key);
+    cache.end(request);
+    found
+}
+
+fn find_late_in(cache: &mut List, request: &mut Request, key: usize) -> Result<bool>
+    requires { request.old.cache.phase ≡ CacheKey }
+{
+    let Some((meta, hit)) = cache.cache_lookup_without_policy(request, NOW)? else {
+        return Ok(false);
+    };
+    let purged = purge(cache, key);
+    cache.cache_found(request, meta, hit, HitStatus::Fresh, NOW)?;
+    purged
+}
+
 // One call of the kind that a number says.
 fn call(cache: &mut List, kind: u64, key: usize, size: usize) -> Result<bool> {
     match kind {
@@ -141,6 +161,7 @@ fn call(cache: &mut List, kind: u64, key: usize, size: usize) -> Result<bool> {
         6 => race(cache, key, size, true),
         7 => purge(cache, key),
         8 => expire(cache, key),
+        9 => find_late(cache, key),
         _ => find(cache, key),
     }
 }
@@ -213,6 +234,9 @@ fn tell_call(made: &mut Made, call: &'static str, told: &mut Told) {
         "purge" => {
             let _was_there = purge(cache, size(call, 1));
         }
+        "late" => {
+            let _purged = find_late(cache, size(call, 1));
+        }
         "race" => {
             let _both = race(cache, size(call, 1), size(call, 2), false);
         }
@@ -275,7 +299,9 @@ const ROWS: &str = r"
     limit 4, fill 0 4, fill 0 5 -> 0 in 0, weight 0 items 0, evicted 1
     # the write that began first ends last
     limit 10, race 0 4 -> 4 in 1, weight 4 items 1, evicted 0
-    limit 10, fill 0 4, purge 0, fill 0 4 -> 4 in 1, weight 4 items 1, evicted 0";
+    limit 10, fill 0 4, purge 0, fill 0 4 -> 4 in 1, weight 4 items 1, evicted 0
+    # a hit that is taken after its body was purged adds nothing
+    limit 10, fill 0 4, late 0 -> 0 in 0, weight 0 items 0, evicted 0";
 
 #[test]
 fn what_is_tracked_is_what_is_stored(rt: HostRuntime) -> Result<()> {

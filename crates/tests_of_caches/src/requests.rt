@@ -38,7 +38,7 @@ pub fn list_of(alloc: Global, limit: usize) -> Result<List> {
 /// The same in which entries weigh so.
 pub fn list_weighing(alloc: Global, limit: usize, weighing: Weighing) -> Result<List> {
     let seed = Seed::fixed();
-    Ok(Cache::weighing(
+    Ok(Cache::with_weighing(
         alloc,
         seed,
         Manager::new(alloc, seed, limit)?,

@@ -136,7 +136,7 @@ fn bodies_alone_count_as_before(rt: HostRuntime) -> Result<()> {
 }
 
 fn counts_bodies(cache: &mut List) -> bool {
-    matches!(cache.entries_weigh(), Weighing::Bodies)
+    matches!(cache.weighing(), Weighing::Bodies)
         && matches!(fill(cache, "a", b"aa"), Ok(true))
         && matches!(fill(cache, "b", b"bb"), Ok(true))
         && matches!(renew_with(cache, "a", "0123456789abc"), Ok(true))

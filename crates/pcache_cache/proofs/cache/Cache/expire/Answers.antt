@@ -1,6 +1,8 @@
 use Rattle.std.proofs.Common.{subst, sym}
-use Rattle.pcache_cache.specs.Parts.{IsKept}
+use Rattle.pcache_cache.specs.Parts.{IsKept, Parts}
 use Rattle.pcache_cache.proofs.Kept.{kept_expired}
+use Rattle.pcache_cache.specs.Strays.{TracksOnly}
+use Rattle.pcache_cache.proofs.Only.{only_expired}
 use Rattle.pcache_cache.proofs.cache.Cache.expire.Goals as goal
 
 pub invariant_of-self : goal.invariant_of-self
@@ -11,3 +13,11 @@ invariant_of-self g c =
           (kept_expired c.self.inside.weighing limits tracked (g.M.EvictionManager.tracked c.expire.new.eviction) c.self.inside.store.state c.expire.new.storage.state c.args.request.now.cache.uses.eviction c.args.request.now.cache.key c.args.now c.expire.result c.expire.ensures.store c.expire.ensures.tracked c.expire.ensures.same_store c.expire.ensures.same_tracked c.self.invariant.0),
       c.self.invariant.1,
     )
+
+pub returns-clause-only : goal.returns-clause-only
+returns-clause-only g c of its only =
+    let tracked = g.M.EvictionManager.tracked in
+    let inside = c.self.inside in
+    let call = c.expire in
+    let r = c.args.request.now.cache in
+    only_expired of inside.weighing (tracked inside.manager) (tracked call.new.eviction) inside.store.state call.new.storage.state r.uses.eviction r.key c.args.now call.result call.ensures.store call.ensures.tracked call.ensures.same_store call.ensures.same_tracked (subst (λ (p : Parts). TracksOnly of p.weighing p.store p.tracked) (sym c.self.view_is) only)

@@ -4,6 +4,8 @@ use Rattle.pcache_cache.specs.Parts.{IsKept, MayEnd, Parts}
 use Rattle.pcache_cache.proofs.Ended.{kept_finished, same-number}
 use Rattle.pcache_cache.proofs.Unlocking.{if_ended}
 use Rattle.pcache_cache.proofs.Ways.{each_end}
+use Rattle.pcache_cache.specs.Strays.{TracksOnly}
+use Rattle.pcache_cache.proofs.Only.{only_finished}
 use Rattle.pcache_cache.proofs.cache.Cache.finish_miss_handler.Goals as goal
 
 pub invariant_of-self : goal.invariant_of-self
@@ -14,3 +16,13 @@ invariant_of-self g c =
           (subst (λ (p : Parts). MayEnd p.store c.args.request.now.cache) (sym c.self.view_is) c.requires.own) (sym c.writer-writer.ensures.entry ∙ same-number _ c.writer-writer.result ∙ c.writer-writer.ensures.write) (c.ending_weight.ensures ∙ ap (ending_weight c.self.inside.weighing c.self.inside.store.state) c.writer-writer.ensures.write) (each_end c.finish_replacing.result (λ how is. is.0) c.finish_replacing.ensures.ended) c.self.invariant.0),
       if_ended c.finish_replacing.result c.args.request.now.cache.write c.args.request.now.cache.held (Some c.self.inside.lock.past) (Some c.finish_replacing.new.lock.past) (each_end c.finish_replacing.result (λ how is. is.2) c.finish_replacing.ensures.ended) c.self.invariant.1,
     )
+
+pub returns-clause-only : goal.returns-clause-only
+returns-clause-only g c of its only =
+    let tracked = g.M.EvictionManager.tracked in
+    let inside = c.self.inside in
+    let call = c.finish_replacing in
+    let r = c.args.request.now.cache in
+    only_finished of inside.weighing (g.M.EvictionManager.limits inside.manager) r c.replaced_by.result c.ending_weight.result inside.store.state call.new.storage.state (tracked inside.manager) (tracked call.new.eviction) inside.lock.table call.new.lock.table call.result
+    (subst (λ (p : Parts). MayEnd p.store r) (sym c.self.view_is) c.requires.own) (sym c.writer-writer.ensures.entry ∙ same-number _ c.writer-writer.result ∙ c.writer-writer.ensures.write) (c.ending_weight.ensures ∙ ap (ending_weight inside.weighing inside.store.state) c.writer-writer.ensures.write) its c.replaced_by.ensures
+    (each_end call.result (λ how is. is.0) call.ensures.ended) (subst (λ (p : Parts). TracksOnly of p.weighing p.store p.tracked) (sym c.self.view_is) only)

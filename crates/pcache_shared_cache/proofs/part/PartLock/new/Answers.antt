@@ -7,9 +7,9 @@ pub invariant_of-result : goal.invariant_of-result
 invariant_of-result g c =
     let weight = sym c.limit-limit.ensures in
     let watermark = sym c.watermark-watermark.ensures in (
-      c.weighing-cache.result,
-      ap (λ (p : Parts). p.limits) c.weighing-cache.ensures ∙ (λ i. record { weight = weight i; watermark = watermark i }),
-      ap (λ (p : Parts). p.past) c.weighing-cache.ensures,
-      ap (λ (p : Parts). p.deeds) c.weighing-cache.ensures,
+      c.with_weighing-cache.result,
+      ap (λ (p : Parts). p.limits) c.with_weighing-cache.ensures ∙ (λ i. record { weight = weight i; watermark = watermark i }),
+      ap (λ (p : Parts). p.past) c.with_weighing-cache.ensures,
+      ap (λ (p : Parts). p.deeds) c.with_weighing-cache.ensures,
       ap (λ (v : Placed). v.log) (c.see.ensures.seen ∙ c.new-log.ensures),
     )
