@@ -34,6 +34,11 @@ abbrev pub ending_weight : Weighing → Store → Option ℕ → ℕ
 ending_weight how s None = 0
 ending_weight how s (Some w) = write_weight how (get s.writes w)
 
+-- the length of the text of the head with a write, if there is a write
+abbrev pub written_head : Store → Option ℕ → Option ℕ
+written_head s None = None
+written_head s (Some w) = Some (write_lengths (get s.writes w)).1
+
 -- with which its entry is admitted
 abbrev pub entered : Weighing → Store → Option ℕ → MissFinishType
 entered how s w = Created (ending_weight how s w)

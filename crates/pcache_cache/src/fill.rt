@@ -29,7 +29,7 @@ impl<M: EvictionManager, K> Cache<M, K> {
     ghost use Rattle.pcache_store.specs.Refusals.{MayFailWrite};
     ghost use Rattle.pcache_cache.specs.Parts.{Adds, MayEnd, takes_bytes, tracked_at_end, written_by, written_past};
     ghost use Rattle.pcache_cache.specs.Strays.{LeavesNoStray};
-    ghost use Rattle.pcache_cache.specs.Weighing.{entered};
+    ghost use Rattle.pcache_cache.specs.Weighing.{entered, written_head};
 
     /// `HttpCache::set_miss_handler`: begins the write. Requires a phase in which a write may be made, a meta, and no write; ask
     /// `may_write` of the request.
@@ -67,6 +67,17 @@ impl<M: EvictionManager, K> Cache<M, K> {
         request
             .cache
             .set_miss_handler(&mut self.store, &mut self.lock)
+    }
+
+    /// The length of the text of the head that the request's write stores, in bytes; `None` without a write. It is for heads what
+    /// `track_body_bytes_for_max_file_size` is for bodies: who limits them asks for it once the write has begun, and turns caching
+    /// off for a head that is too large, as for a body.
+    pub fn head_length(&self, request: &CacheRequest<K>) -> Option<usize>
+        ensures { result ≡ written_head self.now.store request.now.cache.write }
+    {
+        let writer = request.cache.writer()?;
+        let (_body, head) = writer.lengths(&self.store);
+        Some(head)
     }
 
     /// Adds bytes to the request's write, and with `eof` announces that they are the last. Without a write, or after the last

@@ -8,6 +8,7 @@ use Rattle.pcache_base.specs.declared.poll.Poll.{Poll}
 use Rattle.pcache_base.specs.declared.reason.NoCacheReason.{NoCacheReason}
 use Rattle.pcache_cache.specs.Parts.{Adds, MayEnd, Parts, takes_bytes, tracked_at_end, written_by, written_past}
 use Rattle.pcache_cache.specs.Renewing.{Renews, stock}
+use Rattle.pcache_cache.specs.Strays.{LeavesNoStray}
 use Rattle.pcache_cache.specs.Weighing.{entered}
 use Rattle.pcache_lock.specs.Locks.{MayFailLock}
 use Rattle.pcache_lock.specs.declared.lock.outcome.LockWaitOutcome.{LockWaitOutcome}
@@ -40,6 +41,7 @@ pub record Purges (result : Result Bool ErrorType) (r : Request) (p q : Parts) :
   pub store : OnOk result (q.store ≡ purged_at p.store (option_map slot r.key))
   pub past : OnOk result (Adds (purged_past r.key) p.past q.past)
   pub tracked : OnOk result (q.tracked ≡ tracked_gone_for r.uses.eviction r.key (purge_outcome true p.store (option_map slot r.key)) p.tracked)
+  pub only : r.uses.eviction ≡ true → LeavesNoStray r.key p q
   pub same : OnErr result (q ≡ p)
   pub rest : q ≡ record p { store = q.store; past = q.past; tracked = q.tracked }
 
@@ -49,6 +51,7 @@ pub record Expires (result : Result Bool ErrorType) (now : ℕ) (r : Request) (p
   pub store : OnOk result (q.store ≡ expired_at now p.store (option_map slot r.key))
   pub past : OnOk result (Adds (expired_past now r.key) p.past q.past)
   pub tracked : OnOk result (q.tracked ≡ tracked_gone_for r.uses.eviction r.key (expire_outcome p.store (option_map slot r.key)) p.tracked)
+  pub only : LeavesNoStray None p q
   pub same : OnErr result (q ≡ p)
   pub rest : q ≡ record p { store = q.store; past = q.past; tracked = q.tracked }
 
@@ -79,6 +82,7 @@ pub record EndsWriteOf (result : Result (Option FinishReport) ErrorType) (r : Re
       × Adds (end_deeds r.write r.held end) p.deeds q.deeds
       × (q.evicted ≡ evicted_after r r.key (entered p.weighing p.store r.write) (tracked_at_end p r end) p.evicted end))
   pub refused : (MayEnd p.store r → ⊥) → OnOk result ⊥ × IfErr result (λ e. e ≡ InternalError) × (q ≡ p)
+  pub only : LeavesNoStray r.key p q
   pub limits : q.limits ≡ p.limits
   pub weighing : q.weighing ≡ p.weighing
 
@@ -104,6 +108,7 @@ pub record TakesFound (result : Result (Unit {0}) ErrorType) (status : HitStatus
   pub locks : OnOk result (q.locks ≡ table_found status now r p.locks)
   pub deeds : OnOk result (Adds (found_deeds status now p.locks r) p.deeds q.deeds)
   pub tracked : q.tracked ≡ p.tracked
+  pub only : LeavesNoStray None p q
   pub left_store : OnErr result (q.store ≡ left p.store h)
   pub left_past : OnErr result (Adds (noted (leave_noted h)) p.past q.past)
   pub same_locks : OnErr result (q.locks ≡ p.locks)
@@ -169,6 +174,7 @@ pub record Publishes {A : Type 0} (result : Result A ErrorType) (tokens : List �
 -- the stale body gets the meta of a response that says that it is still valid
 pub record Revalidates (result : Result Bool ErrorType) (m : Meta) (r : Request) (p q : Parts) : Type 0 where
   pub renews : Renews p.weighing p.limits (renewed_by m r.meta) r.key result (stock p) (stock q)
+  pub only : LeavesNoStray r.key p q
   pub locks : q.locks ≡ settled Done r.held p.locks
   pub deeds : Adds (settled_deeds Done r.held) p.deeds q.deeds
   pub rest : q ≡ record p { store = q.store; past = q.past; tracked = q.tracked; evicted = q.evicted; locks = q.locks; deeds = q.deeds }

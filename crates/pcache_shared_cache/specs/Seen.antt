@@ -4,6 +4,7 @@ use Rattle.std.specs.Prelude.{◌≡◌, ◌⊎◌, ℕ, Option, Some, IfSome, L
 use mathlib.Core.List.{IsPrefix}
 use Rattle.pcache_cache.specs.Growing.{Grew}
 use Rattle.pcache_cache.specs.Parts.{Parts, IsBounded, TracksExactly}
+use Rattle.pcache_cache.specs.Strays.{SumsToStored}
 use Rattle.pcache_cache.specs.declared.weighing.Weighing.TheVariants.{Entries}
 use Rattle.pcache_evict.specs.Tracked.{Limits}
 use Rattle.pcache_lock.specs.PastLaws.{AtMostOneWaits, GivesByPast, OneFetchAtATime}
@@ -47,6 +48,7 @@ pub record IsSound (p : Parts) : Type 0 where
   pub grows : BodiesGrow p.store p.past
   pub tracked : TracksExactly p.weighing p.store p.tracked
   pub bounded : IsBounded p.weighing p.limits p.store
+  pub sums : SumsToStored p
   pub one : AtMostOneWaits p.deeds
   pub gives : GivesByPast p.locks p.deeds
   pub fetches : OneFetchAtATime p.deeds

@@ -6,6 +6,7 @@ use Rattle.pcache_base.specs.declared.error.ErrorType.TheVariants.{InternalError
 use Rattle.pcache_base.specs.declared.reason.NoCacheReason.{NoCacheReason}
 use Rattle.pcache_cache.specs.OwnPut.{EndsOwnPut, MayEndPut, evicted_put, put_past, store_put}
 use Rattle.pcache_cache.specs.Parts.{Adds, Parts}
+use Rattle.pcache_cache.specs.Strays.{LeavesNoStray}
 use Rattle.pcache_put.specs.Progress.{HasFailed}
 use Rattle.pcache_put_ctx.specs.Pasts.{EndsPutPast}
 use Rattle.pcache_put_ctx.specs.Puts.{Piece, Says}
@@ -37,4 +38,5 @@ pub record EndsPutOf {C : Type 0} (result : Result PutOutcome ErrorType) (x y : 
       × (y.stage ≡ stage_ended end))
   pub withdrawn : MayEndPut p.store x → OnErr result (LeavesNone (Some x.key) (write_in x.stage) p.store q.store)
   pub refused : (MayEndPut p.store x → ⊥) → OnOk result ⊥ × IfErr result (λ e. e ≡ InternalError) × (q ≡ p) × (y ≡ x)
+  pub only : LeavesNoStray (Some x.key) p q
   pub rest : q ≡ record p { store = q.store; past = q.past; tracked = q.tracked; evicted = q.evicted }

@@ -15,7 +15,8 @@ impl<M: EvictionManager, K: Mark, const N: usize> SharedCache<M, K, N> {
     ghost use Rattle.pcache_request.specs.Phases.{IsFilling};
     ghost use Rattle.pcache_request.specs.Requests.{MayWrite};
     ghost use Rattle.pcache_shared_cache.specs.Calls.{BeginsWrite, EndsWriteOf, Writes};
-    ghost use Rattle.pcache_shared_cache.specs.Seen.{Goes};
+    ghost use Rattle.pcache_cache.specs.Weighing.{written_head};
+    ghost use Rattle.pcache_shared_cache.specs.Seen.{Goes, Sees};
 
     /// `Cache::set_miss_handler`: begins the write. Requires a phase in which a write may be made, a meta, and no write; ask
     /// `may_write` of the request.
@@ -54,6 +55,19 @@ impl<M: EvictionManager, K: Mark, const N: usize> SharedCache<M, K, N> {
         let result = part.cache.write_body(&mut request.request, bytes, eof);
         part.log.adds(&part.cache, &mut request.sight);
         result
+    }
+
+    /// `Cache::head_length`: the length of the text of the head that the request's write stores, in bytes; `None` without a write.
+    pub fn head_length<R: Wait>(&self, rt: &R, request: &mut SharedRequest<K, N>) -> Option<usize>
+        ensures sees { Sees self.now K.names request.old.place request.old.seen request.new.seen
+            (λ p. result ≡ written_head p.store request.old.cache.write) }
+        ensures rest { request.new ≡ record request.old { seen = request.new.seen } }
+    {
+        let lock = self.part(request.place());
+        let mut guard = lock.lock(rt);
+        let part = &mut *guard;
+        part.log.shows(&mut request.sight);
+        part.cache.head_length(&request.request)
     }
 
     /// `Cache::finish_miss_handler`: ends the write and stores the body, whose entry is admitted; what is evicted for it is

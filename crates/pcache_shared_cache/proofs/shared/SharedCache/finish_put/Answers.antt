@@ -19,6 +19,7 @@ returns-then-not-may_end_put-clause-goes g c =
       ended = λ may. not_so c.may_end_put.result c.if-not-may_end_put.true c.may_end_put.ensures may;
       withdrawn = λ may. not_so c.may_end_put.result c.if-not-may_end_put.true c.may_end_put.ensures may;
       refused = λ no. (tt, c.new.ensures, refl, refl);
+      only = λ of its only. only;
       rest = refl;
     }))
 
@@ -32,6 +33,7 @@ adds-requires-2-clause-leads g c =
       ended = λ _. each_put_end c.finish_put-outcome.result (λ how is. (is.0, is.1, is.2, is.3)) e.ended;
       withdrawn = λ _. e.withdrawn;
       refused = λ no. absurd (no (c.may_end_put.ensures.0 c.if-not-may_end_put.false));
+      only = e.only;
       rest = λ i. record { store = q.store; past = q.past; tracked = q.tracked; evicted = q.evicted; limits = e.limits i; weighing = e.weighing i; locks = e.locks i; deeds = e.deeds i };
     } in
     (p, c.part-2.invariant, put_ended c.finish_put-outcome.result x c.finish_put-outcome.new.put.put p q row (c.may_end_put.ensures.0 c.if-not-may_end_put.false))
@@ -46,6 +48,7 @@ returns-clause-goes g c =
       ended = λ _. each_put_end c.finish_put-outcome.result (λ how is. (is.0, is.1, is.2, is.3)) e.ended;
       withdrawn = λ _. e.withdrawn;
       refused = λ no. absurd (no (c.may_end_put.ensures.0 c.if-not-may_end_put.false));
+      only = e.only;
       rest = λ i. record { store = q.store; past = q.past; tracked = q.tracked; evicted = q.evicted; limits = e.limits i; weighing = e.weighing i; locks = e.locks i; deeds = e.deeds i };
     } in
     let here = lent c.args.self.now c.part.result.now c.part.ensures.limits c.part.ensures.place (c.place.ensures.place ∙ ap (λ (s : SeatedPut g.row.C.Denot). s.place) (sym c.put.view_is)) c.lock-guard.ensures.place c.lock-guard.ensures.limits (c.part-2.view_is ∙ c.deref_mut-part.ensures.value) in
