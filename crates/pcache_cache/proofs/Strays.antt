@@ -6,6 +6,7 @@ use Rattle.std.specs.Ordering.{nat_cmp, eq_by_cmp, is_eq}
 use Rattle.std.specs.Cmp.{tied_itself}
 use Rattle.std.specs.FinMap.{contains_key, get, insert, remove, get-insert, get-remove}
 use Rattle.std.proofs.lemmas.Bool.{both_ways, eq-eqb, eqb-true}
+use Rattle.std.proofs.lemmas.List.Elements.{All-head, All-tail}
 use Rattle.pcache_base.specs.CompactKey.{compact_of}
 use Rattle.pcache_base.specs.Key.{Key, slot}
 use Rattle.pcache_base.specs.declared.key.CompactCacheKey.{CompactCacheKey}
@@ -111,6 +112,10 @@ module _ (of : Account) (wg : Weighing) where
   abbrev pub HasName : CacheEntryKey → Type 0
   HasName e = (w : ℕ) × (e ≡ Identified (of.key_of_slot (entry_slot e)) w)
 
+  abbrev pub HaveNames : List CacheEntryKey → Type 0
+  HaveNames [] = Unit {0}
+  HaveNames (e ∷ es) = HasName e × HaveNames es
+
   other-body : (w v : ℕ) (o : Option Stored) (b : Stored) → o ≡ Some b → b.meta.entry_id ≡ Some w → w ≢ v → body_without v o ≡ Some b
   other-body w v o b is number ne =
       elim (has_body_of v o) as (λ t. has_body_of v o ≡ t → cond t None o ≡ Some b) [
@@ -143,18 +148,18 @@ module _ (of : Account) (wg : Weighing) where
       let own = only e n was.0 in
       record { number = own.number; named = own.named; stored = elim own.stored [ inl out ↦ inl out | inr body ↦ inr (body-stays s e x n own.number name own.named was.1 body) ] }
 
-  pub only_each : (out : List CacheEntryKey) (m : Tracked) (s : Store) → All HasName out → TracksOnly of wg s m → TracksOnly of wg (purged_each s out) (without out m)
+  pub only_each : (out : List CacheEntryKey) (m : Tracked) (s : Store) → HaveNames out → TracksOnly of wg s m → TracksOnly of wg (purged_each s out) (without out m)
   only_each [] m s names only = only
   only_each (x ∷ out) m s names only = only_each out (remove m x) (entry_purged true s x) names.1 (only-one m s x names.0 only)
 
   -- an entry that is tracked has a name
-  pub names : (out : List CacheEntryKey) (m : Tracked) (s : Store) → All (λ e. IsTrue (contains_key m e)) out → TracksOnly of wg s m → All HasName out
+  pub names : (out : List CacheEntryKey) (m : Tracked) (s : Store) → All (λ e. IsTrue (contains_key m e)) out → TracksOnly of wg s m → HaveNames out
   names [] m s there only = tt
-  names (x ∷ out) m s there only = (name (get m x) refl there.0, names out m s there.1 only)
+  names (x ∷ out) m s there only = (name (get m x) refl (All-head (λ e. IsTrue (contains_key m e)) x out there), names out m s (All-tail (λ e. IsTrue (contains_key m e)) x out there) only)
     where
       name : (o : Option ℕ) → get m x ≡ o → is_some o ≡ true → HasName x
-      name None is no = absurd (cc)
-      name (Some n) is yes = let own = only x n is in (own.number, own.named)
+      name None is never = absurd (cc)
+      name (Some n) is so = let own = only x n is in (own.number, own.named)
 
   -- ---- a body comes to stand under a key, and its entry is admitted
 

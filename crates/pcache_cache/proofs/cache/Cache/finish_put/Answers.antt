@@ -1,5 +1,7 @@
-use Rattle.std.proofs.Common.{◌≡◌, true, Some, subst, sym, ◌∙◌}
+use Rattle.std.proofs.Common.{ap, ◌≡◌, true, Some, subst, sym, ◌∙◌}
+use Rattle.pcache_base.specs.Key.{slot}
 use Rattle.pcache_put_ctx.specs.State.{write_in}
+use Rattle.pcache_store.specs.Finishes.{body_number}
 use Rattle.pcache_cache.specs.Parts.{IsKept, Parts, is_own_write}
 use Rattle.pcache_cache.proofs.Ended.{same-number}
 use Rattle.pcache_cache.proofs.Fed.{kept_put_ended}
@@ -27,5 +29,5 @@ returns-clause-only g c of its only =
     let put = c.args.put.now.put in
     only_put_ended of inside.weighing (g.M.EvictionManager.limits inside.manager) put.key put.parser put.stage c.body_number.result c.put_weight.result inside.store.state call.new.storage.state (tracked inside.manager) (tracked call.new.eviction) call.result
     (sym c.writer-writer.ensures.entry ∙ same-number _ c.writer-writer.result ∙ c.writer-writer.ensures.write)
-    (subst (λ (p : Parts). is_own_write p.store (Some put.key) (write_in put.stage) ≡ true) (sym c.self.view_is) c.requires.own) c.put_weight.ensures its c.body_number.ensures
+    (subst (λ (p : Parts). is_own_write p.store (Some put.key) (write_in put.stage) ≡ true) (sym c.self.view_is) c.requires.own) c.put_weight.ensures its (c.body_number.ensures ∙ ap (λ k. body_number inside.store.state (slot k)) c.key.ensures)
     (each_put_end call.result (λ how is. is.0) call.ensures.ended) (subst (λ (p : Parts). TracksOnly of p.weighing p.store p.tracked) (sym c.self.view_is) only)
