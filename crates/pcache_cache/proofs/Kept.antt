@@ -1,8 +1,8 @@
 -- What always holds of a cache still holds after each call but the end of a write.
-use Rattle.std.proofs.Common.{◌≡◌, ◌≢◌, ℕ, ◌≤◌, arith, ◌⊎◌, inl, inr, Bool, true, false, cond, Option, None, Some, is_some, Result, Ok, Err, refl, ap, sym, subst, ◌∙◌, option_map, if◌then◌else◌}
+use Rattle.std.proofs.Common.{◌≡◌, ◌≢◌, ℕ, ◌≤◌, arith, inl, inr, Bool, true, false, cond, Option, None, Some, is_some, Result, Ok, Err, refl, ap, sym, subst, ◌∙◌, option_map}
 use Rattle.std.specs.Prelude.{IfErr, IfSome, OnErr, OnOk}
 use Rattle.std.specs.Ordering.{eq_by_cmp, nat_cmp}
-use Rattle.std.specs.FinMap.{get, insert, remove, contains_key, empty, get-empty, get-insert, get-remove}
+use Rattle.std.specs.FinMap.{get, remove, empty, get-empty, get-remove}
 use Rattle.std.specs.Cmp.{nat_cmp_total}
 use Rattle.pcache_base.proofs.Totals.{total-empty}
 use Rattle.pcache_store.specs.Totals.{body_count, body_size, slots}
@@ -11,8 +11,8 @@ use Rattle.pcache_base.specs.Key.{Key, slot}
 use Rattle.pcache_base.specs.CompactKey.{compact_of}
 use Rattle.pcache_base.specs.declared.error.ErrorType.{ErrorType}
 use Rattle.pcache_evict.specs.declared.eviction.entry_key.CacheEntryKey.{CacheEntryKey}
-use Rattle.pcache_evict.specs.Entry.{entry_cmp, entries_total, id_of}
-use Rattle.pcache_evict.specs.Tracked.{Tracked, Limits, added}
+use Rattle.pcache_evict.specs.Entry.{entries_total, id_of}
+use Rattle.pcache_evict.specs.Tracked.{Tracked, Limits}
 use Rattle.pcache_meta.specs.Meta.{Meta, expired_at}
 use Rattle.pcache_predict.specs.declared.admission.Decision.{Decision}
 use Rattle.pcache_request.specs.Admissions.{is_deferral, store_looked_with}
@@ -20,20 +20,20 @@ use Rattle.pcache_lock.specs.Locks.{Locks}
 use Rattle.pcache_request.specs.Failures.{FailsToBegin, FailsToLook}
 use Rattle.pcache_request.specs.Finishing.{entry_slot}
 use Rattle.pcache_request.specs.LockPasts.{Deeds}
-use Rattle.pcache_request.specs.Requests.{Request, begun_for, counts_found, dropped_by, entry_of, found_for, followed_for, left_by, store_found, store_writing, tracked_found, tracked_found_at, tracked_gone, tracked_gone_for}
+use Rattle.pcache_request.specs.Requests.{Request, begun_for, dropped_by, entry_of, found_for, followed_for, left_by, store_found, store_writing, tracked_gone, tracked_gone_for}
 use Rattle.pcache_request.specs.Phases.{is_treated_as_miss}
 use Rattle.pcache_request.specs.StorePasts.{Past}
 use Rattle.pcache_request.specs.Variants.{is_hidden, searched, without_hidden}
 use Rattle.pcache_request.specs.declared.phase.HitStatus.{HitStatus}
 use Rattle.pcache_store.specs.Purge as purge
 use Rattle.pcache_store.specs.Purge.{purge_outcome, purged_at, expire_outcome, slot_outcome}
-use Rattle.pcache_store.specs.Store.{Store, Slot, Reader, complete_body, followed, left, meta_changed, purged, reader_weight, number_of_body}
+use Rattle.pcache_store.specs.Store.{Store, Slot, Reader, complete_body, followed, left, meta_changed, purged, number_of_body}
 use Rattle.pcache_store.specs.declared.storage.PurgeOutcome.TheVariants.{NotFound, Expired}
 use Rattle.pcache_cache.specs.Parts.{IsKept}
 use Rattle.pcache_cache.specs.Weighing.{body_weight, slot_weight}
 use Rattle.pcache_cache.specs.declared.weighing.Weighing.{Weighing}
 use Rattle.pcache_cache.proofs.Standing.{Fewer, body-remove, cmp_same, fewer-begun_for, fewer-changed, fewer-dropped_by, fewer-purged_at, fewer-slots, fewer-then, slots-followed, slots-left, slots-left_by}
-use Rattle.pcache_cache.proofs.Sums.{bounded-fewer, entries-apart, entry-same}
+use Rattle.pcache_cache.proofs.Sums.{bounded-fewer, entries-apart}
 
 -- ---- nothing is stored
 

@@ -21,7 +21,7 @@ use Rattle.pcache_put_ctx.specs.Steps.{EndsEarly, EndsPut, tracked_before_put, w
 use Rattle.pcache_put_ctx.specs.Steps as put_steps
 use Rattle.pcache_put_ctx.specs.declared.report.PutEnd.{PutEnd}
 use Rattle.pcache_put_ctx.specs.declared.report.PutOutcome.{PutOutcome}
-use Rattle.pcache_request.specs.Finishing.{Drops, PurgesAll, Stores, Withdraws}
+use Rattle.pcache_request.specs.Finishing.{PurgesAll, Stores, Withdraws}
 use Rattle.pcache_request.specs.Replacing.{tracked_before, tracked_before_end, without_entry}
 use Rattle.pcache_request.specs.Requests.{Request, entry_of, settled, tracked_gone, tracked_gone_for}
 use Rattle.pcache_request.specs.WriteEnds.{Ends, EndsAs, EndsBody, EndsIdle, HoldsNoLock}
@@ -39,7 +39,7 @@ use Rattle.pcache_store.specs.Store.{Slot, Store, Stored, Written, complete_body
 use Rattle.pcache_store.specs.declared.storage.MissFinishType.TheVariants.{Created}
 use Rattle.pcache_store.specs.declared.storage.PurgeOutcome.TheVariants.{Expired, NotFound}
 use Rattle.pcache_cache.specs.Parts.{MayEnd, is_own_write, replaced_in}
-use Rattle.pcache_cache.specs.Renewing.{IsNotSet, IsSet, Readmits, Renews, Stock, entry_at, meta_given, reweighs, weight_at}
+use Rattle.pcache_cache.specs.Renewing.{IsNotSet, IsSet, Renews, Stock, entry_at, meta_given, reweighs, weight_at}
 use Rattle.pcache_cache.specs.Strays.{Account, IsItsKey, TracksOnly}
 use Rattle.pcache_cache.specs.Weighing.{body_weight, ending_weight, entered, weight_of, write_weight}
 use Rattle.pcache_cache.specs.declared.weighing.Weighing.{Weighing}

@@ -1,5 +1,5 @@
 -- What is tracked stays what is stored.
-use Rattle.std.proofs.Common.{◌≡◌, ◌≢◌, ℕ, ◌⊎◌, inl, inr, Bool, true, false, cond, Option, None, Some, is_some, List, [], ◌∷◌, refl, ap, sym, subst, ◌∙◌, nat_eq}
+use Rattle.std.proofs.Common.{◌≡◌, ◌≢◌, ℕ, ◌⊎◌, inl, inr, true, false, cond, Option, None, Some, is_some, List, [], ◌∷◌, refl, ap, sym, ◌∙◌, nat_eq}
 use Rattle.std.specs.Prelude.{All, IsTrue}
 use Rattle.std.specs.Option.{option_eq}
 use Rattle.std.specs.Ordering.{nat_cmp, eq_by_cmp, is_eq}
@@ -7,9 +7,7 @@ use Rattle.std.specs.Cmp.{tied_itself}
 use Rattle.std.specs.FinMap.{contains_key, get, insert, remove, get-insert, get-remove}
 use Rattle.std.proofs.lemmas.Bool.{both_ways, eq-eqb, eqb-true}
 use Rattle.std.proofs.lemmas.List.Elements.{All-head, All-tail}
-use Rattle.pcache_base.specs.CompactKey.{compact_of}
 use Rattle.pcache_base.specs.Key.{Key, slot}
-use Rattle.pcache_base.specs.declared.key.CompactCacheKey.{CompactCacheKey}
 use Rattle.pcache_evict.specs.Entry.{entry_cmp, entries_total}
 use Rattle.pcache_evict.specs.Tracked.{Tracked, without}
 use Rattle.pcache_evict.specs.declared.eviction.entry_key.CacheEntryKey.{CacheEntryKey}
@@ -17,7 +15,7 @@ use Rattle.pcache_evict.specs.declared.eviction.entry_key.CacheEntryKey.TheVaria
 use Rattle.pcache_request.specs.Finishing.{entry_slot}
 use Rattle.pcache_request.specs.Requests.{entry_of}
 use Rattle.pcache_store.specs.Finishes.{body_number}
-use Rattle.pcache_store.specs.Purge.{entry_purged, entry_purged_in}
+use Rattle.pcache_store.specs.Purge.{entry_purged}
 use Rattle.pcache_store.specs.Store.{Store, Stored, body_without, complete_body, has_body_of, number_of_body, purged, write_purged}
 use Rattle.pcache_cache.specs.Strays.{Account, IsBody, IsItsKey, IsStored, TracksOnly}
 use Rattle.pcache_cache.specs.Weighing.{body_weight}
@@ -59,11 +57,13 @@ module _ (of : Account) (wg : Weighing) where
   -- what is tracked beside the entry of a key's body
   pub but-stays : (m : Tracked) (s : Store) (k : Key) (id : Option ℕ) → IsItsKey of (Some k) → id ≡ body_number s (slot k) → TracksOnly of wg s m → (e : CacheEntryKey) (n : ℕ) → get m e ≡ Some n → eq_by_cmp entry_cmp e (entry_of k id) ≡ false → IsStored of wg s e n × ((of.is_left_out e ≡ true) ⊎ (entry_slot e ≢ slot k))
   but-stays m s k id its number only e n is other =
-      let own = only e n is in
-      (own, elim own.stored [
-        | inl out ↦ inl out
-        | inr body ↦ inr (λ at. both_ways _ other (ap (eq_by_cmp entry_cmp e) (sym (own-is s k e n own.number id its own.named body at number)) ∙ tied_itself-eq e))
-      ])
+      let own = only e n is in (
+        own,
+        elim own.stored [
+          | inl out ↦ inl out
+          | inr body ↦ inr (λ at. both_ways _ other (ap (eq_by_cmp entry_cmp e) (sym (own-is s k e n own.number id its own.named body at number)) ∙ tied_itself-eq e))
+        ],
+      )
     where
       tied_itself-eq : (e : CacheEntryKey) → eq_by_cmp entry_cmp e e ≡ true
       tied_itself-eq e = ap is_eq (tied_itself entries_total e)
@@ -82,20 +82,26 @@ module _ (of : Account) (wg : Weighing) where
   -- where no body has a number
   pub only_but_none : (m : Tracked) (s : Store) (k : ℕ) → body_number s k ≡ None → TracksOnly of wg s m → OnlyBut k s m
   only_but_none m s k none only e n is =
-      let own = only e n is in
-      (own, elim own.stored [
-        | inl out ↦ inl out
-        | inr body ↦ inr (λ at. let some : body_number s k ≡ Some own.number = ap (body_number s) (sym at) ∙ ap number_of_body body.1 ∙ body.2 in absurd (cc))
-      ])
+      let own = only e n is in (
+        own,
+        elim own.stored [
+          | inl out ↦ inl out
+          | inr body ↦ inr (λ at. let some : body_number s k ≡ Some own.number = ap (body_number s) (sym at) ∙ ap number_of_body body.1 ∙ body.2 in absurd (cc))
+        ],
+      )
 
   -- and nothing else changes
   pub only_elsewhere : (m : Tracked) (s t : Store) (k : ℕ) → ((q : ℕ) → q ≢ k → complete_body (get t.slots q) ≡ complete_body (get s.slots q)) → OnlyBut k s m → TracksOnly of wg t m
   only_elsewhere m s t k same but e n is =
       let p = but e n is in
-      record { number = p.0.number; named = p.0.named; stored = elim p.1 [
-        | inl out ↦ inl out
-        | inr ne ↦ elim p.0.stored [ inl out ↦ inl out | inr body ↦ inr (body.0, same (entry_slot e) ne ∙ body.1, body.2, body.3) ]
-      ] }
+      record {
+        number = p.0.number;
+        named = p.0.named;
+        stored = elim p.1 [
+          | inl out ↦ inl out
+          | inr ne ↦ elim p.0.stored [ inl out ↦ inl out | inr body ↦ inr (body.0, same (entry_slot e) ne ∙ body.1, body.2, body.3) ]
+        ];
+      }
 
   pub body-apart : (s : Store) (k q : ℕ) → q ≢ k → complete_body (get (purged s k).slots q) ≡ complete_body (get s.slots q)
   body-apart s k q ne =
@@ -129,13 +135,13 @@ module _ (of : Account) (wg : Weighing) where
       let v = name.0 in
       let lost : entry_purged true s x ≡ write_purged s (entry_slot x) v = numbered x v name.1 in
       let there : complete_body (get (write_purged s (entry_slot x) v).slots (entry_slot e)) ≡ Some body.0 =
-          body-lost s.slots (entry_slot x) v (entry_slot e) ∙ elim (eq_by_cmp nat_cmp (entry_slot e) (entry_slot x)) as (λ t. eq_by_cmp nat_cmp (entry_slot e) (entry_slot x) ≡ t → cond t (body_without v (complete_body (get s.slots (entry_slot x)))) (complete_body (get s.slots (entry_slot e))) ≡ Some body.0) [
-            | true ↦ λ t.
-                let at : entry_slot e ≡ entry_slot x = same-key (entry_slot e) (entry_slot x) t in
-                other-body w v (complete_body (get s.slots (entry_slot x))) body.0 (ap (λ q. complete_body (get s.slots q)) (sym at) ∙ body.1) body.2
-                (λ same. both_ways _ other (ap (eq_by_cmp entry_cmp e) (name.1 ∙ ap (λ q. Identified (of.key_of_slot q) v) (sym at) ∙ ap (Identified (of.key_of_slot (entry_slot e))) (sym same) ∙ sym named) ∙ ap is_eq (tied_itself entries_total e)))
-            | false ↦ λ t. body.1
-          ] refl in
+      body-lost s.slots (entry_slot x) v (entry_slot e) ∙ elim (eq_by_cmp nat_cmp (entry_slot e) (entry_slot x)) as (λ t. eq_by_cmp nat_cmp (entry_slot e) (entry_slot x) ≡ t → cond t (body_without v (complete_body (get s.slots (entry_slot x)))) (complete_body (get s.slots (entry_slot e))) ≡ Some body.0) [
+        | true ↦ λ t.
+            let at : entry_slot e ≡ entry_slot x = same-key (entry_slot e) (entry_slot x) t in
+            other-body w v (complete_body (get s.slots (entry_slot x))) body.0 (ap (λ q. complete_body (get s.slots q)) (sym at) ∙ body.1) body.2
+            (λ same. both_ways _ other (ap (eq_by_cmp entry_cmp e) (name.1 ∙ ap (λ q. Identified (of.key_of_slot q) v) (sym at) ∙ ap (Identified (of.key_of_slot (entry_slot e))) (sym same) ∙ sym named) ∙ ap is_eq (tied_itself entries_total e)))
+        | false ↦ λ t. body.1
+      ] refl in
       (body.0, ap (λ (y : Store). complete_body (get y.slots (entry_slot e))) lost ∙ there, body.2, body.3)
     where
       numbered : (x : CacheEntryKey) (v : ℕ) → x ≡ Identified (of.key_of_slot (entry_slot x)) v → entry_purged true s x ≡ write_purged s (entry_slot x) v
@@ -181,10 +187,14 @@ module _ (of : Account) (wg : Weighing) where
             }
         | false ↦ λ b old.
             let p = but e x old b in
-            record { number = p.0.number; named = p.0.named; stored = elim p.1 [
-              | inl out ↦ inl out
-              | inr ne ↦ elim p.0.stored [ inl out ↦ inl out | inr body ↦ inr (body.0, here (entry_slot e) ∙ elsewhere (entry_slot e) ne ∙ body.1, body.2, body.3) ]
-            ] }
+            record {
+              number = p.0.number;
+              named = p.0.named;
+              stored = elim p.1 [
+                | inl out ↦ inl out
+                | inr ne ↦ elim p.0.stored [ inl out ↦ inl out | inr body ↦ inr (body.0, here (entry_slot e) ∙ elsewhere (entry_slot e) ne ∙ body.1, body.2, body.3) ]
+              ];
+            }
       ] refl (sym (get-insert entries_total m mine n e) ∙ is)
     where
       mine : CacheEntryKey

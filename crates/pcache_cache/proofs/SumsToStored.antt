@@ -1,5 +1,5 @@
 -- Where only what is stored is tracked, what is tracked sums to what is stored.
-use Rattle.std.proofs.Common.{◌≡◌, ◌≢◌, ℕ, zero, suc, ◌-◌, ◌≤◌, true, false, cond, Option, None, Some, is_some, List, [], ◌∷◌, inl, inr, length, refl, ap, sym, subst, ◌∙◌, arith}
+use Rattle.std.proofs.Common.{◌≡◌, ℕ, zero, suc, ◌-◌, ◌≤◌, true, false, cond, None, Some, is_some, List, [], ◌∷◌, inl, inr, length, refl, ap, sym, subst, ◌∙◌, arith}
 use Rattle.std.specs.Ordering.{nat_cmp, eq_by_cmp, is_eq}
 use Rattle.std.specs.Cmp.{nat_cmp_total, tied_itself}
 use Rattle.std.specs.FinMap.{FinMap, entries, empty_of_len, find, get, get-entries, get-remove, len, len-entries, len-remove, nat_cmp-IsAntisymmetric, remove}
@@ -19,7 +19,7 @@ use Rattle.pcache_cache.specs.Strays.{Account, IsBody, SumsToStored, TracksOnly}
 use Rattle.pcache_cache.specs.Weighing.{body_weight, slot_weight, stored_weight}
 use Rattle.pcache_cache.specs.declared.weighing.Weighing.{Weighing}
 use Rattle.pcache_cache.proofs.Standing.{same-key}
-use Rattle.pcache_cache.proofs.Sums.{entry-same, sized, total-tracked, tracked-at}
+use Rattle.pcache_cache.proofs.Sums.{sized, total-tracked, tracked-at}
 
 -- the first entry of a map, and the others
 first-here : (m : Tracked) (x : CacheEntryKey × ℕ) (xs : List (CacheEntryKey × ℕ)) → entries m ≡ x ∷ xs → get m x.0 ≡ Some x.1
@@ -49,10 +49,10 @@ module _ (f : Slot → ℕ) (g : ℕ → ℕ) where
   rest-covers xs m x n here apart covers e v is =
       let was = others m x e v is in
       let same : get (remove xs (entry_slot x)) (entry_slot e) ≡ get xs (entry_slot e) =
-          get-remove nat_cmp_total xs (entry_slot x) (entry_slot e) ∙ elim (eq_by_cmp nat_cmp (entry_slot e) (entry_slot x)) as (λ t. eq_by_cmp nat_cmp (entry_slot e) (entry_slot x) ≡ t → cond t None (get xs (entry_slot e)) ≡ get xs (entry_slot e)) [
-            | true ↦ λ t. absurd (was.1 (apart e x v n was.0 here (same-key (entry_slot e) (entry_slot x) t)))
-            | false ↦ λ t. refl
-          ] refl in
+      get-remove nat_cmp_total xs (entry_slot x) (entry_slot e) ∙ elim (eq_by_cmp nat_cmp (entry_slot e) (entry_slot x)) as (λ t. eq_by_cmp nat_cmp (entry_slot e) (entry_slot x) ≡ t → cond t None (get xs (entry_slot e)) ≡ get xs (entry_slot e)) [
+        | true ↦ λ t. absurd (was.1 (apart e x v n was.0 here (same-key (entry_slot e) (entry_slot x) t)))
+        | false ↦ λ t. refl
+      ] refl in
       subst (λ o. g v ≤ share f o) (sym same) (covers e v was.0)
 
   total-covered : (n : ℕ) (m : Tracked) (xs : FinMap nat_cmp Slot) → len m ≡ n → IsApart m → Covers xs m → total g m ≤ total f xs
