@@ -33,7 +33,7 @@ use Rattle.pcache_request.specs.declared.phase.HitStatus.{HitStatus}
 use Rattle.pcache_store.specs.Purge.{expire_outcome, expired_at, purge_outcome, purged_at}
 use Rattle.pcache_store.specs.Readers.{in_memory, reader_of}
 use Rattle.pcache_store.specs.Refusals.{MayFailWrite}
-use Rattle.pcache_store.specs.Store.{Reader, Store, gives_piece, left, read_of, reader_after, sought, write_read}
+use Rattle.pcache_store.specs.Store.{Reader, Store, gives_piece, left, read_of, reader_after, sought}
 use Rattle.pcache_c.specs.Codes.{Outcome, bad_value, code_of, no_memory, nothing, ok, wrong_call}
 use Rattle.pcache_c.specs.Numbers.{held_number, outcome_number, phase_number}
 use Rattle.pcache_c.specs.declared.object.Object.{Object}

@@ -1,6 +1,6 @@
 -- What each call of a request does to the state of its part, from p to q, with this result: what `Cache`'s call of the same name
 -- says. The request is r before it and, where the call changes it, s after it (own).
-use Rattle.std.specs.Prelude.{◌≡◌, ◌⊎◌, ℕ, Bool, true, List, Option, Some, IfErr, IfOk, IfSome, OnErr, OnOk, Result, option_map}
+use Rattle.std.specs.Prelude.{None, ◌≡◌, ◌⊎◌, ℕ, Bool, true, List, Option, Some, IfErr, IfOk, IfSome, OnErr, OnOk, Result, option_map}
 use Rattle.pcache_base.specs.Key.{slot}
 use Rattle.pcache_base.specs.declared.error.ErrorType.{ErrorType}
 use Rattle.pcache_base.specs.declared.error.ErrorType.TheVariants.{InternalError, OutOfMemory}
@@ -33,7 +33,7 @@ use Rattle.pcache_store.specs.Purge.{expire_outcome, expired_at, purge_outcome, 
 use Rattle.pcache_store.specs.Readers.{in_memory, reader_of}
 use Rattle.pcache_store.specs.declared.memory.hit.MemHitHandler.{MemHitHandler}
 use Rattle.pcache_store.specs.Refusals.{MayFailWrite}
-use Rattle.pcache_store.specs.Store.{Reader, left, read_of, reader_after, write_read}
+use Rattle.pcache_store.specs.Store.{Reader, left, read_of, reader_after}
 
 -- the key is purged
 pub record Purges (result : Result Bool ErrorType) (r : Request) (p q : Parts) : Type 0 where
