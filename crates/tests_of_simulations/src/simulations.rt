@@ -2,6 +2,7 @@
 use cache_simulation::options::{Options, Unusable, Words, read};
 use cache_simulation::simulation::{Stop, simulate};
 use std::alloc::{AllocError, Global};
+use std::fs;
 use std::rt::{Clock, Files};
 use std::thread::Threads;
 
@@ -425,4 +426,45 @@ fn nodes_share_the_keys(rt: HostRuntime) {
             SHARES_IN_JSON
         )
     );
+}
+
+// Of the places of these keys among a million, `a`, `c` and `b` are the first, and then `f` is at 489,067. What a cache of that
+// part of 20 bytes serves of them was computed by `bench/simulators.py`.
+const OF_SIX_KEYS: &str =
+    "0,a,2\n1,b,3\n2,c,2\n3,d,1\n4,a,2\n5,e,1\n6,b,3\n7,c,2\n8,f,2\n9,d,1\n10,a,2\n11,e,1\n12,c,2\n13,b,3\n14,d,1\n";
+
+const OF_THREE_KEYS: &str = "policy,size,requests,hits,bytes,hit_bytes,evicted,tracked,\
+    expected_requests,corrected_hits,expected_bytes,corrected_hit_bytes,sample,part,ttl,large,expired,ignore_size,watermark,from,until\n\
+    lru,20,9,6,21,14,0,7,7,4,13,6,0.489067,0,,pass,use,false,,0,15\n";
+
+// Two keys at the first place of all.
+const AT_ONE_PLACE: &str = "0,n1484779,2\n1,n1550152,3\n";
+
+// Whether the sample of at most so many keys of a file with these lines ends so.
+fn is_limited<C: Clock + Files + Threads + Sync>(
+    rt: &C,
+    alloc: Global,
+    lines: &str,
+    most: &'static str,
+    end: &str,
+    written: &str,
+) -> bool {
+    let mut words = WORDS;
+    words.policy = "lru";
+    words.size = "20";
+    words.trace = Some("limited.csv");
+    words.sample_keys = Some(most);
+    match (
+        read(alloc, &words),
+        fs::write(rt, "limited.csv", lines.as_bytes()),
+    ) {
+        (Ok(mut options), Ok(())) => is_played(rt, alloc, &mut options, "", end, written, ""),
+        _ => false,
+    }
+}
+
+#[test]
+fn the_largest_sample_of_so_many_keys_is_played(rt: HostRuntime) {
+    assert!(rt; is_limited(&rt, rt.alloc(), OF_SIX_KEYS, "3", "done", OF_THREE_KEYS));
+    assert!(rt; is_limited(&rt, rt.alloc(), AT_ONE_PLACE, "1", "too many keys", ""));
 }
