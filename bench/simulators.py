@@ -5,6 +5,7 @@
     bench/simulators.py --trace SEED REQUESTS KEYS > FILE
 
 LRU; FIFO; CLOCK (Corbató, A paging experiment with the Multics system, 1968), as a circle with a hand; SIEVE (Zhang, Yang, Yue, Vigfusson, Rashmi, NSDI 2024); S3-FIFO (Yang, Zhang, Qiu, Yue, Vigfusson, SOSP 2023); 2Q (Johnson, Shasha, VLDB 1994). Each takes requests of (key, size) and tells hits.
+Beside them is a sample of at most so many keys.
 With a time to live, a body past its time is a miss: its entry is used, or removed and admitted anew. Nothing here is shared with the crates of this repository.
 """
 import bisect
@@ -393,6 +394,17 @@ def simulate_nodes(policy, limit, trace, count, dropped, behind):
     return {name: (*counts, caches[name].evicted) for name, counts in told.items()}
 
 
+def place_of(key):
+    """Where the hash of a key lies among a million places."""
+    return int.from_bytes(hashlib.blake2b(key.encode(), digest_size=16).digest()[:8], "big") % 1_000_000
+
+
+def largest_rate(trace, most):
+    """SHARDS with a fixed size (FAST 2015), by trying each rate: the largest one, in millionths, at which at most so many keys are sampled."""
+    places = sorted(place_of(key) for key in {key for key, _ in trace})
+    return max(rate for rate in range(1_000_001) if bisect.bisect_left(places, rate) <= most)
+
+
 def zipf(seed, requests, keys, skew=0.9):
     """Requests of keys whose popularity falls with their rank; each key has one size."""
     draw = random.Random(seed)
@@ -472,6 +484,24 @@ def compare_nodes(program, name, trace, limit, count, dropped, behind):
     print(f"{name}: {count} nodes, {len(dropped)} of which go, and a cache behind them: equal")
 
 
+def compare_key_limit(program, name, trace, size, most):
+    """The sample that has at most so many keys: its rate, and what the caches of that part of their size served of it."""
+    rate = largest_rate(trace, most)
+    sampled = [it for it in trace if place_of(it[0]) < rate]
+    with tempfile.NamedTemporaryFile("w", suffix=".csv") as file:
+        file.writelines(f"{second},{key},{size}\n" for second, (key, size) in enumerate(trace))
+        file.flush()
+        words = [program, "--policy", ",".join(POLICIES), "--size", str(size), "--trace", file.name, "--sample-keys", str(most), "--format", "csv"]
+        head, *lines = subprocess.run(words, capture_output=True, text=True, check=True).stdout.split()
+    for policy, line in zip(POLICIES, lines, strict=True):
+        row = dict(zip(head.split(","), line.split(",")))
+        told = tuple(int(row[it]) for it in ("requests", "hits", "bytes", "hit_bytes", "evicted"))
+        assert row["policy"] == policy and row["sample"] == f"{rate / 1_000_000:.6f}", (name, most, rate, row)
+        assert told == simulate(policy, size * rate // 1_000_000, sampled, True), (name, most, policy, told)
+        assert int(row["expected_requests"]) == len(trace) * rate // 1_000_000, (name, most, row)
+    print(f"{name}: a sample of at most {most} keys: equal, a rate of {rate / 1_000_000:.6f}")
+
+
 def each_prefix(program, name, trace, sizes):
     """Equal counts after each request say that each is a hit in both or in none."""
     for length in range(1, len(trace) + 1):
@@ -490,11 +520,14 @@ def main():
     for name, trace in HAND_MADE.items():
         each_prefix(program, name, trace, [1, 2, 3, 5, 8, 13])
         compare_bounds(program, name, trace, [1, 2, 3, 5, 8])
+        compare_key_limit(program, name, trace, 8, 2)
     traces = [(1, 100_000, 5_000), (2, 100_000, 50_000), (3, 1_000_000, 100_000)]
     for seed, requests, keys in traces[:2] if "--short" in sys.argv else traces:
         trace = list(zipf(seed, requests, keys))
         total = sum({key: size for key, size in trace}.values())
         compare_bounds(program, f"Zipf {seed}", trace, [max(1, keys * part // 1000) for part in (1, 10, 100, 500)])
+        for most in (100, keys // 10, keys):
+            compare_key_limit(program, f"Zipf {seed}", trace, total // 50, most)
         compare_nodes(program, f"Zipf {seed}", trace, total // 50, 7, [], total // 5)
         compare_nodes(program, f"Zipf {seed}", trace, total // 50, 7, [(2, requests // 3), (5, requests // 2)], total // 5)
         compare(program, f"Zipf {seed}", trace, [max(1, total * part // 1000) for part in (1, 10, 100, 500)], requests // 10)

@@ -12,6 +12,7 @@ pub fn command<'a>(alloc: Global) -> Result<Command<'a>, AllocError> {
     let command = caches(alloc, command)?;
     let command = nodes(alloc, command)?;
     let command = trace(alloc, command)?;
+    let command = sample(alloc, command)?;
     report(alloc, command)
 }
 
@@ -77,6 +78,15 @@ fn trace<'a>(alloc: Global, command: Command<'a>) -> Result<Command<'a>, AllocEr
             "the bytes of all bodies of the trace, each once",
         ))?
         .arg(
+            option(alloc, "bad-lines", "NUMBER")
+                .default_value("100")
+                .help("how many lines may be no requests"),
+        )
+}
+
+fn sample<'a>(alloc: Global, command: Command<'a>) -> Result<Command<'a>, AllocError> {
+    command
+        .arg(
             option(alloc, "sample", "PART")
                 .default_value("1")
                 .help("the part of the keys that stands for all, as 0.01"),
@@ -86,11 +96,9 @@ fn trace<'a>(alloc: Global, command: Command<'a>) -> Result<Command<'a>, AllocEr
                 .default_value("0")
                 .help("which of the parts of that size"),
         )?
-        .arg(
-            option(alloc, "bad-lines", "NUMBER")
-                .default_value("100")
-                .help("how many lines may be no requests"),
-        )
+        .arg(option(alloc, "sample-keys", "NUMBER").help(
+            "in place of --sample, the most keys that the sample has; --trace is read twice, at first for its rate",
+        ))
 }
 
 fn report<'a>(alloc: Global, command: Command<'a>) -> Result<Command<'a>, AllocError> {
@@ -138,6 +146,7 @@ pub fn words<'a>(matches: &ArgMatches<'a>) -> Words<'a> {
         columns: matches.get_str("columns"),
         sample: matches.get_str("sample").unwrap_or(""),
         part: matches.get_str("part").unwrap_or(""),
+        sample_keys: matches.get_str("sample-keys"),
         nodes: matches.get_str("nodes"),
         drop: matches.get_str("drop"),
         shield: matches.get_str("shield"),

@@ -51,12 +51,12 @@ fn run<C: Clock + Files + Threads + Sync>(
 ) -> ExitCode {
     let words = command::words(matches);
     match options::read(alloc, &words) {
-        Ok(options) => {
+        Ok(mut options) => {
             let mut errors = rt.stderr();
             let end = simulate(
                 host,
                 alloc,
-                &options,
+                &mut options,
                 rt.reader(),
                 io::writer(rt),
                 &mut errors,
@@ -81,6 +81,9 @@ fn tell(rt: &HostRuntime, stop: &Stop) -> io::Result<()> {
         ),
         Stop::NoRequests => eprintln!(rt; "no line of the trace is a request"),
         Stop::NoneSampled => eprintln!(rt; "no key of the trace is in the sample"),
+        Stop::TooManyKeys => eprintln!(rt;
+            "the sample of a millionth of the keys has more than --sample-keys"
+        ),
         Stop::NoneCounted => eprintln!(rt;
             "the trace has no more requests than --warmup, which are not counted"
         ),

@@ -1,5 +1,6 @@
 pub mod FreshMaps
 pub mod Marks
+pub mod Ranks
 pub mod ReadLines
 pub mod Replaying
 pub mod SideBySide

@@ -2,6 +2,7 @@ pub mod Caches
 pub mod Events
 pub mod Fresh
 pub mod FreshCode
+pub mod KeyLimit
 pub mod Names
 pub mod Plays
 pub mod Reading

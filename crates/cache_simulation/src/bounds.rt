@@ -3,7 +3,7 @@
 use crate::names::front;
 use crate::options::{Options, Output, Setting};
 use crate::reader::Reader;
-use crate::report::{ratio, write_part, write_setting, write_settings};
+use crate::report::{Cells, Shown, ratio, write_cells, write_setting, write_settings};
 use crate::simulation::Stop;
 use belady::kept::most_hits;
 use belady::requests::next_requests;
@@ -37,6 +37,25 @@ impl Bound {
     pub fn corrected_hits(&self) -> u64 {
         self.expected
             .saturating_sub(self.requests.saturating_sub(self.hits))
+    }
+
+    fn cells(&self) -> Cells {
+        let corrected = self.corrected_hits();
+        let ratio = ratio(u128::from(corrected), u128::from(self.expected));
+        Cells {
+            policy: "belady",
+            size: self.size,
+            from: self.from,
+            until: self.until,
+            sample: self.setting.sample,
+            expected: self.expected,
+            requests: self.requests,
+            hits: self.hits,
+            corrected,
+            ratio,
+            byte_ratio: ratio,
+            left: None,
+        }
     }
 }
 
@@ -149,13 +168,14 @@ fn read_bodies<R: Read + Drop, E: Write>(
 pub(crate) fn write_bounds<W: Write>(
     out: &mut W,
     output: Output,
+    shown: Shown,
     bounds: &[Bound],
 ) -> io::Result<()> {
     for bound in bounds {
         match output {
             Output::Csv => write_values(out, bound)?,
             Output::Json => write_object(out, bound)?,
-            Output::Table => write_line(out, bound)?,
+            Output::Table => write_cells(out, shown, &bound.cells())?,
         }
     }
     Ok(())
@@ -201,31 +221,4 @@ fn write_object<W: Write>(out: &mut W, bound: &Bound) -> io::Result<()> {
     )?;
     write_setting(out, &bound.setting)?;
     writeln!(out, ",\"from\":{},\"until\":{}}}", bound.from, bound.until)
-}
-
-fn write_line<W: Write>(out: &mut W, bound: &Bound) -> io::Result<()> {
-    if bound.from > 0 {
-        write_part(out, bound.from, bound.until)?;
-    }
-    let share = ratio(
-        u128::from(bound.corrected_hits()),
-        u128::from(bound.expected),
-    );
-    write!(
-        out,
-        "belady of {} bytes: {} requests",
-        bound.size, bound.requests
-    )?;
-    if bound.setting.sample.is_all() {
-        write!(out, ", at most {} hits ", bound.hits)?;
-    } else {
-        let corrected = bound.corrected_hits();
-        write!(out, " read and {} to be expected, ", bound.expected)?;
-        write!(
-            out,
-            "at most {} hits and {corrected} corrected ",
-            bound.hits
-        )?;
-    }
-    writeln!(out, "({}.{:02}%)", share / 100, share % 100)
 }

@@ -116,8 +116,8 @@ impl AnyRun {
     /// Makes these requests, one after the other. Fails when memory runs out, or once 2^64 - 1
     /// requests are counted.
     pub fn play(&mut self, requests: &[Request]) -> Result<()>
-        ensures served { OnOk result ((before asked : List Request) (rules : Rules) (start : Option Fresh)
-            (base : ℕ)
+        ensures served { OnOk result ((before asked : List Request) (rules : Rules)
+            (start : Option Fresh) (base : ℕ)
             → Stands before asked rules start base self.old
             → Stands before (asked ++ requests.now) rules start base self.new) }
         ensures policy { policy_of self.new ≡ policy_of self.old }
@@ -136,7 +136,8 @@ impl AnyRun {
 
     /// Counts anew from here on. Returns how many entries were evicted so far.
     pub fn mark(&mut self) -> usize
-        ensures served { (before asked : List Request) (rules : Rules) (start : Option Fresh) (base : ℕ)
+        ensures served { (before asked : List Request) (rules : Rules) (start : Option Fresh)
+            (base : ℕ)
             → Stands before asked rules start base self.old
             → Stands (before ++ asked) [] rules start result self.new }
         ensures policy { policy_of self.new ≡ policy_of self.old }

@@ -1,11 +1,12 @@
 //! A trace that is played to several nodes, from its first line to the report.
 
 use crate::names::{front, hashed};
-use crate::options::{Cluster, Options};
+use crate::options::{Cluster, Options, Output};
 use crate::player::request;
 use crate::progress::Progress;
 use crate::reader::Reader;
 use crate::simulation::{LINES_BETWEEN, Stop};
+use crate::table::write_aligned;
 use crate::tier_rows::{write_header, write_tiers};
 use crate::tiers::Tiers;
 use crate::trace::Asked;
@@ -78,7 +79,13 @@ impl<'o> Nodes<'o> {
         if self.sampled == 0 {
             return Err(Stop::NoneSampled);
         }
-        self.write(&mut output)?;
+        if matches!(self.options.output, Output::Table) {
+            let mut lines = Vec::new(self.alloc);
+            self.write(&mut lines)?;
+            write_aligned(&mut output, lines.as_slice()).map_err(Stop::Io)?;
+        } else {
+            self.write(&mut output)?;
+        }
         output.flush().map_err(Stop::Io)?;
         match stopped {
             Some(lines) => Err(Stop::BadLines(lines)),
@@ -143,7 +150,7 @@ impl<'o> Nodes<'o> {
     }
 
     fn write<W: Write>(&self, out: &mut W) -> Result<(), Stop> {
-        write_header(out, self.options.output).map_err(Stop::Io)?;
+        write_header(out, self.options).map_err(Stop::Io)?;
         for tiers in self.all.as_slice() {
             let Ok(each) = tiers.each_node(self.alloc) else {
                 return Err(Stop::Memory);

@@ -33,5 +33,8 @@ pub fn plays_are_runs()
 
 /// A key of at most 31 bytes is told apart from all other keys, where none goes by its hash.
 pub fn short_keys_are_told_apart()
-    ensures { (short other : List ℕ) → length short ≤ 31 → stands_by short ≡ stands_by other → short ≡ other }
+    ensures { (short other : List ℕ)
+        → length short ≤ 31
+        → stands_by short ≡ stands_by other
+        → short ≡ other }
 {}

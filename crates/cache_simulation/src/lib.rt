@@ -7,6 +7,7 @@
 //! - `counts`: the counts over a trace
 //! - `drawing`: a drawing of the ratios of misses
 //! - `freshness`: until when bodies are fresh
+//! - `key_limit`: the largest sample that has at most so many keys
 //! - `laws`: laws of all runs
 //! - `layout`: how the lines of a trace are read
 //! - `lines`: the lines of a reader, one after the other
@@ -20,6 +21,7 @@
 //! - `runs`: the caches of a simulation
 //! - `sample`: a sample of the keys, which represents all
 //! - `simulation`: a trace from its first line to the report
+//! - `table`: tables with aligned columns
 //! - `tier_rows`: the rows of several nodes, and of the cache behind them
 //! - `tiers`: several nodes, and maybe a cache behind them
 //! - `trace`: the lines of a trace
@@ -30,6 +32,7 @@ mod cluster;
 pub mod counts;
 pub mod drawing;
 pub mod freshness;
+pub mod key_limit;
 pub mod laws;
 pub mod layout;
 mod lines;
@@ -44,6 +47,7 @@ pub mod runs;
 pub mod sample;
 mod side_by_side;
 pub mod simulation;
+pub mod table;
 mod tier_rows;
 pub mod tiers;
 pub mod trace;

@@ -129,6 +129,8 @@ pub struct Words<'a> {
     pub sample: &'a str,
     /// The number of that part.
     pub part: &'a str,
+    /// How many keys the sample has at most, if its rate follows from that.
+    pub sample_keys: Option<&'a str>,
     /// How many nodes there are.
     pub nodes: Option<&'a str>,
     /// Which nodes go, and after how many requests.
@@ -235,6 +237,8 @@ pub struct Options {
     pub distinct: Option<u64>,
     /// What all caches have in common.
     pub setting: Setting,
+    /// How many keys the sample has at most, if its rate is to be found for that.
+    pub sample_keys: Option<u64>,
     /// The nodes that share the keys, if there are several.
     pub cluster: Option<Cluster>,
     /// The form of the output.
@@ -309,6 +313,7 @@ pub fn read<'a>(alloc: Global, words: &Words<'a>) -> Result<Options, Unusable<'a
         trace: owned(alloc, words.trace)?,
         distinct: distinct(words.distinct)?,
         setting: read_setting(words)?,
+        sample_keys: sample_keys(words)?,
         cluster: nodes_of(alloc, words)?,
         output: value(
             "format",
@@ -382,6 +387,9 @@ const DROP: &str = "nodes below --nodes, each as NODE@REQUESTS, with commas";
 const BEHIND: &str = "a size, as those of --size, with --nodes";
 
 const RATE: &str = "above 0 and at most 1, in whole millionths, as 0.01 or 1e-3";
+
+const KEYS: &str =
+    "a whole number from 1 and below 2^64, with --trace, and without --sample and --part";
 
 const PART: &str = "a whole number below 1 divided by --sample, rounded down";
 
@@ -548,6 +556,23 @@ fn sample<'a>(rate: &'a str, part: &'a str) -> Result<Sample, Unusable<'a>> {
     }
     let number = value("part", part, PART, whole_number(part))?;
     value("part", part, PART, Sample::new(millionths, number))
+}
+
+// How many keys a sample has at most, if it is given neither by its rate nor by a part, and the trace can be read
+// for it.
+fn sample_keys<'a>(words: &Words<'a>) -> Result<Option<u64>, Unusable<'a>> {
+    let Some(text) = words.sample_keys else {
+        return Ok(None);
+    };
+    let most = value("sample-keys", text, KEYS, whole_number(text))?;
+    if most == 0 || words.trace.is_none() || !sample(words.sample, words.part)?.is_all() {
+        return Err(Unusable::Value {
+            option: "sample-keys",
+            value: text,
+            choices: KEYS,
+        });
+    }
+    Ok(Some(most))
 }
 
 fn output_named(value: &str) -> Option<Output> {

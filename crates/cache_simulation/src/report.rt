@@ -2,8 +2,8 @@
 
 use crate::cache::Told;
 use crate::counts::Counts;
-use crate::options::{Output, Setting};
-use crate::sample::WHOLE;
+use crate::options::{Options, Output, Setting};
+use crate::sample::{Sample, WHOLE};
 use std::io;
 use std::io::Write;
 
@@ -55,12 +55,17 @@ pub(crate) fn ratio(part: u128, whole: u128) -> u128 {
     part.saturating_mul(10_000).checked_div(whole).unwrap_or(0)
 }
 
-/// Writes the rows.
-pub fn write_rows<W: Write>(out: &mut W, output: Output, rows: &[Row]) -> io::Result<()> {
+/// Writes the rows; those of a table have tabs between their cells, which `write_aligned` puts below each other.
+pub fn write_rows<W: Write>(
+    out: &mut W,
+    output: Output,
+    shown: Shown,
+    rows: &[Row],
+) -> io::Result<()> {
     match output {
         Output::Csv => write_csv(out, rows),
         Output::Json => write_json(out, rows),
-        Output::Table => write_table(out, rows),
+        Output::Table => write_table(out, shown, rows),
     }
 }
 
@@ -114,7 +119,7 @@ fn write_values<W: Write>(out: &mut W, row: &Row) -> io::Result<()> {
 
 // The options that all caches have in common, as values with commas between them.
 pub(crate) fn write_settings<W: Write>(out: &mut W, setting: &Setting) -> io::Result<()> {
-    write_sample(out, setting)?;
+    write_rate(out, setting.sample)?;
     write!(out, ",{},", setting.sample.part)?;
     if let Some(ttl) = setting.ttl {
         write!(out, "{ttl}")?;
@@ -127,10 +132,9 @@ pub(crate) fn write_settings<W: Write>(out: &mut W, setting: &Setting) -> io::Re
     Ok(())
 }
 
-// The rate of the sample, as a part of 1.
-fn write_sample<W: Write>(out: &mut W, setting: &Setting) -> io::Result<()> {
-    let rate = setting.sample.rate;
-    write!(out, "{}.{:06}", rate / WHOLE, rate % WHOLE)
+/// Writes the rate of a sample, as a part of 1.
+pub(crate) fn write_rate<W: Write>(out: &mut W, sample: Sample) -> io::Result<()> {
+    write!(out, "{}.{:06}", sample.rate / WHOLE, sample.rate % WHOLE)
 }
 
 fn write_json<W: Write>(out: &mut W, rows: &[Row]) -> io::Result<()> {
@@ -181,7 +185,7 @@ fn write_object<W: Write>(out: &mut W, row: &Row) -> io::Result<()> {
 // The options that all caches have in common, as members of an object.
 pub(crate) fn write_setting<W: Write>(out: &mut W, setting: &Setting) -> io::Result<()> {
     write!(out, "\"sample\":")?;
-    write_sample(out, setting)?;
+    write_rate(out, setting.sample)?;
     write!(out, ",\"part\":{},\"ttl\":", setting.sample.part)?;
     match setting.ttl {
         Some(ttl) => write!(out, "{ttl}")?,
@@ -196,44 +200,107 @@ pub(crate) fn write_setting<W: Write>(out: &mut W, setting: &Setting) -> io::Res
     }
 }
 
-fn write_table<W: Write>(out: &mut W, rows: &[Row]) -> io::Result<()> {
-    let is_part = rows.iter().any(|row| row.from > 0);
-    for row in rows {
-        if is_part {
-            write_part(out, row.from, row.until)?;
+/// Which columns a table has besides.
+#[derive(Clone, Copy, Debug)]
+pub struct Shown {
+    /// Of which requests of the trace a line is.
+    pub span: bool,
+    /// The rate of the sample, and what it stands for.
+    pub sample: bool,
+}
+
+impl Shown {
+    /// The columns for these options.
+    pub(crate) fn by(options: &Options) -> Shown {
+        Shown {
+            span: options.warmup > 0 || options.interval.is_some(),
+            sample: !options.setting.sample.is_all(),
         }
-        write_line(out, row)?;
+    }
+}
+
+fn write_table<W: Write>(out: &mut W, shown: Shown, rows: &[Row]) -> io::Result<()> {
+    write!(out, "policy\tsize")?;
+    if shown.span {
+        write!(out, "\tfrom\tuntil")?;
+    }
+    if shown.sample {
+        write!(out, "\tsample\texpected")?;
+    }
+    write!(out, "\trequests\thits")?;
+    if shown.sample {
+        write!(out, "\tcorrected")?;
+    }
+    writeln!(out, "\thit ratio\tbyte ratio\tevicted\ttracked")?;
+    for row in rows {
+        write_cells(out, shown, &Cells::of(row))?;
     }
     Ok(())
 }
 
-// Which requests of the trace a line is of.
-pub(crate) fn write_part<W: Write>(out: &mut W, from: u64, until: u64) -> io::Result<()> {
-    write!(out, "requests {} to {until}: ", from.saturating_add(1))
+/// The cells of a line of a table.
+#[derive(Clone, Copy)]
+pub(crate) struct Cells {
+    pub(crate) policy: &'static str,
+    pub(crate) size: usize,
+    pub(crate) from: u64,
+    pub(crate) until: u64,
+    pub(crate) sample: Sample,
+    pub(crate) expected: u64,
+    pub(crate) requests: u64,
+    pub(crate) hits: u64,
+    pub(crate) corrected: u64,
+    // In hundredths of a percent.
+    pub(crate) ratio: u128,
+    pub(crate) byte_ratio: u128,
+    // What was evicted and what is tracked, if that is told.
+    pub(crate) left: Option<(usize, usize)>,
 }
 
-fn write_line<W: Write>(out: &mut W, row: &Row) -> io::Result<()> {
-    let counts = row.told.counts;
-    let (hits, bytes) = (row.hit_ratio(), row.byte_ratio());
-    write!(
-        out,
-        "{} of {} bytes: {} requests",
-        row.told.policy.name(),
-        row.size,
-        counts.requests
-    )?;
-    if row.setting.sample.is_all() {
-        write!(out, ", {} hits ", counts.hits)?;
-    } else {
-        let corrected = counts.corrected_hits(row.expected);
-        write!(out, " read and {} to be expected, ", row.expected)?;
-        write!(out, "{} hits and {corrected} corrected ", counts.hits)?;
+impl Cells {
+    fn of(row: &Row) -> Cells {
+        let counts = row.told.counts;
+        Cells {
+            policy: row.told.policy.name(),
+            size: row.size,
+            from: row.from,
+            until: row.until,
+            sample: row.setting.sample,
+            expected: row.expected,
+            requests: counts.requests,
+            hits: counts.hits,
+            corrected: counts.corrected_hits(row.expected),
+            ratio: row.hit_ratio(),
+            byte_ratio: row.byte_ratio(),
+            left: Some((row.told.evicted, row.told.tracked)),
+        }
     }
-    write!(out, "({}.{:02}%), ", hits / 100, hits % 100)?;
-    write!(out, "{}.{:02}% of the bytes, ", bytes / 100, bytes % 100)?;
-    writeln!(
-        out,
-        "{} evicted, {} bytes tracked",
-        row.told.evicted, row.told.tracked
-    )
+}
+
+/// Writes a line of a table, with tabs between its cells.
+pub(crate) fn write_cells<W: Write>(out: &mut W, shown: Shown, cells: &Cells) -> io::Result<()> {
+    write!(out, "{}\t{}", cells.policy, cells.size)?;
+    if shown.span {
+        write!(out, "\t{}\t{}", cells.from, cells.until)?;
+    }
+    if shown.sample {
+        write!(out, "\t")?;
+        write_rate(out, cells.sample)?;
+        write!(out, "\t{}", cells.expected)?;
+    }
+    write!(out, "\t{}\t{}", cells.requests, cells.hits)?;
+    if shown.sample {
+        write!(out, "\t{}", cells.corrected)?;
+    }
+    write_ratio(out, cells.ratio)?;
+    write_ratio(out, cells.byte_ratio)?;
+    match cells.left {
+        Some((evicted, tracked)) => writeln!(out, "\t{evicted}\t{tracked}"),
+        None => writeln!(out, "\t-\t-"),
+    }
+}
+
+/// Writes a cell with a ratio, which is in hundredths of a percent.
+pub(crate) fn write_ratio<W: Write>(out: &mut W, ratio: u128) -> io::Result<()> {
+    write!(out, "\t{}.{:02}%", ratio / 100, ratio % 100)
 }

@@ -95,7 +95,8 @@ impl<M: OrderedManager> Run<M> {
             × Becomes (rules_of (M.limits self.old.manager) self.old.most self.old.replaces)
             (state (M.tracked self.old.manager) self.old.freshness) asked.now e
             (state (M.tracked self.new.manager) self.new.freshness)
-            × Answers M.policy (rules_of (M.limits self.old.manager) self.old.most self.old.replaces)
+            × Answers M.policy
+            (rules_of (M.limits self.old.manager) self.old.most self.old.replaces)
             (place (M.order self.old.manager) self.old.freshness) asked.now e
             (place (M.order self.new.manager) self.new.freshness)
             × ((M.evicted self.new.manager).count
@@ -129,7 +130,8 @@ impl<M: OrderedManager> Run<M> {
             × Plays (rules_of (M.limits self.old.manager) self.old.most self.old.replaces)
             (state (M.tracked self.old.manager) self.old.freshness) requests.now es
             (state (M.tracked self.new.manager) self.new.freshness)
-            × Replays M.policy (rules_of (M.limits self.old.manager) self.old.most self.old.replaces)
+            × Replays M.policy
+            (rules_of (M.limits self.old.manager) self.old.most self.old.replaces)
             (place (M.order self.old.manager) self.old.freshness) requests.now es
             (place (M.order self.new.manager) self.new.freshness)
             × ((M.evicted self.new.manager).count
@@ -179,7 +181,8 @@ impl<M: OrderedManager> Run<M> {
     // Adds a body, or adds it anew.
     fn bring(&mut self, asked: &Request) -> Result<()>
         ensures comes { OnOk result (Brings M.policy (M.limits self.old.manager)
-            (comes (self.old.replaces && map.contains_key (M.tracked self.old.manager) asked.now.item)
+            (comes
+            (self.old.replaces && map.contains_key (M.tracked self.old.manager) asked.now.item)
             asked.now.item asked.now.size) asked.now
             (state (M.tracked self.old.manager) self.old.freshness) (M.order self.old.manager)
             (M.evicted self.old.manager).count

@@ -3,13 +3,16 @@
 use crate::bounds::{Bound, find_bounds, write_bounds};
 use crate::cluster::Nodes;
 use crate::drawing::draw;
+use crate::key_limit::LowestKeys;
 use crate::layout::Refused;
 use crate::names::front;
-use crate::options::{Cluster, Options, Policy};
+use crate::options::{Cluster, Options, Output, Policy};
 use crate::player::Player;
 use crate::progress::Progress;
 use crate::reader::Reader;
-use crate::report::{Row, write_rows};
+use crate::report::{Row, Shown, write_rows};
+use crate::sample::Sample;
+use crate::table::write_aligned;
 use crate::trace::Asked;
 use pcache_base::key::hash_key;
 use std::alloc::Global;
@@ -35,6 +38,8 @@ pub enum Stop {
     NoRequests,
     /// No key of the trace is in the sample.
     NoneSampled,
+    /// The sample of the smallest rate has more keys than it may have.
+    TooManyKeys,
     /// The trace has no more requests than are made before any is counted.
     NoneCounted,
     /// Memory ran out.
@@ -44,8 +49,23 @@ pub enum Stop {
 }
 
 /// Reads a trace, plays it to each cache that the options ask for, and writes the results. The progress is written
-/// to `errors`, and so are bad lines. The trace is `input` if the options name no file.
+/// to `errors`, and so are bad lines. The trace is `input` if the options name no file. If they say how many keys
+/// the sample has at most, their sample becomes the largest such one.
 pub fn simulate<C: Clock + Files + Threads + Sync, R: Read + Drop, W: Write + Drop, E: Write>(
+    rt: &C,
+    alloc: Global,
+    options: &mut Options,
+    input: R,
+    output: W,
+    errors: &mut E,
+) -> Result<(), Stop> {
+    if let Some(sample) = largest_sample(rt, alloc, options, errors)? {
+        options.setting.sample = sample;
+    }
+    play(rt, alloc, options, input, output, errors)
+}
+
+fn play<C: Clock + Files + Threads + Sync, R: Read + Drop, W: Write + Drop, E: Write>(
     rt: &C,
     alloc: Global,
     options: &Options,
@@ -302,6 +322,44 @@ fn take_rows<C: Threads + Sync>(
         .map_err(|_| Stop::Memory)
 }
 
+// The largest sample that has at most so many keys of the trace, if their number is given. The trace is read to find
+// it; `options::read` refuses that of standard input.
+fn largest_sample<C: Files, E: Write>(
+    rt: &C,
+    alloc: Global,
+    options: &Options,
+    errors: &mut E,
+) -> Result<Option<Sample>, Stop> {
+    let (Some(most), Some(path)) = (options.sample_keys, &options.trace) else {
+        return Ok(None);
+    };
+    let file = fs::open(rt, path.as_str()).map_err(Stop::Io)?;
+    let reader = Reader::new(alloc, options, file)?;
+    match Sample::new(largest_rate(alloc, most, reader, errors)?, 0) {
+        Some(sample) => Ok(Some(sample)),
+        None => Err(Stop::TooManyKeys),
+    }
+}
+
+fn largest_rate<R: Read + Drop, E: Write>(
+    alloc: Global,
+    most: u64,
+    mut reader: Reader<R>,
+    errors: &mut E,
+) -> Result<u64, Stop> {
+    let mut keys = LowestKeys::new(alloc, most);
+    for _ in 0..u64::MAX {
+        if !reader.advance(errors)? {
+            break;
+        }
+        if let Ok(Some(asked)) = reader.asked() {
+            keys.take(front(hash_key(asked.key.as_bytes())))
+                .map_err(|_| Stop::Memory)?;
+        }
+    }
+    Ok(keys.rate())
+}
+
 // The total bytes of all bodies of the trace, each counted once, if a size is a share of them. They are given, or the
 // trace is read to count them.
 fn distinct<C: Files, E: Write>(
@@ -363,8 +421,13 @@ fn report<C: Files, W: Write + Drop>(
     output: W,
 ) -> Result<(), Stop> {
     let mut writer = BufWriter::new(alloc, output).map_err(Stop::Io)?;
-    write_rows(&mut writer, options.output, rows).map_err(Stop::Io)?;
-    write_bounds(&mut writer, options.output, bounds).map_err(Stop::Io)?;
+    if matches!(options.output, Output::Table) {
+        let mut lines = Vec::new(alloc);
+        write_each(&mut lines, options, rows, bounds).map_err(Stop::Io)?;
+        write_aligned(&mut writer, lines.as_slice()).map_err(Stop::Io)?;
+    } else {
+        write_each(&mut writer, options, rows, bounds).map_err(Stop::Io)?;
+    }
     writer.flush().map_err(Stop::Io)?;
     if let Some(path) = &options.plot {
         let mut drawing = Vec::new(alloc);
@@ -372,4 +435,15 @@ fn report<C: Files, W: Write + Drop>(
         fs::write(rt, path.as_str(), drawing.as_slice()).map_err(Stop::Io)?;
     }
     Ok(())
+}
+
+fn write_each<W: Write>(
+    out: &mut W,
+    options: &Options,
+    rows: &[Row],
+    bounds: &[Bound],
+) -> io::Result<()> {
+    let shown = Shown::by(options);
+    write_rows(out, options.output, shown, rows)?;
+    write_bounds(out, options.output, shown, bounds)
 }

@@ -2,7 +2,7 @@
 
 use crate::cache::Told;
 use crate::options::{Cluster, Options, Output};
-use crate::report::{ratio, write_setting, write_settings};
+use crate::report::{ratio, write_rate, write_ratio, write_setting, write_settings};
 use crate::tiers::Tiers;
 use std::io;
 use std::io::Write;
@@ -81,18 +81,30 @@ struct Part {
 }
 
 /// Writes the names of the values, if the output has such a line.
-pub(crate) fn write_header<W: Write>(out: &mut W, output: Output) -> io::Result<()> {
-    if !matches!(output, Output::Csv) {
-        return Ok(());
+pub(crate) fn write_header<W: Write>(out: &mut W, options: &Options) -> io::Result<()> {
+    match options.output {
+        Output::Csv => {
+            write!(
+                out,
+                "policy,size,tier,node,requests,hits,bytes,hit_bytes,evicted,tracked,busiest,"
+            )?;
+            writeln!(
+                out,
+                "nodes,drop,sample,part,ttl,large,expired,ignore_size,watermark"
+            )
+        }
+        Output::Json => Ok(()),
+        Output::Table => {
+            write!(out, "policy\tsize\ttier\tnode")?;
+            if !options.setting.sample.is_all() {
+                write!(out, "\tsample")?;
+            }
+            writeln!(
+                out,
+                "\trequests\thits\thit ratio\tbyte ratio\tevicted\ttracked\tbusiest"
+            )
+        }
     }
-    write!(
-        out,
-        "policy,size,tier,node,requests,hits,bytes,hit_bytes,evicted,tracked,busiest,"
-    )?;
-    writeln!(
-        out,
-        "nodes,drop,sample,part,ttl,large,expired,ignore_size,watermark"
-    )
 }
 
 /// Writes what each of these nodes told, all of them together, and the cache behind them.
@@ -229,40 +241,26 @@ fn write_object<W: Write>(out: &mut W, tiers: &Tiers, of: Part, totals: Totals) 
     }
 }
 
+// A line of a table, with tabs between its cells.
 fn write_line<W: Write>(out: &mut W, tiers: &Tiers, of: Part, totals: Totals) -> io::Result<()> {
-    write!(
-        out,
-        "{} of {} bytes, {}",
-        tiers.policy.name(),
-        of.size,
-        of.tier
-    )?;
-    if let Some(node) = of.node {
-        write!(out, " {node}")?;
+    write!(out, "{}\t{}\t{}\t", tiers.policy.name(), of.size, of.tier)?;
+    match of.node {
+        Some(node) => write!(out, "{node}")?,
+        None => write!(out, "-")?,
     }
-    let hits = ratio(u128::from(totals.hits), u128::from(totals.requests));
-    let bytes = ratio(totals.hit_bytes, totals.bytes);
-    write!(
+    if !tiers.setting.sample.is_all() {
+        write!(out, "\t")?;
+        write_rate(out, tiers.setting.sample)?;
+    }
+    write!(out, "\t{}\t{}", totals.requests, totals.hits)?;
+    write_ratio(
         out,
-        ": {} requests, {} hits ({}.{:02}%), ",
-        totals.requests,
-        totals.hits,
-        hits / 100,
-        hits % 100
+        ratio(u128::from(totals.hits), u128::from(totals.requests)),
     )?;
-    write!(out, "{}.{:02}% of the bytes, ", bytes / 100, bytes % 100)?;
-    write!(
-        out,
-        "{} evicted, {} bytes tracked",
-        totals.evicted, totals.tracked
-    )?;
+    write_ratio(out, ratio(totals.hit_bytes, totals.bytes))?;
+    write!(out, "\t{}\t{}", totals.evicted, totals.tracked)?;
     match of.busiest {
-        Some(busiest) => writeln!(
-            out,
-            "; the busiest has {}.{:02} times the mean",
-            busiest / 100,
-            busiest % 100
-        ),
-        None => writeln!(out),
+        Some(busiest) => writeln!(out, "\t{}.{:02}", busiest / 100, busiest % 100),
+        None => writeln!(out, "\t-"),
     }
 }

@@ -1,5 +1,5 @@
 //! Entries in the order in which they came in.
-ghost use Rattle.std.specs.Prelude.{◌≡◌, ◌∷◌, ◌++◌, ◌*◌, ◌≤◌, ◌<◌, ◌^◌, ◌-◌, [], true, false, None, Some, is_some, length, take, IsSome, OnOk, OnErr, IfOk, IfErr, IfSome, IfNone};
+ghost use Rattle.std.specs.Prelude.{◌≡◌, ◌↔◌, IsTrue, ◌∷◌, ◌++◌, ◌*◌, ◌≤◌, ◌<◌, ◌^◌, ◌-◌, [], true, false, None, Some, is_some, length, take, IsSome, OnOk, OnErr, IfOk, IfErr, IfSome, IfNone};
 ghost use Rattle.std.specs.Map.{set_value};
 ghost use Rattle.pcache_base.specs.declared.error.ErrorType.TheVariants.{OutOfMemory};
 ghost use Rattle.lru.specs.LruCache.{last_entry, lru_cache};
@@ -91,6 +91,13 @@ impl Queue {
         self.cache.len()
     }
 
+    // Whether there are no entries. Of these a look-up need not hash the key.
+    fn is_empty(&self) -> bool
+        ensures { IsTrue result ↔ (self.now ≡ []) }
+    {
+        self.cache.is_empty()
+    }
+
     /// The sum of the entries' weights.
     pub(crate) fn weight(&self) -> u128
         ensures value { result ≡ weight (plain self.now) }
@@ -104,6 +111,9 @@ impl Queue {
         ensures value { result ≡ seen_of item.now self.now }
         ensures fits { IfSome result (λ seen. seen.weight ≤ 2 ^ 64 - 1) }
     {
+        if self.is_empty() {
+            return None;
+        }
         self.cache.peek(item).copied()
     }
 
@@ -112,6 +122,9 @@ impl Queue {
         ensures was { result ≡ is_some (seen_of item.now self.old) }
         ensures value { self.new ≡ reseen item.now seen self.old }
     {
+        if self.is_empty() {
+            return false;
+        }
         let weight = seen.weight;
         let Some(before) = write_seen(&mut self.cache, item, seen) else {
             return false;
@@ -196,6 +209,9 @@ impl Queue {
         ensures was { result ≡ is_some (seen_of item.now self.old) }
         ensures value { self.new ≡ rest_of item.now self.old }
     {
+        if self.is_empty() {
+            return false;
+        }
         let Some(gone) = self.cache.pop(item) else {
             return false;
         };

@@ -137,8 +137,8 @@ impl Manager {
         size: usize,
         _fresh_until: Moment,
     ) -> Result<Vec<CacheEntryKey>>
-        ensures ok { IfOk result (λ out.
-            Admission (seen_of item (whole self.old.queues)) self.old item size self.new out.items) }
+        ensures ok { IfOk result (λ out. Admission (seen_of item (whole self.old.queues)) self.old
+            item size self.new out.items) }
         ensures once { IsOnce (whole self.old.queues) }
         ensures kind { IfErr result (λ e. e ≡ OutOfMemory) }
         ensures err { OnErr result (HasFailed self.old self.new) }
@@ -201,7 +201,8 @@ impl Manager {
         size: usize,
         _fresh_until: Moment,
     ) -> Result<bool>
-        ensures was { IfOk result (λ was. was ≡ is_some (seen_of item.now (whole self.old.queues))) }
+        ensures was { IfOk result (λ was.
+            was ≡ is_some (seen_of item.now (whole self.old.queues))) }
         ensures ok { OnOk result (self.new
             ≡ record self.old {
               queues = accessed (seen_of item.now (whole self.old.queues)) item.now

@@ -6,6 +6,8 @@
 #[cfg(test)]
 mod bounds;
 #[cfg(test)]
+mod key_limit;
+#[cfg(test)]
 mod managers;
 #[cfg(test)]
 mod nodes;

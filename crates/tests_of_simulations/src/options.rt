@@ -26,6 +26,7 @@ const USUAL: Words<'static> = Words {
     columns: None,
     sample: "1",
     part: "0",
+    sample_keys: None,
     format: "table",
     plot: None,
     nodes: None,
@@ -61,6 +62,7 @@ fn give(words: &mut Words<'static>, name: &str, value: &'static str) {
         "columns" => words.columns = Some(value),
         "sample" => words.sample = value,
         "part" => words.part = value,
+        "sample-keys" => words.sample_keys = Some(value),
         "format" => words.format = value,
         "plot" => words.plot = Some(value),
         "nodes" => words.nodes = Some(value),
@@ -97,6 +99,7 @@ fn tell_option(options: &Options, name: &str, told: &mut Told) {
         "columns" => told.named(&options.columns),
         "sample" => told.number(options.setting.sample.rate),
         "part" => told.number(options.setting.sample.part),
+        "sample-keys" => told.named(&options.sample_keys),
         "format" => told.named(&options.output),
         "plot" => told.named(&options.plot),
         "nodes" => told.named(&options.cluster),
@@ -168,6 +171,13 @@ const READ: &str = "
     sample 1 -> 1000000
     part 0 -> 0
     part 3; sample 0.25 -> 3
+    sample-keys 8192; trace a.csv -> Some(8192)
+    sample-keys 1; trace a.csv; sample 1 -> Some(1)
+    sample-keys 0; trace a.csv -> --sample-keys cannot be \"0\"; it is a whole number from 1 and below 2^64, with --trace, and without --sample and --part
+    sample-keys 8K; trace a.csv -> --sample-keys cannot be \"8K\"; it is a whole number from 1 and below 2^64, with --trace, and without --sample and --part
+    sample-keys 8192 -> --sample-keys cannot be \"8192\"; it is a whole number from 1 and below 2^64, with --trace, and without --sample and --part
+    sample-keys 8192; trace a.csv; sample 0.5 -> --sample-keys cannot be \"8192\"; it is a whole number from 1 and below 2^64, with --trace, and without --sample and --part
+    sample-keys 8192; trace a.csv; sample 0.5; part 1 -> --sample-keys cannot be \"8192\"; it is a whole number from 1 and below 2^64, with --trace, and without --sample and --part
     format csv -> Csv
     format table -> Table
     format json -> Json

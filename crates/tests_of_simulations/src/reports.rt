@@ -3,8 +3,9 @@ use cache_simulation::cache::Told;
 use cache_simulation::counts::Counts;
 use cache_simulation::drawing::draw;
 use cache_simulation::options::{Output, Policy, Setting};
-use cache_simulation::report::{Row, write_rows};
+use cache_simulation::report::{Row, Shown, write_rows};
 use cache_simulation::sample::Sample;
+use cache_simulation::table::write_aligned;
 use std::alloc::Global;
 
 // Three requests of 4 bytes each, one of which was a hit.
@@ -60,15 +61,19 @@ fn of_sample(sample: Sample) -> Row {
 
 fn is_written(alloc: Global, row: Row, output: Output, wanted: &str) -> bool {
     let mut out = Vec::new(alloc);
-    write_rows(&mut out, output, &[row]).is_ok() && out.as_slice() == wanted.as_bytes()
+    let shown = Shown {
+        span: false,
+        sample: !row.setting.sample.is_all(),
+    };
+    write_rows(&mut out, output, shown, &[row]).is_ok() && out.as_slice() == wanted.as_bytes()
 }
 
 const CSV: &str = "policy,size,requests,hits,bytes,hit_bytes,evicted,tracked,\
     expected_requests,corrected_hits,expected_bytes,corrected_hit_bytes,sample,part,ttl,large,expired,ignore_size,watermark,from,until\n\
     sieve,5,3,1,12,4,1,4,3,1,12,4,1.000000,0,,pass,use,false,,0,3\n";
 
-const TABLE: &str =
-    "sieve of 5 bytes: 3 requests, 1 hits (33.33%), 33.33% of the bytes, 1 evicted, 4 bytes tracked\n";
+const TABLE: &str = "policy\tsize\trequests\thits\thit ratio\tbyte ratio\tevicted\ttracked\n\
+    sieve\t5\t3\t1\t33.33%\t33.33%\t1\t4\n";
 
 const JSON: &str =
     "{\"policy\":\"sieve\",\"size\":5,\"requests\":3,\"hits\":1,\"bytes\":12,\"hit_bytes\":4,\
@@ -87,8 +92,8 @@ const SAMPLED_CSV: &str = "policy,size,requests,hits,bytes,hit_bytes,evicted,tra
     sieve,5,3,1,12,4,1,4,4,2,16,8,0.250000,3,60,evict,replace,true,7,0,3\n";
 
 const SAMPLED_TABLE: &str =
-    "sieve of 5 bytes: 3 requests read and 4 to be expected, 1 hits and 2 corrected (50.00%), 50.00% of the bytes, \
-    1 evicted, 4 bytes tracked\n";
+    "policy\tsize\tsample\texpected\trequests\thits\tcorrected\thit ratio\tbyte ratio\tevicted\ttracked\n\
+    sieve\t5\t0.250000\t4\t3\t1\t2\t50.00%\t50.00%\t1\t4\n";
 
 fn is_corrected(alloc: Global) -> bool {
     match Sample::new(250_000, 3) {
@@ -103,6 +108,24 @@ fn is_corrected(alloc: Global) -> bool {
 #[test]
 fn a_sample_is_corrected(rt: HostRuntime) {
     assert!(rt; is_corrected(rt.alloc()));
+}
+
+fn is_aligned(alloc: Global, lines: &str, wanted: &str) -> bool {
+    let mut out = Vec::new(alloc);
+    write_aligned(&mut out, lines.as_bytes()).is_ok() && out.as_slice() == wanted.as_bytes()
+}
+
+#[test]
+fn the_cells_of_a_column_are_below_each_other(rt: HostRuntime) {
+    assert!(rt; is_aligned(rt.alloc(), "", ""));
+    assert!(rt; is_aligned(rt.alloc(), "a\n", "a\n"));
+    assert!(rt;
+        is_aligned(
+            rt.alloc(),
+            "policy\tsize\thits\nlru\t10000\t7\ns3-fifo\t5\t123456\n",
+            "policy    size    hits\nlru      10000       7\ns3-fifo      5  123456\n"
+        )
+    );
 }
 
 // Fewer requests to be expected than read, by one and by more than the hits.

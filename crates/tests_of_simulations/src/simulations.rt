@@ -2,6 +2,7 @@
 use cache_simulation::options::{Options, Unusable, Words, read};
 use cache_simulation::simulation::{Stop, simulate};
 use std::alloc::{AllocError, Global};
+use std::fs;
 use std::rt::{Clock, Files};
 use std::thread::Threads;
 
@@ -22,6 +23,7 @@ const WORDS: Words<'static> = Words {
     columns: None,
     sample: "1",
     part: "0",
+    sample_keys: None,
     format: "csv",
     plot: None,
     nodes: None,
@@ -72,6 +74,7 @@ fn end_of(ended: Result<(), Stop>) -> &'static str {
         }
         Err(Stop::NoRequests) => "no requests",
         Err(Stop::NoneSampled) => "none sampled",
+        Err(Stop::TooManyKeys) => "too many keys",
         Err(Stop::NoneCounted) => "none counted",
         Err(Stop::Memory) | Err(Stop::Io(_)) => "failed",
     }
@@ -81,7 +84,7 @@ fn end_of(ended: Result<(), Stop>) -> &'static str {
 fn is_played<C: Clock + Files + Threads + Sync>(
     rt: &C,
     alloc: Global,
-    options: &Options,
+    options: &mut Options,
     trace: &str,
     end: &str,
     written: &str,
@@ -106,7 +109,7 @@ fn is_simulated<C: Clock + Files + Threads + Sync>(
     size: &'static str,
 ) -> bool {
     match options(alloc, size, "1") {
-        Ok(options) => is_played(rt, alloc, &options, TRACE, "done", WANTED, SAID),
+        Ok(mut options) => is_played(rt, alloc, &mut options, TRACE, "done", WANTED, SAID),
         Err(_unusable) => false,
     }
 }
@@ -123,10 +126,10 @@ const STOPPED: &str =
 
 fn is_stopped<C: Clock + Files + Threads + Sync>(rt: &C, alloc: Global) -> bool {
     match options(alloc, "5", "0") {
-        Ok(options) => is_played(
+        Ok(mut options) => is_played(
             rt,
             alloc,
-            &options,
+            &mut options,
             TRACE,
             "stopped after 4",
             FIRST_TWO,
@@ -150,7 +153,7 @@ fn ends<C: Clock + Files + Threads + Sync>(
     said: &str,
 ) -> bool {
     match options(alloc, "5", "1") {
-        Ok(options) => is_played(rt, alloc, &options, trace, end, "", said),
+        Ok(mut options) => is_played(rt, alloc, &mut options, trace, end, "", said),
         Err(_unusable) => false,
     }
 }
@@ -203,13 +206,13 @@ const CUT: &str =
     s3-fifo: bodies have 2 to 4 bytes; one above the small queue comes in here, and other simulators refuse it\n";
 
 fn are_records_played<C: Clock + Files + Threads + Sync>(rt: &C, alloc: Global) -> bool {
-    let (Ok(options), Ok(bytes)) = (options(alloc, "5", "1"), records(alloc)) else {
+    let (Ok(mut options), Ok(bytes)) = (options(alloc, "5", "1"), records(alloc)) else {
         return false;
     };
     let mut output = Vec::new(alloc);
     let mut errors = Vec::new(alloc);
     let trace = bytes.as_slice();
-    let ended = simulate(rt, alloc, &options, trace, &mut output, &mut errors);
+    let ended = simulate(rt, alloc, &mut options, trace, &mut output, &mut errors);
     end_of(ended) == "done"
         && output.as_slice() == WANTED.as_bytes()
         && errors.as_slice() == CUT.as_bytes()
@@ -231,10 +234,10 @@ fn are_counted<C: Clock + Files + Threads + Sync>(rt: &C, alloc: Global) -> bool
     words.ignores_size = true;
     words.watermark = Some("2");
     match read(alloc, &words) {
-        Ok(options) => is_played(
+        Ok(mut options) => is_played(
             rt,
             alloc,
-            &options,
+            &mut options,
             "a 2\nb 3\na 2\nc 4\na 2",
             "done",
             COUNTED,
@@ -260,7 +263,7 @@ fn are_tweets_played<C: Clock + Files + Threads + Sync>(rt: &C, alloc: Global) -
     words.policy = "lru";
     let said = "1 of 3 lines are other operations than get and gets\n";
     match read(alloc, &words) {
-        Ok(options) => is_played(rt, alloc, &options, TWEETS, "done", OF_TWEETS, said),
+        Ok(mut options) => is_played(rt, alloc, &mut options, TWEETS, "done", OF_TWEETS, said),
         Err(_unusable) => false,
     }
 }
@@ -273,8 +276,9 @@ fn only_gets_are_requests(rt: HostRuntime) {
 // Two requests of five are not counted, and of the others there are results each two: `c` comes in for `b`, which goes; `a` is
 // there.
 const LATER: &str =
-    "requests 3 to 4: lru of 5 bytes: 2 requests, 1 hits (50.00%), 33.33% of the bytes, 2 evicted, 4 bytes tracked\n\
-    requests 5 to 5: lru of 5 bytes: 1 requests, 0 hits (0.00%), 0.00% of the bytes, 1 evicted, 2 bytes tracked\n";
+    "policy  size  from  until  requests  hits  hit ratio  byte ratio  evicted  tracked\n\
+    lru        5     2      4         2     1     50.00%      33.33%        2        4\n\
+    lru        5     4      5         1     0      0.00%       0.00%        1        2\n";
 
 fn is_counted_later<C: Clock + Files + Threads + Sync>(
     rt: &C,
@@ -289,10 +293,10 @@ fn is_counted_later<C: Clock + Files + Threads + Sync>(
     words.warmup = warmup;
     words.interval = Some("2");
     match read(alloc, &words) {
-        Ok(options) => is_played(
+        Ok(mut options) => is_played(
             rt,
             alloc,
-            &options,
+            &mut options,
             "a 2\nb 3\na 2\nc 4\na 2",
             end,
             written,
@@ -319,7 +323,7 @@ fn is_cut<C: Clock + Files + Threads + Sync>(rt: &C, alloc: Global) -> bool {
     if trace.extend_from_slice(b"\n0,a,2\n").is_err() {
         return false;
     }
-    let Ok(options) = options(alloc, "5", "1") else {
+    let Ok(mut options) = options(alloc, "5", "1") else {
         return false;
     };
     let mut output = Vec::new(alloc);
@@ -327,7 +331,7 @@ fn is_cut<C: Clock + Files + Threads + Sync>(rt: &C, alloc: Global) -> bool {
     let ended = simulate(
         rt,
         alloc,
-        &options,
+        &mut options,
         trace.as_slice(),
         &mut output,
         &mut errors,
@@ -357,11 +361,12 @@ const SHARES: &str = "policy,size,tier,node,requests,hits,bytes,hit_bytes,evicte
     lru,3,shield,,10,5,10,5,2,3,,3,1@8,1.000000,0,,pass,use,false,\n";
 
 const SHARES_TOLD: &str =
-    "lru of 2 bytes, node 0: 10 requests, 2 hits (20.00%), 20.00% of the bytes, 6 evicted, 2 bytes tracked\n\
-    lru of 2 bytes, node 1: 2 requests, 1 hits (50.00%), 50.00% of the bytes, 0 evicted, 1 bytes tracked\n\
-    lru of 2 bytes, node 2: 4 requests, 3 hits (75.00%), 75.00% of the bytes, 0 evicted, 1 bytes tracked\n\
-    lru of 2 bytes, nodes: 16 requests, 6 hits (37.50%), 37.50% of the bytes, 6 evicted, 4 bytes tracked; the busiest has 1.87 times the mean\n\
-    lru of 3 bytes, shield: 10 requests, 5 hits (50.00%), 50.00% of the bytes, 2 evicted, 3 bytes tracked\n";
+    "policy  size    tier  node  requests  hits  hit ratio  byte ratio  evicted  tracked  busiest\n\
+    lru        2    node     0        10     2     20.00%      20.00%        6        2        -\n\
+    lru        2    node     1         2     1     50.00%      50.00%        0        1        -\n\
+    lru        2    node     2         4     3     75.00%      75.00%        0        1        -\n\
+    lru        2   nodes     -        16     6     37.50%      37.50%        6        4     1.87\n\
+    lru        3  shield     -        10     5     50.00%      50.00%        2        3        -\n";
 
 // The same if node 0 goes after nine requests and node 2 after eleven, and there is no shield.
 const SHARES_IN_JSON: &str =
@@ -391,7 +396,7 @@ fn are_shared<C: Clock + Files + Threads + Sync>(
     words.shield = shield;
     words.format = format;
     match read(alloc, &words) {
-        Ok(options) => is_played(rt, alloc, &options, SHARED, "done", written, ""),
+        Ok(mut options) => is_played(rt, alloc, &mut options, SHARED, "done", written, ""),
         Err(_unusable) => false,
     }
 }
@@ -421,4 +426,45 @@ fn nodes_share_the_keys(rt: HostRuntime) {
             SHARES_IN_JSON
         )
     );
+}
+
+// Of the places of these keys among a million, `a`, `c` and `b` are the first, and then `f` is at 489,067. What a cache of that
+// part of 20 bytes serves of them was computed by `bench/simulators.py`.
+const OF_SIX_KEYS: &str =
+    "0,a,2\n1,b,3\n2,c,2\n3,d,1\n4,a,2\n5,e,1\n6,b,3\n7,c,2\n8,f,2\n9,d,1\n10,a,2\n11,e,1\n12,c,2\n13,b,3\n14,d,1\n";
+
+const OF_THREE_KEYS: &str = "policy,size,requests,hits,bytes,hit_bytes,evicted,tracked,\
+    expected_requests,corrected_hits,expected_bytes,corrected_hit_bytes,sample,part,ttl,large,expired,ignore_size,watermark,from,until\n\
+    lru,20,9,6,21,14,0,7,7,4,13,6,0.489067,0,,pass,use,false,,0,15\n";
+
+// Two keys at the first place of all.
+const AT_ONE_PLACE: &str = "0,n1484779,2\n1,n1550152,3\n";
+
+// Whether the sample of at most so many keys of a file with these lines ends so.
+fn is_limited<C: Clock + Files + Threads + Sync>(
+    rt: &C,
+    alloc: Global,
+    lines: &str,
+    most: &'static str,
+    end: &str,
+    written: &str,
+) -> bool {
+    let mut words = WORDS;
+    words.policy = "lru";
+    words.size = "20";
+    words.trace = Some("limited.csv");
+    words.sample_keys = Some(most);
+    match (
+        read(alloc, &words),
+        fs::write(rt, "limited.csv", lines.as_bytes()),
+    ) {
+        (Ok(mut options), Ok(())) => is_played(rt, alloc, &mut options, "", end, written, ""),
+        _ => false,
+    }
+}
+
+#[test]
+fn the_largest_sample_of_so_many_keys_is_played(rt: HostRuntime) {
+    assert!(rt; is_limited(&rt, rt.alloc(), OF_SIX_KEYS, "3", "done", OF_THREE_KEYS));
+    assert!(rt; is_limited(&rt, rt.alloc(), AT_ONE_PLACE, "1", "too many keys", ""));
 }
