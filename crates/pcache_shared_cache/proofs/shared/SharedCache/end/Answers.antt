@@ -25,4 +25,4 @@ returns-clause-ends g c =
     let row : EndsRequest r p q = record { store = c.end-released.ensures.store; past = c.end-released.ensures.past; locks = c.end-released.ensures.table; deeds = c.end-released.ensures.deeds; rest = c.end-released.ensures.rest } in
     let here = lent c.args.self.now c.part-lock.result.now c.part-lock.ensures.limits c.part-lock.ensures.place c.place.ensures.place c.lock-guard.ensures.place c.lock-guard.ensures.limits (c.part.view_is ∙ c.deref_mut-part.ensures.value) in
     inr (goes_by c.args.self.now g.K.Mark.names c.part.inside.log.place c.args.request.place c.into_both-request.result.1.log c.args.request.seen c.adds.new.sight.log p q here c.into_both-request.ensures.seen
-        (c.adds.ensures.moves p c.part.invariant) (subst (λ (x : Request). EndsRequest x p q) c.into_both-request.ensures.request row))
+    (c.adds.ensures.moves p c.part.invariant) (subst (λ (x : Request). EndsRequest x p q) c.into_both-request.ensures.request row))
