@@ -205,7 +205,29 @@ extern "C" {
         value: *const u8,
         value_len: usize,
     ) -> u32;
+    pub fn pcache_head_count(head: *mut PcacheHandle, name: *const u8, name_len: usize, count: *mut usize) -> u32;
+    pub fn pcache_head_field(
+        head: *mut PcacheHandle,
+        index: usize,
+        name: *mut u8,
+        name_room: usize,
+        value: *mut u8,
+        value_room: usize,
+        name_len: *mut usize,
+        value_len: *mut usize,
+    ) -> u32;
     pub fn pcache_head_new(handle: *mut PcacheHandle, status: u16) -> u32;
+    pub fn pcache_head_read(handle: *mut PcacheHandle, bytes: *const u8, bytes_len: usize, taken: *mut usize) -> u32;
+    pub fn pcache_head_status(head: *mut PcacheHandle, status: *mut u16) -> u32;
+    pub fn pcache_head_value(
+        head: *mut PcacheHandle,
+        name: *const u8,
+        name_len: usize,
+        index: usize,
+        out: *mut u8,
+        out_room: usize,
+        len: *mut usize,
+    ) -> u32;
     pub fn pcache_manager_access(
         manager: *mut PcacheHandle,
         primary: *const u8,
@@ -355,6 +377,13 @@ extern "C" {
         now_nanos: u32,
         found: *mut u32,
     ) -> u32;
+    pub fn pcache_request_look_for(
+        cache: *mut PcacheHandle,
+        request: u64,
+        variance: *const u8,
+        variance_len: usize,
+        same: *mut u32,
+    ) -> u32;
     pub fn pcache_request_meta(
         cache: *mut PcacheHandle,
         request: u64,
@@ -392,6 +421,13 @@ extern "C" {
         start: usize,
         end: usize,
     ) -> u32;
+    pub fn pcache_request_serve_on(
+        cache: *mut PcacheHandle,
+        request: u64,
+        head: *mut PcacheHandle,
+        reason: u32,
+    ) -> u32;
+    pub fn pcache_request_serve_updating(cache: *mut PcacheHandle, request: u64) -> u32;
     pub fn pcache_request_set_meta(
         cache: *mut PcacheHandle,
         request: u64,
