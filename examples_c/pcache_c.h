@@ -430,6 +430,9 @@ uint32_t pcache_request_finish_hit(pcache_handle *cache, uint64_t request);
 uint32_t pcache_request_held(pcache_handle *cache, uint64_t request, uint32_t *held);
 uint32_t pcache_request_wait(pcache_handle *cache, uint64_t request, uint64_t now_secs,
                              uint32_t now_nanos, uint32_t *outcome);
+/* At most so long a request waits for locks, over all its waits: set it before the look-up. PCACHE_WRONG_CALL if it holds a lock, or
+ * fills the key. Then a wait ends by PCACHE_WAS_WAIT_TIMEOUT. */
+uint32_t pcache_request_limit_waits(pcache_handle *cache, uint64_t request, uint64_t most_millis);
 /* PCACHE_NONE if the request holds nothing. */
 uint32_t pcache_request_release(pcache_handle *cache, uint64_t request, uint32_t reason);
 uint32_t pcache_request_disable(pcache_handle *cache, uint64_t request, uint32_t reason);

@@ -370,6 +370,7 @@ extern "C" {
     ) -> u32;
     pub fn pcache_request_finish_hit(cache: *mut PcacheHandle, request: u64) -> u32;
     pub fn pcache_request_held(cache: *mut PcacheHandle, request: u64, held: *mut u32) -> u32;
+    pub fn pcache_request_limit_waits(cache: *mut PcacheHandle, request: u64, most_millis: u64) -> u32;
     pub fn pcache_request_look(
         cache: *mut PcacheHandle,
         request: u64,

@@ -1,5 +1,5 @@
 -- The head of a response in the bytes in which it came (RFC 9112, as `httparse` reads it).
-use Rattle.std.specs.Prelude.{◌≡◌, ◌⊎◌, ◌≤◌, ℕ, List, drop, length}
+use Rattle.std.specs.Prelude.{◌≡◌, ◌⊎◌, ◌≤◌, ◌++◌, ℕ, List, drop, length}
 use Rattle.httparse.specs.Grammar.{HasNoResponse, MayBecomeResponse, ReadsResponse, ResponseHead, print_response}
 use Rattle.pcache_meta.specs.declared.header.ResponseHeader.{ResponseHeader}
 use Rattle.pcache_put.specs.Head.{IsAccepted, header_of}
@@ -17,13 +17,13 @@ pub record IsHeadOf (bytes : List ℕ) (n : ℕ) (kept : ResponseHeader) : Type 
   pub accepted : IsAccepted head
   pub kept_is : kept ≡ header_of head
 
--- no first bytes are such a head
-abbrev pub HasNoHead : List ℕ → Type 0
-HasNoHead bytes = (n : ℕ) (kept : ResponseHeader) → ¬ (IsHeadOf bytes n kept)
+-- whatever bytes follow, no first ones are such a head
+abbrev pub NeverHasHead : List ℕ → Type 0
+NeverHasHead bytes = (more : List ℕ) (n : ℕ) (kept : ResponseHeader) → ¬ (IsHeadOf (bytes ++ more) n kept)
 
--- why no head was made of bytes: there was no memory for it, it has not ended, or it cannot be read
+-- why no head was made of bytes: there was no memory for it; it has not ended, and may end; or it never is one
 abbrev pub RefusesBytes : List ℕ → ℕ → Type 0
-RefusesBytes bytes code = (code ≡ no_memory) ⊎ ((code ≡ nothing) × HasNoResponse bytes × MayBecomeResponse bytes) ⊎ ((code ≡ unreadable) × HasNoHead bytes)
+RefusesBytes bytes code = (code ≡ no_memory) ⊎ ((code ≡ nothing) × HasNoResponse bytes × MayBecomeResponse bytes) ⊎ ((code ≡ unreadable) × NeverHasHead bytes)
 
 -- a handle gets the head at the start of the bytes, and its length is said
 abbrev pub Receives : List ℕ → PcacheHandle → PcacheHandle → ℕ → ℕ → Type 0

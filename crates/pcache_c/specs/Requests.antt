@@ -17,7 +17,7 @@ use Rattle.pcache_lock.specs.declared.lock.status.LockStatus.TheVariants.{Done, 
 use Rattle.pcache_meta.specs.Header.{Header}
 use Rattle.pcache_meta.specs.Meta.{Meta}
 use Rattle.pcache_request.specs.Finishing.{after_finish}
-use Rattle.pcache_request.specs.LockUse.{read_in, unheld}
+use Rattle.pcache_request.specs.LockUse.{MaySetLock, lock_used, read_in, unheld}
 use Rattle.pcache_request.specs.LockWaits.{table_waited, unusable_in, wait_result, waited}
 use Rattle.pcache_request.specs.NoBody.{LeavesNone}
 use Rattle.pcache_request.specs.Phases.{IsDisabled, IsFilling, IsOn, IsStale, MayFinishHit, MayLookUp, MayMiss, MayPurge}
@@ -472,6 +472,14 @@ pub record RefusesWait (c d : Parts) (o p : Open) (e : ErrorType) : Type 0 where
 
 abbrev pub Waits : ℕ → ℕ → Parts → Parts → Open → Open → ℕ → Type 0
 Waits now outcome c d o p code = Outcome (MayWait o) (Waited now c d o p outcome) ⊥ (RefusesWait c d o p) (IsUnchanged c d o p) code
+
+-- how long a request waits at most, over all its waits, is set before it asks for a lock
+
+abbrev pub waits_at_most : ℕ → Request → Request
+waits_at_most nanos r = record r { uses = lock_used true r.uses; wait_timeout = Some nanos; max_retries = None }
+
+abbrev pub LimitsWaits : ℕ → Open → Open → ℕ → Type 0
+LimitsWaits nanos o p code = Outcome (MaySetLock o.request.cache) ((p.request.cache ≡ waits_at_most nanos o.request.cache) × KeepsFound o p) ⊥ (λ e. ⊥) (p ≡ o) code
 
 -- what is held is released
 

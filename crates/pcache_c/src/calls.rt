@@ -1,12 +1,12 @@
 //! The calls on a request, for C.
-ghost use Rattle.std.specs.Prelude.{◌≡◌, Option};
+ghost use Rattle.std.specs.Prelude.{◌≡◌, ◌*◌, Option};
 ghost use Rattle.pcache_base.specs.declared.reason.NoCacheReason.{NoCacheReason};
 ghost use Rattle.pcache_request.specs.declared.phase.HitStatus.{HitStatus};
 ghost use Rattle.pcache_c.specs.Codes.{OnGood, hash_at, is_flag, moment_at, nonempty, variance_at};
 ghost use Rattle.pcache_c.specs.Handles.{IsSame, OnEmpty, object_of};
 ghost use Rattle.pcache_c.specs.Numbers.{IsNumber, reason_number, status_number};
 ghost use Rattle.pcache_c.specs.Reached.{OnRequest};
-ghost use Rattle.pcache_c.specs.Requests.{Adds, Begins, EndsHit, Expires, Finishes, Looks, LooksForVariant, Misses, Passes, Purges, Reads, Releases, SaysLength, Seeks, ServesUpdating, Takes, TurnsOff, Varies, Views, Waits};
+ghost use Rattle.pcache_c.specs.Requests.{Adds, Begins, EndsHit, Expires, Finishes, LimitsWaits, Looks, LooksForVariant, Misses, Passes, Purges, Reads, Releases, SaysLength, Seeks, ServesUpdating, Takes, TurnsOff, Varies, Views, Waits};
 
 use crate::codes::{BAD_HANDLE, BAD_VALUE};
 use crate::handle::PcacheHandle;
@@ -356,6 +356,26 @@ pub extern "C" fn pcache_request_wait(
         return BAD_HANDLE;
     };
     let code = reached::wait(&mut *object, request, now, outcome);
+    cache.put(object);
+    code
+}
+
+/// Sets how many milliseconds a request waits for locks at most, over all its waits, before it holds one. A wait that is longer ends
+/// at the next time that the request asks, by PCACHE_WAS_WAIT_TIMEOUT.
+#[unsafe(no_mangle)]
+pub extern "C" fn pcache_request_limit_waits(
+    alloc: Global,
+    cache: &mut PcacheHandle,
+    request: u64,
+    most_millis: u64,
+) -> u32
+    ensures { OnRequest request cache.old cache.new result (λ c d o p.
+        (d ≡ c) × LimitsWaits (most_millis * 1000000) o p result) }
+{
+    let Some(mut object) = cache.take(alloc) else {
+        return BAD_HANDLE;
+    };
+    let code = reached::limit_waits(&mut *object, request, most_millis);
     cache.put(object);
     code
 }

@@ -1,10 +1,10 @@
 //! The calls on a request, by its number in the cache of an object.
-ghost use Rattle.std.specs.Prelude.{◌≡◌, None};
+ghost use Rattle.std.specs.Prelude.{◌≡◌, ◌*◌, None};
 ghost use Rattle.pcache_meta.specs.Header.{shown};
 ghost use Rattle.pcache_c.specs.Codes.{code_in};
 ghost use Rattle.pcache_c.specs.Opening.{Ends, Opens};
 ghost use Rattle.pcache_c.specs.Reached.{OnNumber};
-ghost use Rattle.pcache_c.specs.Requests.{Adds, Begins, CopyOf, EndsHit, Expires, Finishes, IsUnchanged, Looks, LooksForVariant, Misses, Passes, Purges, Reads, Releases, Renews, SaysHeld, SaysLength, SaysPhase, Seeks, ServesOn, ServesUpdating, SetsMeta, Takes, TurnsOff, Varies, Views, Waits, meta_shown};
+ghost use Rattle.pcache_c.specs.Requests.{Adds, Begins, CopyOf, EndsHit, Expires, Finishes, IsUnchanged, LimitsWaits, Looks, LooksForVariant, Misses, Passes, Purges, Reads, Releases, Renews, SaysHeld, SaysLength, SaysPhase, Seeks, ServesOn, ServesUpdating, SetsMeta, Takes, TurnsOff, Varies, Views, Waits, meta_shown};
 ghost use Rattle.pcache_c.specs.Handles.{object_of};
 
 use crate::codes::{BAD_HANDLE, OK, WRONG_KIND};
@@ -112,7 +112,12 @@ pub(crate) fn pass(object: &mut Object, number: u64) -> u32
 }
 
 /// Looks for the variant of what a look-up found.
-pub(crate) fn look_for(object: &mut Object, number: u64, variance: HashBinary, same: &mut u32) -> u32
+pub(crate) fn look_for(
+    object: &mut Object,
+    number: u64,
+    variance: HashBinary,
+    same: &mut u32,
+) -> u32
     ensures { OnNumber number object.old object.new result (λ c d o p.
         LooksForVariant variance c d o p same.new result) }
 {
@@ -356,6 +361,20 @@ pub(crate) fn wait(object: &mut Object, number: u64, now: Moment, outcome: &mut 
         return BAD_HANDLE;
     };
     requests::wait(&mut served.cache, request, now, outcome)
+}
+
+/// Sets how long the request waits at most.
+pub(crate) fn limit_waits(object: &mut Object, number: u64, most_millis: u64) -> u32
+    ensures { OnNumber number object.old object.new result (λ c d o p.
+        (d ≡ c) × LimitsWaits (most_millis * 1000000) o p result) }
+{
+    let Object::Cache(Served { cache: _, seats }) = object else {
+        return WRONG_KIND;
+    };
+    let Some(request) = seats.find(number) else {
+        return BAD_HANDLE;
+    };
+    requests::limit_waits(request, most_millis)
 }
 
 /// Releases the permit.

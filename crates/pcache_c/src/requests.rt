@@ -1,7 +1,7 @@
 //! What the requests of a cache do. Each call tests what the call that it makes requires, and says by a code how it went.
-ghost use Rattle.std.specs.Prelude.{◌≡◌, [], IfOk, None};
+ghost use Rattle.std.specs.Prelude.{◌≡◌, ◌*◌, [], IfOk, None};
 ghost use Rattle.pcache_c.specs.Numbers.{IsNumber, held_number, outcome_number, phase_number, reason_number, status_number};
-ghost use Rattle.pcache_c.specs.Requests.{Adds, Begins, CopyOf, EndsHit, Expires, Fetches, Finishes, HandsOut, HandsOver, Looks, LooksForVariant, Misses, Passes, Purges, Reads, Releases, Renews, SaysKnown, Seeks, ServesOn, ServesUpdating, SetsMeta, Takes, TurnsOff, Varies, Views, Waits, end_number, meta_shown, rest_of};
+ghost use Rattle.pcache_c.specs.Requests.{Adds, Begins, CopyOf, EndsHit, Expires, Fetches, Finishes, HandsOut, HandsOver, LimitsWaits, Looks, LooksForVariant, Misses, Passes, Purges, Reads, Releases, Renews, SaysKnown, Seeks, ServesOn, ServesUpdating, SetsMeta, Takes, TurnsOff, Varies, Views, Waits, end_number, meta_shown, rest_of};
 ghost use Rattle.core.specs.Ptr.{as_ptr};
 ghost use Rattle.pcache_meta.specs.Header.{shown};
 ghost use Rattle.pcache_c.specs.Handles.{object_of};
@@ -19,9 +19,11 @@ use pcache_base::reason::NoCacheReason;
 use pcache_lock::lock::{LockWaitOutcome, Locked};
 use pcache_meta::header::ResponseHeader;
 use pcache_meta::meta::CacheMeta;
+use pcache_request::cache::CacheOptionOverrides;
 use pcache_request::phase::{CachePhase, HitStatus};
 use std::alloc::{AllocError, Global};
 use std::mem;
+use std::time::Duration;
 
 /// The number of a phase, as the header has them.
 pub(crate) fn number_of_phase(phase: CachePhase) -> u32
@@ -590,6 +592,21 @@ pub(crate) fn wait(cache: &mut ListCache, open: &mut Open, now: Moment, outcome:
         }
         Err(e) => code_of(e),
     }
+}
+
+/// Sets how long the request waits for locks at most.
+pub(crate) fn limit_waits(open: &mut Open, most_millis: u64) -> u32
+    ensures { LimitsWaits (most_millis * 1000000) open.old open.new result }
+{
+    if !open.request.cache.may_set_cache_lock() {
+        return WRONG_CALL;
+    }
+    let limits = CacheOptionOverrides {
+        wait_timeout: Some(Duration::from_millis(most_millis)),
+        max_lock_retries: None,
+    };
+    open.request.cache.set_cache_lock(true, Some(limits));
+    OK
 }
 
 /// Releases the permit, with the status of the reason.
