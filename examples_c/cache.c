@@ -234,7 +234,8 @@ static void variants(void) {
     check("no hash", pcache_request_look_for(&cache, other, german, 15, &same), PCACHE_BAD_VALUE);
     check("look for", pcache_request_look_for(&cache, other, german, 16, &same), PCACHE_OK);
     printf("german: same %u, ", (unsigned)same);
-    printf("found %u held %u, ", (unsigned)look(other), (unsigned)held(other));
+    uint32_t found = look(other);
+    printf("found %u held %u, ", (unsigned)found, (unsigned)held(other));
     begin_varying(other, german);
     check("write", pcache_request_write(&cache, other, bytes("hi"), 2, 1), PCACHE_OK);
     finish(other);
@@ -242,7 +243,7 @@ static void variants(void) {
     const uint8_t *wanted[2] = {english, german};
     for (int i = 0; i < 2; i++) {
         uint64_t again = request_for("ff");
-        uint32_t found = look(again);
+        found = look(again);
         check("look for", pcache_request_look_for(&cache, again, wanted[i], 16, &same), PCACHE_OK);
         if (same == 0) found = look(again);
         printf("found %u same %u: ", (unsigned)found, (unsigned)same);
