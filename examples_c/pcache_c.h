@@ -122,6 +122,11 @@ typedef struct pcache_servable {
 /* A meta of all fields of the head, also of those that pcache_resp_cacheable leaves out: store its metas instead. */
 uint32_t pcache_meta_new(pcache_handle *meta, pcache_handle *head, const pcache_meta *said);
 uint32_t pcache_meta_says(pcache_handle *meta, pcache_meta *out);
+/* What the response varies on: 16 bytes, or PCACHE_NONE. */
+uint32_t pcache_meta_variance(pcache_handle *meta, uint8_t *out, size_t out_len);
+/* Sets that; no variance is one of no bytes. A meta that renews a stored one has to have its variance: else that is found as another
+ * variant from then on. */
+uint32_t pcache_meta_vary(pcache_handle *meta, const uint8_t *variance, size_t variance_len);
 uint32_t pcache_meta_servable(pcache_handle *meta, uint64_t now_secs, uint32_t now_nanos,
                               pcache_servable *out);
 uint32_t pcache_meta_read(pcache_handle *meta, const uint8_t *internal, size_t internal_len,

@@ -1,7 +1,7 @@
 //! Heads of responses, what their Cache-Control says, and metas of stored responses.
 
 use crate::error::done;
-use crate::{raw, Error, Handle};
+use crate::{raw, Error, Handle, Hash};
 use std::time::{Duration, SystemTime, UNIX_EPOCH};
 
 /// A moment: seconds and nanoseconds since 1970-01-01 00:00:00 UTC.
@@ -278,6 +278,41 @@ impl Meta {
             stale_while_revalidate: out.stale_while_revalidate_secs,
             stale_if_error: out.stale_if_error_secs,
         })
+    }
+
+    /// What the response varies on, as a hash, if it does.
+    ///
+    /// ```
+    /// # fn main() -> Result<(), pcache::Error> {
+    /// let mut meta = pcache::Meta::new(&mut pcache::Head::new(200)?, &pcache::Said::default())?;
+    /// assert_eq!(meta.variance()?, None);
+    /// let english = pcache::hash_key(b"en");
+    /// meta.vary(Some(&english))?;
+    /// assert_eq!(meta.variance()?, Some(english));
+    /// # Ok(())
+    /// # }
+    /// ```
+    ///
+    /// # Errors
+    /// None of this crate's making.
+    pub fn variance(&mut self) -> Result<Option<Hash>, Error> {
+        let mut out = [0; 16];
+        // SAFETY: the buffer has the length that is said.
+        match done(unsafe { raw::pcache_meta_variance(&mut self.0 .0, out.as_mut_ptr(), out.len()) }) {
+            Ok(()) => Ok(Some(out)),
+            Err(Error::Nothing) => Ok(None),
+            Err(error) => Err(error),
+        }
+    }
+
+    /// Sets that. A meta that renews a stored one has to have its variance: else that is found as another variant from then on.
+    ///
+    /// # Errors
+    /// None of this crate's making.
+    pub fn vary(&mut self, variance: Option<&Hash>) -> Result<(), Error> {
+        let variance: &[u8] = variance.map_or(&[], |hash| hash);
+        // SAFETY: the slice holds what it says for the call.
+        done(unsafe { raw::pcache_meta_vary(&mut self.0 .0, variance.as_ptr(), variance.len()) })
     }
 
     /// Whether the response may be served at a moment.

@@ -338,6 +338,8 @@ extern "C" {
         tag_len: *mut usize,
         since_len: *mut usize,
     ) -> u32;
+    pub fn pcache_meta_variance(meta: *mut PcacheHandle, out: *mut u8, out_len: usize) -> u32;
+    pub fn pcache_meta_vary(meta: *mut PcacheHandle, variance: *const u8, variance_len: usize) -> u32;
     pub fn pcache_meta_write(
         meta: *mut PcacheHandle,
         internal: *mut u8,

@@ -370,14 +370,15 @@ impl Request {
     /// # Errors
     /// [`Error::WrongCall`] if it may not miss or write, [`Error::NoMemory`], [`Error::Exhausted`], [`Error::Removed`].
     pub fn fill(&mut self, meta: &mut Meta, variance: Option<&Hash>) -> Result<Fill<'_>, Error> {
+        let variance: &[u8] = variance.map_or(&[], |hash| hash);
         let meta = &mut meta.0 .0;
         self.change(|cache, request| unsafe {
             let mut code = raw::pcache_request_miss(cache, request);
             if code == raw::OK {
                 code = raw::pcache_request_set_meta(cache, request, meta);
             }
-            if let (raw::OK, Some(variance)) = (code, variance) {
-                code = raw::pcache_request_vary(cache, request, variance.as_ptr(), 16);
+            if code == raw::OK {
+                code = raw::pcache_request_vary(cache, request, variance.as_ptr(), variance.len());
             }
             if code == raw::OK {
                 code = raw::pcache_request_begin(cache, request);
@@ -387,7 +388,7 @@ impl Request {
         Ok(Fill { request: self })
     }
 
-    /// Serves a stale body on, of which the origin said that it is good, with this meta's moments and head.
+    /// Serves a stale body on, of which the origin said that it is good, with this meta's moments, head and variance ([`Meta::vary`]).
     ///
     /// # Errors
     /// [`Error::WrongCall`] if it is not stale, [`Error::NoMemory`].
