@@ -1,6 +1,6 @@
 -- The fields of a head, as it is shown.
 use Rattle.std.proofs.Common.{◌≡◌, ℕ, zero, suc, Bool, true, false, cond, List, [], ◌∷◌, map, length, refl, sym, ap, ◌∙◌, bytes_eq}
-use Rattle.std.specs.Prelude.{Option, None, Some, option_map, slice_get}
+use Rattle.std.specs.Prelude.{Option, option_map, slice_get}
 use Rattle.std.proofs.lemmas.List.{length-map}
 use Rattle.http_header.specs.FieldValue.{FieldValue}
 use Rattle.http_header.specs.HeaderMap.{Entries, get_all, pairs}
