@@ -341,6 +341,33 @@ impl Meta {
         })
     }
 
+    /// The length of the text of its head, which is what a cache that counts entries counts for it. A proxy that stores no longer ones
+    /// than it allows asks for it before the fill, as it counts the bytes of a body while they come.
+    ///
+    /// ```
+    /// # fn main() -> Result<(), pcache::Error> {
+    /// let mut head = pcache::Head::new(200)?;
+    /// head.add("age", b"3")?;
+    /// let mut meta = pcache::Meta::new(&mut head, &pcache::Said::default())?;
+    /// assert_eq!(meta.head_length()?, "HTTP/1.1 200\r\nage: 3\r\n\r\n".len());
+    /// # Ok(())
+    /// # }
+    /// ```
+    ///
+    /// # Errors
+    /// [`Error::NoMemory`].
+    pub fn head_length(&mut self) -> Result<usize, Error> {
+        let (mut one, mut two) = ([0; 0], [0; 0]);
+        let (mut internal, mut header) = (0, 0);
+        // SAFETY: buffers without a byte, and two lengths, which are said first.
+        match done(unsafe {
+            raw::pcache_meta_write(&mut self.0 .0, one.as_mut_ptr(), 0, two.as_mut_ptr(), 0, &mut internal, &mut header)
+        }) {
+            Ok(()) | Err(Error::BadValue) => Ok(header),
+            Err(error) => Err(error),
+        }
+    }
+
     /// The values of If-None-Match and If-Modified-Since with which to validate what is stored. One of no bytes is not sent.
     ///
     /// # Errors
