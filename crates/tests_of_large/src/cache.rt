@@ -148,7 +148,7 @@ pub fn piece_of(read: Poll<Option<Bytes>>) -> Option<Bytes> {
 
 fn make_alone(alloc: Global) -> Result<Alone> {
     let seed = Seed::fixed();
-    let manager = Manager::new(alloc, seed, 1 << 23)?;
+    let manager = Manager::new(alloc, seed, 1 << 21)?;
     Ok(Alone {
         cache: Cache::new(alloc, seed, manager, Duration::from_secs(10)),
         open: Vec::new(alloc),

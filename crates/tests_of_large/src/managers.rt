@@ -1,4 +1,4 @@
-//! Managers of each policy with more than 2^20 entries, of which many go at once.
+//! Managers of each policy with more than 2^16 entries, of which many go at once, and a ring of more than 2^20.
 use crate::rows::{Large, play};
 use pcache_base::error::Result;
 use pcache_base::key::CompactCacheKey;
@@ -42,18 +42,30 @@ impl<M: EvictionManager> Large for Held<M> {
     }
 }
 
-const LIMIT: usize = 1_050_000;
+const LIMIT: usize = 70_000;
 
 // One that needs the room of so many others is let in last.
 const ROWS: &str = "
-    admit 1050000 -> 1050000
-    use 1050000 -> 1050000
-    just entries 1050000 -> 1
-    just make-room 131072 -> 1
-    just entries 918929 -> 1";
+    admit 70000 -> 70000
+    use 70000 -> 70000
+    just entries 70000 -> 1
+    just make-room 66000 -> 1
+    just entries 4001 -> 1";
+
+// More than 2^20.
+const ROWS_OF_A_MILLION: &str = "
+    admit 1050000 -> 1050000";
 
 fn holds_many<M: EvictionManager>(rt: &impl Abort, alloc: Global, manager: M) {
     play(rt, alloc, Held { alloc, manager }, ROWS);
+}
+
+#[test]
+fn a_million_entries_in_a_ring(rt: HostRuntime) -> Result<()> {
+    let alloc = rt.alloc();
+    let manager = clock::Manager::new(alloc, Seed::fixed(), 1_050_000)?;
+    play(&rt, alloc, Held { alloc, manager }, ROWS_OF_A_MILLION);
+    Ok(())
 }
 
 #[test]

@@ -137,8 +137,8 @@ impl<'a, R: Wait> Front for InParts<'a, R> {
     }
 }
 
-// Each part has room for one body of 2^23 bytes with what is kept beside it, and for no entry more.
-const LIMIT: usize = 4 * ((1 << 23) + 1_000);
+// Each part has room for one body of 2^21 bytes with what is kept beside it, and for no entry more.
+const LIMIT: usize = 4 * ((1 << 21) + 1_000);
 
 fn make_parts<R: Wait>(rt: &R, alloc: Global) -> Result<InParts<'_, R>> {
     Ok(InParts {

@@ -43,11 +43,11 @@ impl<'a, R: Files, M: SavedManager> Large for Round<'a, R, M> {
 }
 
 const ROWS: &str = "
-    admit 100000 -> 100000
+    admit 10000 -> 10000
     just save 0 -> 1
     just load 0 -> 1
-    just entries 100000 -> 1
-    find 100000 -> 100000";
+    just entries 10000 -> 1
+    find 10000 -> 10000";
 
 fn round_of<R: Files>(alloc: Global, files: &R) -> Result<Round<'_, R, simple_lru::Manager>> {
     Ok(Round {

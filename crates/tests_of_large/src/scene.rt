@@ -14,7 +14,7 @@ pub struct Scene<F: Front> {
 }
 
 // The longest body.
-const LONGEST: usize = (1 << 23) + 1;
+const LONGEST: usize = 1 << 21;
 
 /// Rows over this front.
 pub fn scene_of<F: Front>(front: F) -> Result<Scene<F>> {
@@ -25,8 +25,10 @@ pub fn scene_of<F: Front>(front: F) -> Result<Scene<F>> {
 // Their period is odd, so no two pieces of a power of two are alike.
 fn bytes_of(alloc: Global) -> Result<Vec<u8>> {
     let mut bytes = Vec::with_capacity(alloc, LONGEST)?;
-    for place in 0..LONGEST {
-        bytes.push((place % 251) as u8)?;
+    let mut byte = 0u8;
+    for _ in 0..LONGEST {
+        bytes.push(byte)?;
+        byte = if byte == 250 { 0 } else { byte.wrapping_add(1) };
     }
     Ok(bytes)
 }
@@ -125,32 +127,32 @@ fn is_followed<F: Front>(front: &mut F, piece: &[u8]) -> Result<bool> {
 }
 
 /// Many keys, bodies and keys of each length, a write of long pieces that is read along, and requests that are open together:
-/// readers of a body and of a write, permits and read locks. Behind them, a body of 2^23 bytes takes the
+/// readers of a body and of a write, permits and read locks. Behind them, a body of 2^21 bytes takes the
 /// place of all others: there is room for it alone.
 pub const ROWS: &str = "
-    fill 3000 -> 3000
-    just slots 3000 -> 1
-    find 3000 -> 3000
-    purge 3000 -> 3000
+    fill 1500 -> 1500
+    just slots 1500 -> 1
+    find 1500 -> 1500
+    purge 1500 -> 1500
     just slots 0 -> 1
-    bodies 300 -> 300
-    powers bodies 23 -> 23
-    keys 300 -> 300
-    powers keys 16 -> 16
+    bodies 100 -> 100
+    powers bodies 21 -> 21
+    keys 100 -> 100
+    powers keys 13 -> 13
     just slots 0 -> 1
     just begin 0 -> 1
     readers 1 -> 1
-    pieces 300 -> 300
-    powers pieces 20 -> 20
-    readers 2000 -> 2000
-    end 2002 -> 2002
+    pieces 100 -> 100
+    powers pieces 17 -> 17
+    readers 1100 -> 1100
+    end 1102 -> 1102
     fill 1 -> 1
-    readers 2000 -> 2000
-    end 2000 -> 2000
+    readers 1100 -> 1100
+    end 1100 -> 1100
     purge 1 -> 1
-    permits 2000 -> 2000
-    read-locks 2000 -> 2000
-    end 4000 -> 4000
-    fill 2000 -> 2000
-    just body 8388608 -> 1
+    permits 1100 -> 1100
+    read-locks 1100 -> 1100
+    end 2200 -> 2200
+    fill 1500 -> 1500
+    just body 2097152 -> 1
     just slots 1 -> 1";

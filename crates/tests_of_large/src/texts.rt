@@ -82,13 +82,13 @@ fn is_appended(alloc: Global, header: &mut ResponseHeader, name: &str, value: &[
     }
 }
 
-// A variance of a value of about this length, which one of a shorter value is not.
+// A variance of a value of this length, which one of a longer value is not.
 fn is_varied(alloc: Global, text: &mut String, length: u64) -> Result<bool> {
-    text.push('x')?;
     write_letters(text, length)?;
     let one = variance_of(alloc, text.as_bytes())?;
     let same = variance_of(alloc, text.as_bytes())?;
-    let other = variance_of(alloc, &text.as_bytes()[1..])?;
+    text.push('x')?;
+    let other = variance_of(alloc, text.as_bytes())?;
     Ok(one.is_some() && one == same && one != other)
 }
 
