@@ -10,13 +10,15 @@ use pcache_base::seed::Seed;
 use pcache_cache::{Cache, CacheRequest};
 use pcache_evict::eviction::simple_lru::Manager;
 use pcache_request::HitStatus;
-use pcache_shared_cache::Unnamed;
 use std::alloc::Global;
 use std::time::Duration;
 
-type Request = CacheRequest<Unnamed>;
+// Names the cache.
+struct Here;
 
-type Whole = Cache<Manager, Unnamed>;
+type Request = CacheRequest<Here>;
+
+type Whole = Cache<Manager, Here>;
 
 // A cache with its open requests.
 struct Alone {
