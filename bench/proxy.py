@@ -75,6 +75,11 @@ class Origin(http.server.BaseHTTPRequestHandler):
             self.answer(said, Cache_Control="max-age=1, stale-if-error=60")
         elif name == "/vary":
             self.answer(f"{self.headers.get('Accept-Language')} {count}".encode(), Cache_Control="max-age=60", Vary="Accept-Language")
+        elif name == "/languages":
+            tag = f'"{self.headers.get("Accept-Language")}"'
+            is_good = self.headers.get("If-None-Match") == tag
+            body, status = (b"", 304) if is_good else (said, 200)
+            self.answer(body, status, Cache_Control="max-age=0", ETag=tag, Vary="Accept-Language")
         elif name == "/private":
             self.answer(said, Cache_Control="private, max-age=60")
         elif name == "/big":
@@ -158,6 +163,12 @@ def play_all(play):
     wants("PURGE of all variants", "/vary", "-X", "PURGE")
     wants("a variant after it", "/vary", *english, cache="miss", body=b"en 3")
     wants("the other after it", "/vary", *german, cache="miss", body=b"de 4")
+
+    wants("a variant that is stale at once", "/languages", *english, cache="miss", body=b"1")
+    wants("another such", "/languages", *german, cache="miss", body=b"2")
+    for _ in range(2):
+        wants("the one is still good", "/languages", *english, cache="revalidated", body=b"1")
+        wants("the other too", "/languages", *german, cache="revalidated", body=b"2")
 
     slow = b"".join(b"%d," % i for i in range(10))
     said = [play.ended(it) for it in [play.start("/slow") for _ in range(20)]]

@@ -36,18 +36,23 @@ static uint32_t held(uint64_t request) {
     return held;
 }
 
-/* Begins a write of a response that is fresh until second 60. */
-static void begin(uint64_t request) {
+/* Begins a write of a response that is fresh until second 60, with a variance of 16 bytes or none. */
+static void begin_with(uint64_t request, const uint8_t *variance, size_t variance_len) {
     pcache_handle head = {0, 0}, meta = {0, 0};
     pcache_meta said = {{0, 0}, {0, 0}, {60, 0}, 0, 0};
     check("head", pcache_head_new(&head, 200), PCACHE_OK);
     check("meta", pcache_meta_new(&meta, &head, &said), PCACHE_OK);
     check("miss", pcache_request_miss(&cache, request), PCACHE_OK);
     check("set meta", pcache_request_set_meta(&cache, request, &meta), PCACHE_OK);
+    check("vary", pcache_request_vary(&cache, request, variance, variance_len), PCACHE_OK);
     check("begin", pcache_request_begin(&cache, request), PCACHE_OK);
     check("end head", pcache_end(&head), PCACHE_OK);
     check("end meta", pcache_end(&meta), PCACHE_OK);
 }
+
+static void begin(uint64_t request) { begin_with(request, bytes(""), 0); }
+
+static void begin_varying(uint64_t request, const uint8_t *variance) { begin_with(request, variance, 16); }
 
 static void finish(uint64_t request) {
     size_t stored, evicted;
@@ -210,6 +215,77 @@ static void print_totals(void) {
            totals.bodies, totals.weight, totals.entries, totals.evicted_weight, totals.evicted_entries);
 }
 
+/* Two variants of one key, told apart by a hash of what a request says in the fields of Vary. */
+static void variants(void) {
+    uint8_t english[16], german[16];
+    uint32_t same;
+    check("hash", pcache_hash_key(bytes("en"), 2, english, 16), PCACHE_OK);
+    check("hash", pcache_hash_key(bytes("de"), 2, german, 16), PCACHE_OK);
+    uint64_t first = request_for("ff");
+    look(first);
+    begin_varying(first, english);
+    check("write", pcache_request_write(&cache, first, bytes("hey"), 3, 1), PCACHE_OK);
+    printf("english: ");
+    finish(first);
+    check("end", pcache_request_end(&cache, first), PCACHE_OK);
+    uint64_t other = request_for("ff");
+    check("nothing yet", pcache_request_look_for(&cache, other, german, 16, &same), PCACHE_NONE);
+    look(other);
+    check("no hash", pcache_request_look_for(&cache, other, german, 15, &same), PCACHE_BAD_VALUE);
+    check("look for", pcache_request_look_for(&cache, other, german, 16, &same), PCACHE_OK);
+    printf("german: same %u, ", (unsigned)same);
+    uint32_t found = look(other);
+    printf("found %u held %u, ", (unsigned)found, (unsigned)held(other));
+    begin_varying(other, german);
+    check("write", pcache_request_write(&cache, other, bytes("hi"), 2, 1), PCACHE_OK);
+    finish(other);
+    check("end", pcache_request_end(&cache, other), PCACHE_OK);
+    const uint8_t *wanted[2] = {english, german};
+    for (int i = 0; i < 2; i++) {
+        uint64_t again = request_for("ff");
+        found = look(again);
+        check("look for", pcache_request_look_for(&cache, again, wanted[i], 16, &same), PCACHE_OK);
+        if (same == 0) found = look(again);
+        printf("found %u same %u: ", (unsigned)found, (unsigned)same);
+        check("take", pcache_request_take(&cache, again, PCACHE_IS_FRESH, 1, 0), PCACHE_OK);
+        read_once(again);
+        read_once(again);
+        printf("\n");
+        check("end", pcache_request_end(&cache, again), PCACHE_OK);
+    }
+}
+
+/* A stale body is served while another request renews it, and with the head of an answer that is not stored. */
+static void served_on(void) {
+    uint64_t renewing = request_for("ff"), serving = request_for("ff");
+    uint32_t phase;
+    pcache_handle head = {0, 0};
+    check("limit", pcache_request_limit_waits(&cache, serving, 500), PCACHE_OK);
+    look(renewing);
+    look(serving);
+    check("not stale", pcache_request_serve_updating(&cache, serving), PCACHE_WRONG_CALL);
+    check("take", pcache_request_take(&cache, renewing, PCACHE_IS_EXPIRED, 1, 0), PCACHE_OK);
+    check("take", pcache_request_take(&cache, serving, PCACHE_IS_EXPIRED, 1, 0), PCACHE_OK);
+    printf("held %u and %u, ", (unsigned)held(renewing), (unsigned)held(serving));
+    check("held already", pcache_request_limit_waits(&cache, serving, 500), PCACHE_WRONG_CALL);
+    uint32_t outcome;
+    check("wait", pcache_request_wait(&cache, serving, 1, 0, &outcome), PCACHE_OK);
+    printf("wait %u", (unsigned)outcome);
+    check("wait", pcache_request_wait(&cache, serving, 1, 500000000, &outcome), PCACHE_OK);
+    printf(" and %u, ", (unsigned)outcome);
+    check("updating", pcache_request_serve_updating(&cache, serving), PCACHE_OK);
+    check("phase", pcache_request_phase(&cache, serving, &phase), PCACHE_OK);
+    printf("phase %u ", (unsigned)phase);
+    read_once(serving);
+    check("head", pcache_head_new(&head, 304), PCACHE_OK);
+    check("serve on", pcache_request_serve_on(&cache, renewing, &head, PCACHE_ORIGIN_NOT_CACHE), PCACHE_OK);
+    check("end", pcache_end(&head), PCACHE_OK);
+    check("phase", pcache_request_phase(&cache, renewing, &phase), PCACHE_OK);
+    printf(" and %u held %u\n", (unsigned)phase, (unsigned)held(renewing));
+    check("end", pcache_request_end(&cache, renewing), PCACHE_OK);
+    check("end", pcache_request_end(&cache, serving), PCACHE_OK);
+}
+
 /* What may not be called is refused. */
 static void refused(void) {
     uint64_t request = request_for("aa");
@@ -249,6 +325,8 @@ int main(void) {
     stale_then_fresh();
     cut_off();
     without_a_copy();
+    variants();
+    served_on();
     refused();
     /* A request that is open goes with its cache. */
     look(request_for("dd"));

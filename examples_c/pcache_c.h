@@ -71,6 +71,11 @@ uint32_t pcache_head_new(pcache_handle *head, uint16_t status);
 uint32_t pcache_head_add(pcache_handle *head, const uint8_t *name, size_t name_len,
                          const uint8_t *value, size_t value_len);
 
+/* The head at the start of the bytes in which a response came, up to its empty line: `taken` is its length, and the body begins
+ * there. PCACHE_NONE if it has not ended yet: ask again with more bytes. PCACHE_UNREADABLE for bytes that are no head, and for one
+ * with more than 256 fields. */
+uint32_t pcache_head_read(pcache_handle *head, const uint8_t *bytes, size_t bytes_len, size_t *taken);
+
 /* Seconds count only if their flag is not 0. */
 typedef struct pcache_answers {
     uint64_t fresh_secs;
@@ -117,6 +122,11 @@ typedef struct pcache_servable {
 /* A meta of all fields of the head, also of those that pcache_resp_cacheable leaves out: store its metas instead. */
 uint32_t pcache_meta_new(pcache_handle *meta, pcache_handle *head, const pcache_meta *said);
 uint32_t pcache_meta_says(pcache_handle *meta, pcache_meta *out);
+/* What the response varies on: 16 bytes, or PCACHE_NONE. */
+uint32_t pcache_meta_variance(pcache_handle *meta, uint8_t *out, size_t out_len);
+/* Sets that; no variance is one of no bytes. A meta that renews a stored one has to have its variance: else that is found as another
+ * variant from then on. */
+uint32_t pcache_meta_vary(pcache_handle *meta, const uint8_t *variance, size_t variance_len);
 uint32_t pcache_meta_servable(pcache_handle *meta, uint64_t now_secs, uint32_t now_nanos,
                               pcache_servable *out);
 uint32_t pcache_meta_read(pcache_handle *meta, const uint8_t *internal, size_t internal_len,
@@ -125,6 +135,21 @@ uint32_t pcache_meta_read(pcache_handle *meta, const uint8_t *internal, size_t i
 uint32_t pcache_meta_write(pcache_handle *meta, uint8_t *internal, size_t internal_room,
                            uint8_t *header, size_t header_room, size_t *internal_len,
                            size_t *header_len);
+
+/* ---- the status and the fields of a head: of one that was made or read, and of a meta (as of a stored response) ---- */
+
+uint32_t pcache_head_status(pcache_handle *head, uint16_t *status);
+/* How many values a name has, in any case: 0 where there is no such field. */
+uint32_t pcache_head_count(pcache_handle *head, const uint8_t *name, size_t name_len, size_t *count);
+/* The value with this number, from 0, of those of a name in any case. Says its length first. PCACHE_BAD_VALUE if the buffer is too
+ * short, and nothing is written; PCACHE_NONE past the last one. */
+uint32_t pcache_head_value(pcache_handle *head, const uint8_t *name, size_t name_len, size_t index,
+                           uint8_t *out, size_t out_room, size_t *len);
+/* The field with this number, from 0: a name in lower case, and a value. A name with several values is there once for each, one
+ * after another. Says both lengths first. PCACHE_BAD_VALUE if a buffer is too short, and nothing is written; PCACHE_NONE past the
+ * last one. Each call goes through the fields before it. */
+uint32_t pcache_head_field(pcache_handle *head, size_t index, uint8_t *name, size_t name_room,
+                           uint8_t *value, size_t value_room, size_t *name_len, size_t *value_len);
 
 /* ---- heads of requests ---- */
 
@@ -362,14 +387,25 @@ uint32_t pcache_request_look(pcache_handle *cache, uint64_t request, uint64_t no
 uint32_t pcache_request_take(pcache_handle *cache, uint64_t request, uint32_t status,
                              uint64_t now_secs, uint32_t now_nanos);
 uint32_t pcache_request_pass(pcache_handle *cache, uint64_t request);
+/* The variant that the request wants, a hash of 16 bytes, given what was found under its key: `same` is 1 if that is it, and it stays
+ * to be taken. Else it is let go, the key has the variance from then on, and the next look-up is for the variant. What was stored
+ * before the body under the key came is not found from then on, so a purge of the key reaches all variants.
+ * PCACHE_NONE if nothing was found. */
+uint32_t pcache_request_look_for(pcache_handle *cache, uint64_t request, const uint8_t *variance,
+                                 size_t variance_len, uint32_t *same);
 uint32_t pcache_request_miss(pcache_handle *cache, uint64_t request);
 /* A copy of the meta of what was found, else of what the request serves or fills. */
 uint32_t pcache_request_meta(pcache_handle *cache, uint64_t request, pcache_handle *meta);
 /* These two copy the meta; its handle keeps it. */
 uint32_t pcache_request_set_meta(pcache_handle *cache, uint64_t request, pcache_handle *meta);
 uint32_t pcache_request_renew(pcache_handle *cache, uint64_t request, pcache_handle *meta);
+/* The same with a copy of the head of that answer alone, which is not stored, for a reason: what is stored stays as it is, and what
+ * the request holds is released as the reason says. */
+uint32_t pcache_request_serve_on(pcache_handle *cache, uint64_t request, pcache_handle *head, uint32_t reason);
+/* A stale body is served while another request renews it. PCACHE_WRONG_CALL in any phase but PCACHE_STALE. */
+uint32_t pcache_request_serve_updating(pcache_handle *cache, uint64_t request);
 /* The variance of the response that is to be stored, after its meta was set and before its write begins; no
- * variance is one of no bytes. The look-up of a variant is not exported: see docs/FROM_C.md. */
+ * variance is one of no bytes. A key that has another variance loses it. */
 uint32_t pcache_request_vary(pcache_handle *cache, uint64_t request, const uint8_t *variance,
                              size_t variance_len);
 uint32_t pcache_request_begin(pcache_handle *cache, uint64_t request);
@@ -399,6 +435,9 @@ uint32_t pcache_request_finish_hit(pcache_handle *cache, uint64_t request);
 uint32_t pcache_request_held(pcache_handle *cache, uint64_t request, uint32_t *held);
 uint32_t pcache_request_wait(pcache_handle *cache, uint64_t request, uint64_t now_secs,
                              uint32_t now_nanos, uint32_t *outcome);
+/* At most so long a request waits for locks, over all its waits: set it before the look-up. PCACHE_WRONG_CALL if it holds a lock, or
+ * fills the key. Then a wait ends by PCACHE_WAS_WAIT_TIMEOUT. */
+uint32_t pcache_request_limit_waits(pcache_handle *cache, uint64_t request, uint64_t most_millis);
 /* PCACHE_NONE if the request holds nothing. */
 uint32_t pcache_request_release(pcache_handle *cache, uint64_t request, uint32_t reason);
 uint32_t pcache_request_disable(pcache_handle *cache, uint64_t request, uint32_t reason);

@@ -84,6 +84,32 @@ static void responses(void) {
     check("end", pcache_end(&again), PCACHE_OK);
 }
 
+/* The head of a response as it came, read in one call, and its fields by name and one by one. */
+static void received(void) {
+    const char *text = "HTTP/1.1 301 Moved\r\nVary: accept\r\nLocation: /b \r\nvary: cookie\r\n\r\nbody";
+    pcache_handle head = {0, 0};
+    size_t taken, count, name_len, value_len;
+    uint16_t status;
+    uint8_t name[16], value[16];
+    check("half a head", pcache_head_read(&head, bytes(text), 30, &taken), PCACHE_NONE);
+    check("no head", pcache_head_read(&head, bytes("HTTP/3"), 6, &taken), PCACHE_UNREADABLE);
+    check("head", pcache_head_read(&head, bytes(text), strlen(text), &taken), PCACHE_OK);
+    check("status", pcache_head_status(&head, &status), PCACHE_OK);
+    check("count", pcache_head_count(&head, bytes("VARY"), 4, &count), PCACHE_OK);
+    printf("status %u, then %s, vary %zu times\n", (unsigned)status, text + taken, count);
+    check("value", pcache_head_value(&head, bytes("Vary"), 4, 1, value, sizeof value, &value_len), PCACHE_OK);
+    printf("the last is %.*s\n", (int)value_len, (const char *)value);
+    check("past the last", pcache_head_value(&head, bytes("vary"), 4, 2, value, sizeof value, &value_len), PCACHE_NONE);
+    check("no room", pcache_head_value(&head, bytes("vary"), 4, 0, value, 2, &value_len), PCACHE_BAD_VALUE);
+    for (size_t i = 0;; i++) {
+        uint32_t code = pcache_head_field(&head, i, name, sizeof name, value, sizeof value, &name_len, &value_len);
+        if (code == PCACHE_NONE) break;
+        check("field", code, PCACHE_OK);
+        printf("%.*s: %.*s\n", (int)name_len, (const char *)name, (int)value_len, (const char *)value);
+    }
+    check("end", pcache_end(&head), PCACHE_OK);
+}
+
 static const uint8_t seed[16] = {1, 2, 3};
 static const pcache_entry plain = {0, 0, 0, 0};
 
@@ -154,6 +180,7 @@ static void managers(void) {
 int main(void) {
     hashes();
     responses();
+    received();
     managers();
     return 0;
 }

@@ -1,6 +1,6 @@
 //! A cache from Rust: a fill, a hit, a wait with a body that is read while it comes, a purge and an eviction. It prints what
 //! examples_c/cache.c prints.
-use pcache::{Cache, Counts, Error, Fill, Head, Held, HitStatus, Looked, Meta, Moment, Options, Read, Request, Said, Stored, View, WaitEnd};
+use pcache::{Cache, Counts, Error, Fill, Hash, Head, Held, HitStatus, Looked, Meta, Moment, Options, Read, Reason, Request, Said, Stored, View, WaitEnd};
 use std::time::Duration;
 
 const NOW: Moment = Moment { secs: 1, nanos: 0 };
@@ -22,15 +22,20 @@ fn number_of_end(end: Option<WaitEnd>) -> u32 {
     match end {
         None => 0,
         Some(WaitEnd::Done) => 1,
+        Some(WaitEnd::WaitTimeout) => 4,
         Some(_) => 9,
     }
 }
 
-/// Begins a write of a response that is fresh until second 60.
-fn begin(request: &mut Request) -> Result<Fill<'_>, Error> {
+/// Begins a write of a response that is fresh until second 60, with a variance or none.
+fn begin_with<'a>(request: &'a mut Request, variance: Option<&Hash>) -> Result<Fill<'a>, Error> {
     let said = Said { fresh_until: Moment { secs: 60, nanos: 0 }, ..Said::default() };
     let mut meta = Meta::new(&mut Head::new(200)?, &said)?;
-    request.fill(&mut meta, None)
+    request.fill(&mut meta, variance)
+}
+
+fn begin(request: &mut Request) -> Result<Fill<'_>, Error> {
+    begin_with(request, None)
 }
 
 fn print_stored(stored: Stored) {
@@ -172,6 +177,58 @@ fn without_a_copy(cache: &Cache) -> Result<(), Error> {
     Ok(())
 }
 
+/// Two variants of one key, told apart by a hash of what a request says in the fields of Vary.
+fn variants(cache: &Cache) -> Result<(), Error> {
+    let (english, german) = (pcache::hash_key(b"en"), pcache::hash_key(b"de"));
+    let mut first = cache.request(b"ff", "1")?;
+    assert_eq!(first.look(NOW)?, Looked::Permit);
+    print!("english: ");
+    print_stored(begin_with(&mut first, Some(&english))?.finish(b"hey")?);
+    drop(first);
+    let mut other = cache.request(b"ff", "1")?;
+    assert_eq!(other.look_for(&german), Err(Error::Nothing));
+    assert_eq!(other.look(NOW)?, Looked::Found);
+    print!("german: same {}, ", u32::from(other.look_for(&german)?));
+    let found = found_of(other.look(NOW)?);
+    print!("found {found} held {}, ", number_of(other.held()?));
+    print_stored(begin_with(&mut other, Some(&german))?.finish(b"hi")?);
+    drop(other);
+    for wanted in [english, german] {
+        let mut again = cache.request(b"ff", "1")?;
+        let mut found = found_of(again.look(NOW)?);
+        let same = again.look_for(&wanted)?;
+        if !same {
+            found = found_of(again.look(NOW)?);
+        }
+        print!("found {found} same {}: ", u32::from(same));
+        again.take(HitStatus::Fresh, NOW)?;
+        read_once(&mut again)?;
+        read_once(&mut again)?;
+        println!();
+    }
+    Ok(())
+}
+
+/// A stale body is served while another request renews it, and with the head of an answer that is not stored.
+fn served_on(cache: &Cache) -> Result<(), Error> {
+    let (mut renewing, mut serving) = (cache.request(b"ff", "1")?, cache.request(b"ff", "1")?);
+    serving.limit_waits(Duration::from_millis(500))?;
+    assert_eq!((renewing.look(NOW)?, serving.look(NOW)?), (Looked::Found, Looked::Found));
+    assert_eq!(serving.serve_updating(), Err(Error::WrongCall));
+    renewing.take(HitStatus::Expired, NOW)?;
+    serving.take(HitStatus::Expired, NOW)?;
+    print!("held {} and {}, ", number_of(renewing.held()?), number_of(serving.held()?));
+    assert_eq!(serving.limit_waits(Duration::from_millis(500)), Err(Error::WrongCall));
+    let later = Moment { nanos: 500_000_000, ..NOW };
+    print!("wait {} and {}, ", number_of_end(serving.wait(NOW)?), number_of_end(serving.wait(later)?));
+    serving.serve_updating()?;
+    print!("phase {} ", serving.phase()? as u32);
+    read_once(&mut serving)?;
+    renewing.serve_on(&mut Head::new(304)?, Reason::OriginNotCache)?;
+    println!(" and {} held {}", renewing.phase()? as u32, number_of(renewing.held()?));
+    Ok(())
+}
+
 fn purge(cache: &Cache, key: &str) -> Result<(), Error> {
     let was = cache.request(key.as_bytes(), "1")?.purge()?;
     println!("purge {key}: {}", u32::from(was));
@@ -217,6 +274,8 @@ fn main() -> Result<(), Error> {
     stale_then_fresh(&cache)?;
     cut_off(&cache)?;
     without_a_copy(&cache)?;
+    variants(&cache)?;
+    served_on(&cache)?;
     refused(&cache)?;
     assert_eq!(cache.request(b"dd", "1")?.look(NOW)?, Looked::Permit);
     Ok(())

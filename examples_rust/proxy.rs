@@ -10,17 +10,14 @@ mod http1;
 
 use http1::*;
 use pcache::{Answer as Gets, Asked as Rules, Cache, Decision, Error, Head, Held, HitStatus, Looked, Meta, Moment, Options, Outcome};
-use pcache::{Read, Reason, Request, Reuse, Terms};
-use std::collections::HashMap;
+use pcache::{Hash, Read, Reason, Request, Reuse, Terms, Variance};
 use std::io::{self, BufReader, ErrorKind, Write};
 use std::net::{TcpListener, TcpStream};
-use std::sync::atomic::{AtomicU64, Ordering};
-use std::sync::{Arc, Mutex};
+use std::sync::Arc;
 use std::time::{Duration, Instant};
 use std::{env, thread};
 
 const MOST_CONNECTIONS: usize = 1000;
-const MOST_KNOWN: usize = 100_000;
 const PATIENCE: Duration = Duration::from_secs(30);
 /// What asks for a part of a response, or for nothing of it.
 const CONDITIONS: [&str; 4] = ["range", "if-range", "if-none-match", "if-modified-since"];
@@ -74,42 +71,26 @@ fn fetch(origin: &str, asked: &Asked, but: &[&str], more: Fields) -> io::Result<
 struct Proxy {
     cache: Cache,
     origin: String,
-    /// On which fields of a request the responses of a target vary. The number is in their keys, so that what was purged is not found again.
-    known: Mutex<HashMap<Vec<u8>, (u64, Vec<String>)>>,
-    numbers: AtomicU64,
 }
 
 impl Proxy {
-    fn request_for(&self, asked: &Asked) -> Result<Request, Error> {
-        let mut key = base_of(asked);
-        if let Some((number, names)) = self.known.lock().unwrap().get(&key) {
-            key.extend_from_slice(format!("\n{number}").as_bytes());
-            for name in names {
-                let values = asked.fields.iter().filter(|(it, _)| it == name).map(|(_, value)| &value[..]).collect::<Vec<_>>();
-                key.extend_from_slice(format!("\n{}:", values.len()).as_bytes());
-                key.extend_from_slice(&values.join(&b"\n"[..]));
+    /// A request that looked its target up, for the variant that it asks for where what is stored varies.
+    fn look(&self, asked: &Asked, now: Moment) -> Result<(Request, Looked), Error> {
+        let mut request = self.cache.request(&base_of(asked), "")?;
+        let mut looked = request.look(now)?;
+        if looked == Looked::Found {
+            if let Some(variance) = variance_of(asked, &names_in(&mut request.meta()?)?)? {
+                if !request.look_for(&variance)? {
+                    looked = request.look(now)?;
+                }
             }
         }
-        self.cache.request(&key, "")
+        Ok((request, looked))
     }
 
-    /// Notes on what the responses of a target vary, and says whether its key is another now.
-    fn learn(&self, asked: &Asked, names: Vec<String>) -> bool {
-        let (base, mut known) = (base_of(asked), self.known.lock().unwrap());
-        let is_new = known.get(&base).map_or(!names.is_empty(), |it| it.1 != names);
-        if is_new && known.len() >= MOST_KNOWN {
-            known.clear();
-        }
-        if is_new {
-            known.insert(base, (self.numbers.fetch_add(1, Ordering::Relaxed), names));
-        }
-        is_new
-    }
-
+    /// Purges a target with all its variants.
     fn purge(&self, asked: &Asked) -> Result<bool, Error> {
-        let base = base_of(asked);
-        let had_variants = self.known.lock().unwrap().remove(&base).is_some();
-        Ok(self.cache.request(&base, "")?.purge()? || had_variants)
+        self.cache.request(&base_of(asked), "")?.purge()
     }
 
     /// Answers from the cache, or from the origin where the cache refuses.
@@ -126,8 +107,7 @@ impl Proxy {
     /// One look-up and what follows. Says whether the client has its answer; if not, another look-up is worth while.
     fn try_once(self: &Arc<Proxy>, client: &mut Client, asked: &Asked) -> Result<bool, Error> {
         let now = Moment::now();
-        let mut request = self.request_for(asked)?;
-        let looked = request.look(now)?;
+        let (mut request, looked) = self.look(asked, now)?;
         let mut meta = if looked == Looked::Found { Some(request.meta()?) } else { None };
         let decision = match &mut meta {
             Some(meta) => rules_of(asked)?.decide_stored(&terms_of(meta, now)?, meta, None)?,
@@ -156,8 +136,7 @@ impl Proxy {
 
     /// Renews a stale body in a thread of its own, unless another request has the permit to.
     fn renew(self: &Arc<Proxy>, asked: &Asked, now: Moment) -> Result<(), Error> {
-        let mut request = self.request_for(asked)?;
-        let _ = request.look(now)?;
+        let (mut request, _) = self.look(asked, now)?;
         let meta = request.meta()?;
         request.take(HitStatus::Expired, now)?;
         if request.held()? == Held::Permit {
@@ -179,6 +158,7 @@ impl Proxy {
         };
         match (outcome, fetched) {
             (Outcome::Freshen(mut newer, true, gets), _) => {
+                newer.vary(meta.variance()?.as_ref())?;
                 request.renew(&mut newer)?;
                 request.seek(0, None)?;
                 send_stored(client, asked, request, gets, reply_of(&mut newer, None, "revalidated")?);
@@ -211,14 +191,9 @@ impl Proxy {
                 return send_on(client, fetched, None, "pass");
             }
         };
-        if !self.learn(asked, names) {
-            return send_on(client, fetched, Some((request, &mut meta)), "miss");
-        }
-        // Its key is another one now: those who wait look again, under the key that their own fields give.
-        let _ = request.disable(Reason::UpstreamError);
-        match self.request_for(asked).map(|mut variant| (variant.look(Moment::now()), variant)) {
-            Ok((Ok(Looked::Permit), mut variant)) => send_on(client, fetched, Some((&mut variant, &mut meta)), "miss"),
-            _ => send_on(client, fetched, None, "miss"),
+        match variance_of(asked, &names) {
+            Ok(variance) => send_on(client, fetched, Some((request, &mut meta, variance)), "miss"),
+            Err(_) => send_on(client, fetched, None, "pass"),
         }
     }
 
@@ -240,6 +215,25 @@ impl Proxy {
 
 fn base_of(asked: &Asked) -> Vec<u8> {
     format!("{} {}", field(&asked.fields, "host").unwrap_or("").to_ascii_lowercase(), asked.target).into_bytes()
+}
+
+/// The names in the Vary of a stored response.
+fn names_in(meta: &mut Meta) -> Result<Vec<String>, Error> {
+    let mut fields = Fields::new();
+    while let Some(value) = meta.value("vary", fields.len())? {
+        fields.push(("vary".to_string(), value));
+    }
+    Ok(members(&fields, "vary"))
+}
+
+/// What a request says in these fields, as one hash; nothing if there are none.
+fn variance_of(asked: &Asked, names: &[String]) -> Result<Option<Hash>, Error> {
+    let mut variance = Variance::new()?;
+    for name in names {
+        let values = asked.fields.iter().filter(|(it, _)| it == name).map(|(_, value)| &value[..]).collect::<Vec<_>>();
+        variance.add(name, &[format!("{}:", values.len()).as_bytes(), &values.join(&b"\n"[..])].concat())?;
+    }
+    variance.finish()
 }
 
 /// The head of a request, of which the library decides what is served, validated, stored and purged (RFC 9111).
@@ -270,10 +264,10 @@ fn wait(request: &mut Request) -> Result<bool, Error> {
 }
 
 /// Sends a response on as it comes, to the client and to the write of a request. A write that fails is let go.
-fn send_on(client: &mut Client, mut fetched: Fetched, store: Option<(&mut Request, &mut Meta)>, origin: &str) {
+fn send_on(client: &mut Client, mut fetched: Fetched, store: Option<(&mut Request, &mut Meta, Option<Hash>)>, origin: &str) {
     fetched.fields.push(with("X-Cache", origin));
     client.begin(fetched.status, &fetched.fields);
-    let mut fill = store.and_then(|(request, meta)| request.fill(meta, None).ok());
+    let mut fill = store.and_then(|(request, meta, variance)| request.fill(meta, variance.as_ref()).ok());
     let is_whole = loop {
         match next_piece(&mut fetched.from, &mut fetched.left) {
             Ok(Some(piece)) => {
@@ -354,7 +348,7 @@ fn main() -> Result<(), Box<dyn std::error::Error>> {
     let (listen, origin) = words.next().zip(words.next()).ok_or("proxy LISTEN ORIGIN [LIMIT]")?;
     let limit = words.next().map_or(Ok(100_000_000), |it| it.parse())?;
     let cache = Cache::new(&Options { limit, age_timeout: PATIENCE, ..Options::default() })?;
-    let proxy = Arc::new(Proxy { cache, origin, known: Mutex::default(), numbers: AtomicU64::default() });
+    let proxy = Arc::new(Proxy { cache, origin });
     let listener = TcpListener::bind(listen)?;
     println!("{}", listener.local_addr()?);
     for stream in listener.incoming().flatten() {

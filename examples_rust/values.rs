@@ -53,6 +53,25 @@ fn responses() -> Result<(), Error> {
     Ok(())
 }
 
+/// The head of a response as it came, read in one call, and its fields by name and one by one.
+fn received() -> Result<(), Error> {
+    let text = b"HTTP/1.1 301 Moved\r\nVary: accept\r\nLocation: /b \r\nvary: cookie\r\n\r\nbody";
+    assert!(Head::read(&text[..30])?.is_none());
+    assert_eq!(Head::read(b"HTTP/3").err(), Some(Error::Unreadable));
+    let (mut head, taken) = Head::read(text)?.ok_or(Error::Nothing)?;
+    let body = String::from_utf8_lossy(&text[taken..]);
+    println!("status {}, then {body}, vary {} times", head.status()?, head.count("VARY")?);
+    let last = head.value("Vary", 1)?.ok_or(Error::Nothing)?;
+    println!("the last is {}", String::from_utf8_lossy(&last));
+    assert_eq!(head.value("vary", 2)?, None);
+    let mut fields = 0;
+    while let Some((name, value)) = head.field(fields)? {
+        println!("{name}: {}", String::from_utf8_lossy(&value));
+        fields += 1;
+    }
+    Ok(())
+}
+
 fn key(name: &str, tag: &str) -> Key {
     Key { primary: hash_key(name.as_bytes()), tag: tag.to_string(), ..Key::default() }
 }
@@ -100,5 +119,6 @@ fn managers() -> Result<(), Error> {
 fn main() -> Result<(), Error> {
     hashes()?;
     responses()?;
+    received()?;
     managers()
 }

@@ -1,7 +1,7 @@
 //! Heads of responses, what their Cache-Control says, and metas of stored responses.
 
 use crate::error::done;
-use crate::{raw, Error, Handle};
+use crate::{raw, Error, Handle, Hash};
 use std::time::{Duration, SystemTime, UNIX_EPOCH};
 
 /// A moment: seconds and nanoseconds since 1970-01-01 00:00:00 UTC.
@@ -66,6 +66,33 @@ impl Head {
         Ok(Head(handle))
     }
 
+    /// The head at the start of the bytes in which a response came, and how many bytes it has: the body begins there. Nothing if it
+    /// has not ended yet: ask again with more bytes.
+    ///
+    /// ```
+    /// # fn main() -> Result<(), pcache::Error> {
+    /// let bytes = b"HTTP/1.1 200 OK\r\nAge: 7\r\nVary: a\r\nVary: b\r\n\r\nbody";
+    /// let (mut head, taken) = pcache::Head::read(bytes)?.expect("a whole head");
+    /// assert_eq!((head.status()?, &bytes[taken..]), (200, &b"body"[..]));
+    /// assert_eq!((head.count("VARY")?, head.value("vary", 1)?), (2, Some(b"b".to_vec())));
+    /// assert!(pcache::Head::read(&bytes[..taken - 1])?.is_none());
+    /// assert_eq!(pcache::Head::read(b"SMTP").err(), Some(pcache::Error::Unreadable));
+    /// # Ok(())
+    /// # }
+    /// ```
+    ///
+    /// # Errors
+    /// [`Error::Unreadable`] for bytes that are no head, and for one with more than 256 fields; [`Error::NoMemory`].
+    pub fn read(bytes: &[u8]) -> Result<Option<(Head, usize)>, Error> {
+        let (mut handle, mut taken) = (Handle::new(), 0);
+        // SAFETY: the handle has nothing, and the slice holds what it says for the call.
+        match done(unsafe { raw::pcache_head_read(&mut handle.0, bytes.as_ptr(), bytes.len(), &mut taken) }) {
+            Ok(()) => Ok(Some((Head(handle), taken))),
+            Err(Error::Nothing) => Ok(None),
+            Err(error) => Err(error),
+        }
+    }
+
     /// Adds a field beside those of the same name.
     ///
     /// # Errors
@@ -73,6 +100,39 @@ impl Head {
     pub fn add(&mut self, name: &str, value: &[u8]) -> Result<(), Error> {
         // SAFETY: the slices hold what they say for the call.
         done(unsafe { raw::pcache_head_add(&mut self.0 .0, name.as_ptr(), name.len(), value.as_ptr(), value.len()) })
+    }
+
+    /// Its status.
+    ///
+    /// # Errors
+    /// None of this crate's making.
+    pub fn status(&mut self) -> Result<u16, Error> {
+        status_in(&mut self.0)
+    }
+
+    /// How many values a name has, in any case.
+    ///
+    /// # Errors
+    /// None of this crate's making.
+    pub fn count(&mut self, name: &str) -> Result<usize, Error> {
+        count_in(&mut self.0, name)
+    }
+
+    /// The value with this number, from 0, of those of a name in any case; nothing past the last one.
+    ///
+    /// # Errors
+    /// None of this crate's making.
+    pub fn value(&mut self, name: &str, index: usize) -> Result<Option<Vec<u8>>, Error> {
+        value_in(&mut self.0, name, index)
+    }
+
+    /// The field with this number, from 0: a name in lower case, and a value. A name with several values is there once for each, one
+    /// after another. Nothing past the last one.
+    ///
+    /// # Errors
+    /// None of this crate's making.
+    pub fn field(&mut self, index: usize) -> Result<Option<(String, Vec<u8>)>, Error> {
+        field_in(&mut self.0, index)
     }
 
     /// What Cache-Control says, if there is one.
@@ -220,6 +280,41 @@ impl Meta {
         })
     }
 
+    /// What the response varies on, as a hash, if it does.
+    ///
+    /// ```
+    /// # fn main() -> Result<(), pcache::Error> {
+    /// let mut meta = pcache::Meta::new(&mut pcache::Head::new(200)?, &pcache::Said::default())?;
+    /// assert_eq!(meta.variance()?, None);
+    /// let english = pcache::hash_key(b"en");
+    /// meta.vary(Some(&english))?;
+    /// assert_eq!(meta.variance()?, Some(english));
+    /// # Ok(())
+    /// # }
+    /// ```
+    ///
+    /// # Errors
+    /// None of this crate's making.
+    pub fn variance(&mut self) -> Result<Option<Hash>, Error> {
+        let mut out = [0; 16];
+        // SAFETY: the buffer has the length that is said.
+        match done(unsafe { raw::pcache_meta_variance(&mut self.0 .0, out.as_mut_ptr(), out.len()) }) {
+            Ok(()) => Ok(Some(out)),
+            Err(Error::Nothing) => Ok(None),
+            Err(error) => Err(error),
+        }
+    }
+
+    /// Sets that. A meta that renews a stored one has to have its variance: else that is found as another variant from then on.
+    ///
+    /// # Errors
+    /// None of this crate's making.
+    pub fn vary(&mut self, variance: Option<&Hash>) -> Result<(), Error> {
+        let variance: &[u8] = variance.map_or(&[], |hash| hash);
+        // SAFETY: the slice holds what it says for the call.
+        done(unsafe { raw::pcache_meta_vary(&mut self.0 .0, variance.as_ptr(), variance.len()) })
+    }
+
     /// Whether the response may be served at a moment.
     ///
     /// # Errors
@@ -246,6 +341,33 @@ impl Meta {
         })
     }
 
+    /// The length of the text of its head, which is what a cache that counts entries counts for it. A proxy that stores no longer ones
+    /// than it allows asks for it before the fill, as it counts the bytes of a body while they come.
+    ///
+    /// ```
+    /// # fn main() -> Result<(), pcache::Error> {
+    /// let mut head = pcache::Head::new(200)?;
+    /// head.add("age", b"3")?;
+    /// let mut meta = pcache::Meta::new(&mut head, &pcache::Said::default())?;
+    /// assert_eq!(meta.head_length()?, "HTTP/1.1 200\r\nage: 3\r\n\r\n".len());
+    /// # Ok(())
+    /// # }
+    /// ```
+    ///
+    /// # Errors
+    /// [`Error::NoMemory`].
+    pub fn head_length(&mut self) -> Result<usize, Error> {
+        let (mut one, mut two) = ([0; 0], [0; 0]);
+        let (mut internal, mut header) = (0, 0);
+        // SAFETY: buffers without a byte, and two lengths, which are said first.
+        match done(unsafe {
+            raw::pcache_meta_write(&mut self.0 .0, one.as_mut_ptr(), 0, two.as_mut_ptr(), 0, &mut internal, &mut header)
+        }) {
+            Ok(()) | Err(Error::BadValue) => Ok(header),
+            Err(error) => Err(error),
+        }
+    }
+
     /// The values of If-None-Match and If-Modified-Since with which to validate what is stored. One of no bytes is not sent.
     ///
     /// # Errors
@@ -256,6 +378,39 @@ impl Meta {
         texts(64, 64, |tag, since, first, second| unsafe {
             raw::pcache_meta_validators(meta, tag.as_mut_ptr(), tag.len(), since.as_mut_ptr(), since.len(), first, second)
         })
+    }
+
+    /// Its status.
+    ///
+    /// # Errors
+    /// None of this crate's making.
+    pub fn status(&mut self) -> Result<u16, Error> {
+        status_in(&mut self.0)
+    }
+
+    /// How many values a name has, in any case.
+    ///
+    /// # Errors
+    /// None of this crate's making.
+    pub fn count(&mut self, name: &str) -> Result<usize, Error> {
+        count_in(&mut self.0, name)
+    }
+
+    /// The value with this number, from 0, of those of a name in any case; nothing past the last one.
+    ///
+    /// # Errors
+    /// None of this crate's making.
+    pub fn value(&mut self, name: &str, index: usize) -> Result<Option<Vec<u8>>, Error> {
+        value_in(&mut self.0, name, index)
+    }
+
+    /// The field with this number, from 0: a name in lower case, and a value. A name with several values is there once for each, one
+    /// after another. Nothing past the last one.
+    ///
+    /// # Errors
+    /// None of this crate's making.
+    pub fn field(&mut self, index: usize) -> Result<Option<(String, Vec<u8>)>, Error> {
+        field_in(&mut self.0, index)
     }
 
     /// The status and the fields of its head, the names in lower case.
@@ -271,19 +426,51 @@ impl Meta {
     /// ```
     ///
     /// # Errors
-    /// [`Error::NoMemory`].
+    /// None of this crate's making.
     pub fn head(&mut self) -> Result<(u16, Vec<(String, Vec<u8>)>), Error> {
-        let (_, text) = self.write()?;
-        let mut lines = text.split(|&byte| byte == b'\n').map(|line| line.strip_suffix(b"\r").unwrap_or(line));
-        let first = lines.next().unwrap_or(b"");
-        let status = first.get(9..12).and_then(|digits| std::str::from_utf8(digits).ok()).and_then(|it| it.parse().ok());
         let mut fields = Vec::new();
-        for line in lines.take_while(|line| !line.is_empty()) {
-            let colon = line.iter().position(|&byte| byte == b':').ok_or(Error::Unreadable)?;
-            let name = String::from_utf8(line[..colon].to_vec()).map_err(|_| Error::Unreadable)?;
-            fields.push((name, line.get(colon + 2..).unwrap_or(b"").to_vec()));
+        while let Some(field) = self.field(fields.len())? {
+            fields.push(field);
         }
-        Ok((status.ok_or(Error::Unreadable)?, fields))
+        Ok((self.status()?, fields))
+    }
+}
+
+// SAFETY of each call below: the handle is the caller's alone, slices hold what they say for the call, and what is written to is the
+// function's own.
+
+fn status_in(handle: &mut Handle) -> Result<u16, Error> {
+    let mut status = 0;
+    done(unsafe { raw::pcache_head_status(&mut handle.0, &mut status) })?;
+    Ok(status)
+}
+
+fn count_in(handle: &mut Handle, name: &str) -> Result<usize, Error> {
+    let mut count = 0;
+    done(unsafe { raw::pcache_head_count(&mut handle.0, name.as_ptr(), name.len(), &mut count) })?;
+    Ok(count)
+}
+
+fn value_in(handle: &mut Handle, name: &str, index: usize) -> Result<Option<Vec<u8>>, Error> {
+    let read = texts(256, 0, |out, _, len, _| unsafe {
+        raw::pcache_head_value(&mut handle.0, name.as_ptr(), name.len(), index, out.as_mut_ptr(), out.len(), len)
+    });
+    match read {
+        Ok((value, _)) => Ok(Some(value)),
+        Err(Error::Nothing) => Ok(None),
+        Err(error) => Err(error),
+    }
+}
+
+fn field_in(handle: &mut Handle, index: usize) -> Result<Option<(String, Vec<u8>)>, Error> {
+    let read = texts(64, 256, |name, value, first, second| unsafe {
+        let (one, two) = (name.as_mut_ptr(), value.as_mut_ptr());
+        raw::pcache_head_field(&mut handle.0, index, one, name.len(), two, value.len(), first, second)
+    });
+    match read {
+        Ok((name, value)) => Ok(Some((String::from_utf8(name).map_err(|_| Error::Unreadable)?, value))),
+        Err(Error::Nothing) => Ok(None),
+        Err(error) => Err(error),
     }
 }
 

@@ -205,7 +205,29 @@ extern "C" {
         value: *const u8,
         value_len: usize,
     ) -> u32;
+    pub fn pcache_head_count(head: *mut PcacheHandle, name: *const u8, name_len: usize, count: *mut usize) -> u32;
+    pub fn pcache_head_field(
+        head: *mut PcacheHandle,
+        index: usize,
+        name: *mut u8,
+        name_room: usize,
+        value: *mut u8,
+        value_room: usize,
+        name_len: *mut usize,
+        value_len: *mut usize,
+    ) -> u32;
     pub fn pcache_head_new(handle: *mut PcacheHandle, status: u16) -> u32;
+    pub fn pcache_head_read(handle: *mut PcacheHandle, bytes: *const u8, bytes_len: usize, taken: *mut usize) -> u32;
+    pub fn pcache_head_status(head: *mut PcacheHandle, status: *mut u16) -> u32;
+    pub fn pcache_head_value(
+        head: *mut PcacheHandle,
+        name: *const u8,
+        name_len: usize,
+        index: usize,
+        out: *mut u8,
+        out_room: usize,
+        len: *mut usize,
+    ) -> u32;
     pub fn pcache_manager_access(
         manager: *mut PcacheHandle,
         primary: *const u8,
@@ -316,6 +338,8 @@ extern "C" {
         tag_len: *mut usize,
         since_len: *mut usize,
     ) -> u32;
+    pub fn pcache_meta_variance(meta: *mut PcacheHandle, out: *mut u8, out_len: usize) -> u32;
+    pub fn pcache_meta_vary(meta: *mut PcacheHandle, variance: *const u8, variance_len: usize) -> u32;
     pub fn pcache_meta_write(
         meta: *mut PcacheHandle,
         internal: *mut u8,
@@ -348,12 +372,20 @@ extern "C" {
     ) -> u32;
     pub fn pcache_request_finish_hit(cache: *mut PcacheHandle, request: u64) -> u32;
     pub fn pcache_request_held(cache: *mut PcacheHandle, request: u64, held: *mut u32) -> u32;
+    pub fn pcache_request_limit_waits(cache: *mut PcacheHandle, request: u64, most_millis: u64) -> u32;
     pub fn pcache_request_look(
         cache: *mut PcacheHandle,
         request: u64,
         now_secs: u64,
         now_nanos: u32,
         found: *mut u32,
+    ) -> u32;
+    pub fn pcache_request_look_for(
+        cache: *mut PcacheHandle,
+        request: u64,
+        variance: *const u8,
+        variance_len: usize,
+        same: *mut u32,
     ) -> u32;
     pub fn pcache_request_meta(
         cache: *mut PcacheHandle,
@@ -392,6 +424,13 @@ extern "C" {
         start: usize,
         end: usize,
     ) -> u32;
+    pub fn pcache_request_serve_on(
+        cache: *mut PcacheHandle,
+        request: u64,
+        head: *mut PcacheHandle,
+        reason: u32,
+    ) -> u32;
+    pub fn pcache_request_serve_updating(cache: *mut PcacheHandle, request: u64) -> u32;
     pub fn pcache_request_set_meta(
         cache: *mut PcacheHandle,
         request: u64,

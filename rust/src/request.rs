@@ -2,7 +2,7 @@
 
 use crate::cache::{Cache, Part};
 use crate::error::done;
-use crate::{raw, Error, Handle, Hash, Meta, Moment};
+use crate::{raw, Error, Handle, Hash, Head, Meta, Moment};
 use std::ops::Deref;
 use std::sync::PoisonError;
 use std::time::{Duration, Instant};
@@ -319,6 +319,41 @@ impl Request {
         self.call(|cache, request| unsafe { raw::pcache_request_pass(cache, request) })
     }
 
+    /// Whether what was found is the variant that this request wants, a hash of what it asks for by the names of Vary. If not, it is
+    /// let go, and the next look-up is for the variant. What was stored before the body under the key came is not found from then on,
+    /// so a purge of the key reaches all variants.
+    ///
+    /// ```
+    /// use pcache::{Cache, Head, Looked, Meta, Moment, Options, Said};
+    ///
+    /// # fn main() -> Result<(), pcache::Error> {
+    /// let cache = Cache::new(&Options { limit: 1 << 20, ..Options::default() })?;
+    /// let now = Moment::now();
+    /// let said = Said { created: now, updated: now, fresh_until: now, ..Said::default() };
+    /// let (english, german) = (pcache::hash_key(b"en"), pcache::hash_key(b"de"));
+    /// let mut first = cache.request(b"/news", "")?;
+    /// assert_eq!(first.look(now)?, Looked::Permit);
+    /// first.fill(&mut Meta::new(&mut Head::new(200)?, &said)?, Some(&english))?.finish("breaking")?;
+    ///
+    /// let mut other = cache.request(b"/news", "")?;
+    /// assert_eq!(other.look(now)?, Looked::Found);
+    /// assert!(!other.look_for(&german)?);
+    /// assert_eq!(other.look(now)?, Looked::Permit);
+    /// other.fill(&mut Meta::new(&mut Head::new(200)?, &said)?, Some(&german))?.finish("Eilmeldung")?;
+    /// # Ok(())
+    /// # }
+    /// ```
+    ///
+    /// # Errors
+    /// [`Error::WrongCall`] in another phase than Key and Stale, [`Error::Nothing`] if nothing was found.
+    pub fn look_for(&mut self, variance: &Hash) -> Result<bool, Error> {
+        let mut same = 0;
+        self.call(|cache, request| unsafe {
+            raw::pcache_request_look_for(cache, request, variance.as_ptr(), variance.len(), &mut same)
+        })?;
+        Ok(same != 0)
+    }
+
     /// A copy of the meta of what was found, else of what the request serves or fills.
     ///
     /// # Errors
@@ -335,14 +370,15 @@ impl Request {
     /// # Errors
     /// [`Error::WrongCall`] if it may not miss or write, [`Error::NoMemory`], [`Error::Exhausted`], [`Error::Removed`].
     pub fn fill(&mut self, meta: &mut Meta, variance: Option<&Hash>) -> Result<Fill<'_>, Error> {
+        let variance: &[u8] = variance.map_or(&[], |hash| hash);
         let meta = &mut meta.0 .0;
         self.change(|cache, request| unsafe {
             let mut code = raw::pcache_request_miss(cache, request);
             if code == raw::OK {
                 code = raw::pcache_request_set_meta(cache, request, meta);
             }
-            if let (raw::OK, Some(variance)) = (code, variance) {
-                code = raw::pcache_request_vary(cache, request, variance.as_ptr(), 16);
+            if code == raw::OK {
+                code = raw::pcache_request_vary(cache, request, variance.as_ptr(), variance.len());
             }
             if code == raw::OK {
                 code = raw::pcache_request_begin(cache, request);
@@ -352,13 +388,31 @@ impl Request {
         Ok(Fill { request: self })
     }
 
-    /// Serves a stale body on, of which the origin said that it is good, with this meta's moments and head.
+    /// Serves a stale body on, of which the origin said that it is good, with this meta's moments, head and variance ([`Meta::vary`]).
     ///
     /// # Errors
     /// [`Error::WrongCall`] if it is not stale, [`Error::NoMemory`].
     pub fn renew(&mut self, meta: &mut Meta) -> Result<(), Error> {
         let meta = &mut meta.0 .0;
         self.change(|cache, request| unsafe { raw::pcache_request_renew(cache, request, meta) })
+    }
+
+    /// Serves a stale body on, of which the origin said that it is good, with the head of that answer, which is not stored, for a reason:
+    /// what is stored stays as it is, and what the request holds of the lock is released as the reason says.
+    ///
+    /// # Errors
+    /// [`Error::WrongCall`] if it is not stale, or holds the permit and the reason is one of those who wait; [`Error::NoMemory`].
+    pub fn serve_on(&mut self, head: &mut Head, reason: Reason) -> Result<(), Error> {
+        let head = &mut head.0 .0;
+        self.change(|cache, request| unsafe { raw::pcache_request_serve_on(cache, request, head, reason as u32) })
+    }
+
+    /// Serves a stale body while another request renews it: the phase says so from then on.
+    ///
+    /// # Errors
+    /// [`Error::WrongCall`] if it is not stale.
+    pub fn serve_updating(&mut self) -> Result<(), Error> {
+        self.call(|cache, request| unsafe { raw::pcache_request_serve_updating(cache, request) })
     }
 
     /// Reads on into a buffer, which has room for a byte at least.
@@ -423,6 +477,15 @@ impl Request {
     /// [`Error::WrongCall`] where nothing may be read.
     pub fn finish_hit(&mut self) -> Result<(), Error> {
         self.call(|cache, request| unsafe { raw::pcache_request_finish_hit(cache, request) })
+    }
+
+    /// Waits for locks for at most so long, over all waits: set it before the look-up. A longer wait ends by [`WaitEnd::WaitTimeout`].
+    ///
+    /// # Errors
+    /// [`Error::WrongCall`] if it holds a lock, or fills the key.
+    pub fn limit_waits(&mut self, most: Duration) -> Result<(), Error> {
+        let millis = u64::try_from(most.as_millis()).unwrap_or(u64::MAX);
+        self.call(|cache, request| unsafe { raw::pcache_request_limit_waits(cache, request, millis) })
     }
 
     /// How the wait for the permit's holder ended, or nothing while it goes on.

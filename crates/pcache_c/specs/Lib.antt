@@ -1,6 +1,7 @@
 pub mod Caches
 pub mod Codes
 pub mod Decisions
+pub mod Fields
 pub mod Handle
 pub mod Handles
 pub mod Managers
@@ -8,6 +9,7 @@ pub mod Numbers
 pub mod Objects
 pub mod Opening
 pub mod Reached
+pub mod Received
 pub mod Requests
 pub mod Seats
 pub mod Taken

@@ -14,17 +14,18 @@ use Rattle.pcache_cache.specs.Weighing.{entered}
 use Rattle.pcache_cache.specs.Parts.{MayEnd, Parts, takes_bytes, tracked_at_end, written_by}
 use Rattle.pcache_lock.specs.Locks.{MayFailLock}
 use Rattle.pcache_lock.specs.declared.lock.status.LockStatus.TheVariants.{Done, GiveUp}
+use Rattle.pcache_meta.specs.Header.{Header}
 use Rattle.pcache_meta.specs.Meta.{Meta}
 use Rattle.pcache_request.specs.Finishing.{after_finish}
-use Rattle.pcache_request.specs.LockUse.{read_in, unheld}
+use Rattle.pcache_request.specs.LockUse.{MaySetLock, lock_used, read_in, unheld}
 use Rattle.pcache_request.specs.LockWaits.{table_waited, unusable_in, wait_result, waited}
 use Rattle.pcache_request.specs.NoBody.{LeavesNone}
-use Rattle.pcache_request.specs.Phases.{IsDisabled, IsFilling, IsOn, MayFinishHit, MayLookUp, MayMiss, MayPurge}
+use Rattle.pcache_request.specs.Phases.{IsDisabled, IsFilling, IsOn, IsStale, MayFinishHit, MayLookUp, MayMiss, MayPurge}
 use Rattle.pcache_request.specs.Releasing.{MayDisable, MayRelease, disabled_for, status_for}
 use Rattle.pcache_request.specs.Renewals.{renewed, renewed_by}
 use Rattle.pcache_request.specs.Requests.{HoldsNothing, MayTakeMeta, MayWrite, Request, asks_for_hit, begin_followed, begun_for, dropped_by, found_for, found_row, is_removed_by, left_by, length_by, missed, settled, store_found, store_writing, table_found, tracked_gone_for, whole_by, with_meta, without_reader, writing}
-use Rattle.pcache_request.specs.Stale.{MayRevalidate}
-use Rattle.pcache_request.specs.Variants.{asks_unseen, hides_for, looked_for, searched, seen_for, table_looked_for, table_varied, varied}
+use Rattle.pcache_request.specs.Stale.{MayRevalidate, uncacheable, updating}
+use Rattle.pcache_request.specs.Variants.{asks_unseen, hides_for, looked_for, looks_for_variance, same_variance, searched, seen_for, table_looked_for, table_varied, varied}
 use Rattle.pcache_request.specs.LockPasts.{end_deeds}
 use Rattle.pcache_request.specs.StorePasts.{EndsRequestPast}
 use Rattle.pcache_request.specs.WriteEnds.{Ends, EndsAs, evicted_after}
@@ -140,6 +141,21 @@ pub record LetsGo (h : Reader) (c d : Parts) (o p : Open) : Type 0 where
 abbrev pub Passes : Parts → Parts → Open → Open → ℕ → Type 0
 Passes c d o p code = Outcome ⊤ (OnPair (pair_found o) (λ m h. LetsGo h c d o p)) ((o.found ≡ None) × IsUnchanged c d o p) (λ e. ⊥) ⊥ code
 
+-- the variant that a request wants is looked for, given what was found under its key: if that has another variance it is let
+-- go, and the next look-up is for the variant
+
+pub record LooksFor (variance : List ℕ) (m : Meta) (h : Reader) (c d : Parts) (o p : Open) (same : ℕ) : Type 0 where
+  pub says : same ≡ from_bool (same_variance m.variance (Some variance))
+  pub request : p.request.cache ≡ looks_for_variance variance m o.request.cache
+  pub found : p.found ≡ cond (same_variance m.variance (Some variance)) o.found None
+  pub store : d.store ≡ cond (same_variance m.variance (Some variance)) c.store (left c.store h)
+  pub parts : KeepsButStore c d
+  pub rest : (p.piece ≡ o.piece) × (p.next_byte ≡ o.next_byte)
+
+abbrev pub LooksForVariant : List ℕ → Parts → Parts → Open → Open → ℕ → ℕ → Type 0
+LooksForVariant variance c d o p same code = Outcome (MayLookUp o.request.cache.phase) (OnPair (pair_found o) (λ m h. LooksFor variance m h c d o p same))
+    ((o.found ≡ None) × IsUnchanged c d o p) (λ e. ⊥) (IsUnchanged c d o p) code
+
 -- the request goes on as a miss
 
 abbrev pub MayGoOn : Open → Type 0
@@ -180,6 +196,26 @@ pub record Renewed (result : Result Bool ErrorType) (m : Meta) (c d : Parts) (o 
 abbrev pub Renews : Meta → Parts → Parts → Open → Open → ℕ → Type 0
 Renews m c d o p code = Outcome (MayRevalidate o.request.cache) ((there : Bool) × Renewed (Ok there) m c d o p) ⊥
     (λ e. (e ≡ OutOfMemory) × (IsUnchanged c d o p ⊎ Renewed (Err e) m c d o p)) (IsUnchanged c d o p) code
+
+-- a stale body is served while another request renews it
+
+abbrev pub ServesUpdating : Open → Open → ℕ → Type 0
+ServesUpdating o p code = Outcome (IsStale o.request.cache.phase) ((p.request.cache ≡ updating o.request.cache) × KeepsFound o p) ⊥ (λ e. ⊥) (p ≡ o) code
+
+-- a stale body is served with the head of an answer that says that it is good, and the answer is not stored, for a reason
+
+abbrev pub MayServeOn : NoCacheReason → Open → Type 0
+MayServeOn why o = MayRevalidate o.request.cache × MayRelease why o.request.cache.held
+
+pub record ServedOn (h : Header) (why : NoCacheReason) (c d : Parts) (o p : Open) : Type 0 where
+  pub request : p.request.cache ≡ uncacheable h why o.request.cache
+  pub table : d.locks ≡ settled (status_for (λ text. GiveUp) why) o.request.cache.held c.locks
+  pub parts : KeepsButLocks c d
+  pub rest : KeepsFound o p
+
+abbrev pub ServesOn : Header → NoCacheReason → Parts → Parts → Open → Open → ℕ → Type 0
+ServesOn h why c d o p code = Outcome (MayServeOn why o) (ServedOn h why c d o p) ⊥
+    (λ e. (e ≡ OutOfMemory) × IsUnchanged c d o p) (IsUnchanged c d o p) code
 
 -- what the response varies on is set
 
@@ -436,6 +472,14 @@ pub record RefusesWait (c d : Parts) (o p : Open) (e : ErrorType) : Type 0 where
 
 abbrev pub Waits : ℕ → ℕ → Parts → Parts → Open → Open → ℕ → Type 0
 Waits now outcome c d o p code = Outcome (MayWait o) (Waited now c d o p outcome) ⊥ (RefusesWait c d o p) (IsUnchanged c d o p) code
+
+-- how long a request waits at most, over all its waits, is set before it asks for a lock
+
+abbrev pub waits_at_most : ℕ → Request → Request
+waits_at_most nanos r = record r { uses = lock_used true r.uses; wait_timeout = Some nanos; max_retries = None }
+
+abbrev pub LimitsWaits : ℕ → Open → Open → ℕ → Type 0
+LimitsWaits nanos o p code = Outcome (MaySetLock o.request.cache) ((p.request.cache ≡ waits_at_most nanos o.request.cache) × KeepsFound o p) ⊥ (λ e. ⊥) (p ≡ o) code
 
 -- what is held is released
 

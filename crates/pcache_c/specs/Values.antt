@@ -20,7 +20,7 @@ use Rattle.pcache_control.specs.declared.response.RespCacheable.{RespCacheable}
 use Rattle.pcache_control.specs.declared.response.RespCacheable.TheVariants as decision
 use Rattle.pcache_meta.specs.Header.{shown}
 use Rattle.pcache_meta.specs.Internal.{first_said}
-use Rattle.pcache_meta.specs.Meta.{MayServeStale, Meta}
+use Rattle.pcache_meta.specs.Meta.{MayServeStale, Meta, internal_changed}
 use Rattle.pcache_meta.specs.MetaBytes.{SpellsMeta}
 use Rattle.pcache_meta.specs.HeaderText.{header_written}
 use Rattle.pcache_meta.specs.MetaWriting.{internal_written}
@@ -152,6 +152,15 @@ pub record SaysServable (m : Meta) (now : ℕ) (out : PcacheServable) : Type 0 w
   pub fresh : (out.fresh ≡ 1) ↔ (now ≤ m.fresh_until)
   pub revalidating : (out.while_revalidating ≡ 1) ↔ MayServeStale m.fresh_until m.stale_while_revalidate_sec now
   pub failing : (out.after_error ≡ 1) ↔ MayServeStale m.fresh_until m.stale_if_error_sec now
+
+-- a meta has a variance from then on, or none
+abbrev pub VariesMeta : Option (List ℕ) → Meta → Meta → ℕ → Type 0
+VariesMeta v m n code = (code ≡ ok) × (n ≡ internal_changed (λ x. record x { variance = v }) m)
+
+-- the variance of a meta goes to a buffer of 16 bytes, or it has none
+abbrev pub SaysHash : Option (List ℕ) → List ℕ → List ℕ → ℕ → Type 0
+SaysHash None old new code = (code ≡ nothing) × (new ≡ old)
+SaysHash (Some hash) old new code = (code ≡ ok) × (new ≡ hash)
 
 -- ---- whether a response is stored
 

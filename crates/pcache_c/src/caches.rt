@@ -1,22 +1,27 @@
 //! A cache with its requests: a store in memory, an eviction manager with one list, and a lock table.
 
-ghost use Rattle.std.specs.Prelude.{◌≡◌, ◌⊎◌, ◌*◌, IfErr, IfOk, IsUtf8, OnOk};
+ghost use Rattle.std.specs.Prelude.{◌≡◌, ◌⊎◌, ◌*◌, IfErr, IfOk, IsUtf8, OnOk, Option};
+ghost use Rattle.pcache_base.specs.declared.reason.NoCacheReason.{NoCacheReason};
 ghost use Rattle.pcache_cache.specs.declared.weighing.Weighing.TheVariants.{Bodies, Entries};
 ghost use Rattle.pcache_c.specs.Caches.{CopiesMeta, MakesCache, SaysCounts, key_with};
 ghost use Rattle.pcache_c.specs.Codes.{OnGood, OnText, bad_value, hash_at, no_memory, watermark_at};
 ghost use Rattle.pcache_c.specs.Handles.{AsksOf, IsSame, OnHandle, OnKind};
-ghost use Rattle.pcache_c.specs.Objects.{as_cache, as_meta};
+ghost use Rattle.pcache_c.specs.Objects.{as_cache, as_head, as_meta};
+ghost use Rattle.pcache_c.specs.Numbers.{IsNumber, reason_number};
 ghost use Rattle.pcache_c.specs.Opening.{Ends, Opens};
+ghost use Rattle.pcache_meta.specs.Header.{shown};
 ghost use Rattle.pcache_c.specs.Reached.{OnRequest};
-ghost use Rattle.pcache_c.specs.Requests.{IsUnchanged, Renews, SaysHeld, SaysPhase, SetsMeta, meta_shown};
+ghost use Rattle.pcache_c.specs.Requests.{IsUnchanged, Renews, SaysHeld, SaysPhase, ServesOn, SetsMeta, meta_shown};
 
 use crate::codes::{BAD_HANDLE, BAD_VALUE, NO_MEMORY, OK, WRONG_KIND, code_of};
 use crate::handle::PcacheHandle;
 use crate::managers::{seed_of, watermark_of};
 use crate::object::Object;
 use crate::reached;
+use crate::requests::reason_of;
 use crate::served::Served;
 use pcache_base::key::CacheKey;
+use pcache_base::reason::NoCacheReason;
 use pcache_cache::Weighing;
 use pcache_evict::eviction::simple_lru;
 use std::alloc::Global;
@@ -347,5 +352,57 @@ pub extern "C" fn pcache_request_renew(
     };
     let code = renew_to(alloc, cache, request, &*object);
     meta.put(object);
+    code
+}
+
+// The same with the head itself.
+fn serve_on_to(
+    alloc: Global,
+    cache: &mut PcacheHandle,
+    request: u64,
+    object: &Object,
+    reason: NoCacheReason,
+) -> u32
+    ensures { OnKind (as_head object.now) result (IsSame cache.old cache.new) (λ h.
+        OnRequest request cache.old cache.new result (λ c d o p.
+        ServesOn (shown h) reason c d o p result)) }
+{
+    let Object::Head(head) = object else {
+        return WRONG_KIND;
+    };
+    let Some(mut object) = cache.take(alloc) else {
+        return BAD_HANDLE;
+    };
+    let code = reached::serve_on(&mut *object, request, head, reason);
+    cache.put(object);
+    code
+}
+
+/// Serves a stale body on, of which the origin said that it is good, with a copy of the head of that answer, which is not stored, for
+/// a reason by the number that the header has. A permit is released with what the reason tells those who wait. What is stored stays.
+#[unsafe(no_mangle)]
+pub extern "C" fn pcache_request_serve_on(
+    alloc: Global,
+    cache: &mut PcacheHandle,
+    request: u64,
+    head: &mut PcacheHandle,
+    reason: u32,
+) -> u32
+    ensures does { (r : Option NoCacheReason)
+        × IsNumber reason_number 13 reason r
+        × OnGood r result (IsSame cache.old cache.new) (λ why.
+        AsksOf as_head head.old result (IsSame cache.old cache.new) (λ h.
+        OnRequest request cache.old cache.new result (λ c d o p.
+        ServesOn (shown h) why c d o p result))) }
+    ensures head { IsSame head.old head.new }
+{
+    let Some(reason) = reason_of(reason) else {
+        return BAD_VALUE;
+    };
+    let Some(object) = head.take(alloc) else {
+        return BAD_HANDLE;
+    };
+    let code = serve_on_to(alloc, cache, request, &*object, reason);
+    head.put(object);
     code
 }

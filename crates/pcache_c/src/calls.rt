@@ -1,16 +1,16 @@
 //! The calls on a request, for C.
-ghost use Rattle.std.specs.Prelude.{◌≡◌, Option};
+ghost use Rattle.std.specs.Prelude.{◌≡◌, ◌*◌, Option};
 ghost use Rattle.pcache_base.specs.declared.reason.NoCacheReason.{NoCacheReason};
 ghost use Rattle.pcache_request.specs.declared.phase.HitStatus.{HitStatus};
-ghost use Rattle.pcache_c.specs.Codes.{OnGood, is_flag, moment_at, nonempty, variance_at};
+ghost use Rattle.pcache_c.specs.Codes.{OnGood, hash_at, is_flag, moment_at, nonempty, variance_at};
 ghost use Rattle.pcache_c.specs.Handles.{IsSame, OnEmpty, object_of};
 ghost use Rattle.pcache_c.specs.Numbers.{IsNumber, reason_number, status_number};
 ghost use Rattle.pcache_c.specs.Reached.{OnRequest};
-ghost use Rattle.pcache_c.specs.Requests.{Adds, Begins, EndsHit, Expires, Finishes, Looks, Misses, Passes, Purges, Reads, Releases, SaysLength, Seeks, Takes, TurnsOff, Varies, Views, Waits};
+ghost use Rattle.pcache_c.specs.Requests.{Adds, Begins, EndsHit, Expires, Finishes, LimitsWaits, Looks, LooksForVariant, Misses, Passes, Purges, Reads, Releases, SaysLength, Seeks, ServesUpdating, Takes, TurnsOff, Varies, Views, Waits};
 
 use crate::codes::{BAD_HANDLE, BAD_VALUE};
 use crate::handle::PcacheHandle;
-use crate::hashes::variance_from;
+use crate::hashes::{hash_from, variance_from};
 use crate::metas::moment_of;
 use crate::{reached, requests};
 use std::alloc::Global;
@@ -84,6 +84,32 @@ pub extern "C" fn pcache_request_pass(alloc: Global, cache: &mut PcacheHandle, r
     code
 }
 
+/// Looks for the variant with this hash of 16 bytes, given what a look-up found: says whether that has it, 1 or 0. If it has not,
+/// it is let go, and the next look-up is for the variant; if it has, it stays to be taken. From then on what was stored before the
+/// body of that meta came is not found, so a purge of the key reaches all its variants.
+#[unsafe(no_mangle)]
+pub extern "C" fn pcache_request_look_for(
+    alloc: Global,
+    cache: &mut PcacheHandle,
+    request: u64,
+    variance: &[u8],
+    same: &mut u32,
+) -> u32
+    ensures { OnGood (hash_at variance.now) result (IsSame cache.old cache.new) (λ v.
+        OnRequest request cache.old cache.new result (λ c d o p.
+        LooksForVariant v c d o p same.new result)) }
+{
+    let Some(variance) = hash_from(variance) else {
+        return BAD_VALUE;
+    };
+    let Some(mut object) = cache.take(alloc) else {
+        return BAD_HANDLE;
+    };
+    let code = reached::look_for(&mut *object, request, variance, same);
+    cache.put(object);
+    code
+}
+
 /// Goes on as a miss.
 #[unsafe(no_mangle)]
 pub extern "C" fn pcache_request_miss(alloc: Global, cache: &mut PcacheHandle, request: u64) -> u32
@@ -94,6 +120,24 @@ pub extern "C" fn pcache_request_miss(alloc: Global, cache: &mut PcacheHandle, r
         return BAD_HANDLE;
     };
     let code = reached::miss(&mut *object, request);
+    cache.put(object);
+    code
+}
+
+/// Serves a stale body while another request renews it.
+#[unsafe(no_mangle)]
+pub extern "C" fn pcache_request_serve_updating(
+    alloc: Global,
+    cache: &mut PcacheHandle,
+    request: u64,
+) -> u32
+    ensures { OnRequest request cache.old cache.new result (λ c d o p.
+        (d ≡ c) × ServesUpdating o p result) }
+{
+    let Some(mut object) = cache.take(alloc) else {
+        return BAD_HANDLE;
+    };
+    let code = reached::serve_updating(&mut *object, request);
     cache.put(object);
     code
 }
@@ -312,6 +356,26 @@ pub extern "C" fn pcache_request_wait(
         return BAD_HANDLE;
     };
     let code = reached::wait(&mut *object, request, now, outcome);
+    cache.put(object);
+    code
+}
+
+/// Sets how many milliseconds a request waits for locks at most, over all its waits, before it holds one. A wait that is longer ends
+/// at the next time that the request asks, by PCACHE_WAS_WAIT_TIMEOUT.
+#[unsafe(no_mangle)]
+pub extern "C" fn pcache_request_limit_waits(
+    alloc: Global,
+    cache: &mut PcacheHandle,
+    request: u64,
+    most_millis: u64,
+) -> u32
+    ensures { OnRequest request cache.old cache.new result (λ c d o p.
+        (d ≡ c) × LimitsWaits (most_millis * 1000000) o p result) }
+{
+    let Some(mut object) = cache.take(alloc) else {
+        return BAD_HANDLE;
+    };
+    let code = reached::limit_waits(&mut *object, request, most_millis);
     cache.put(object);
     code
 }

@@ -9,6 +9,8 @@
 //! - `hashes`: the hashes of keys, and variances
 //! - `heads`: heads of responses, and what Cache-Control says of them
 //! - `metas`: metas of stored responses, and their bytes
+//! - `fields`: the status and the fields of a head, one by one
+//! - `received`: heads of responses from the bytes in which they came
 //! - `asked`: heads of requests
 //! - `decisions`: what HTTP's rules decide of a request and of a response; `decided`: how it is told
 //! - `taken`: which URIs a response to an unsafe method takes away
@@ -25,6 +27,7 @@ mod codes;
 mod decided;
 mod decisions;
 mod entries;
+mod fields;
 mod handle;
 mod hashes;
 mod heads;
@@ -33,6 +36,7 @@ mod managers;
 mod metas;
 mod object;
 mod reached;
+mod received;
 mod requests;
 mod seats;
 mod served;

@@ -1,14 +1,15 @@
 //! Metas of stored responses, and their bytes.
-ghost use Rattle.std.specs.Prelude.{◌≡◌};
-ghost use Rattle.pcache_c.specs.Codes.{OnGood, moment_at};
-ghost use Rattle.pcache_c.specs.Handles.{AsksOf, IsSame, OnKind};
+ghost use Rattle.std.specs.Prelude.{◌≡◌, length};
+ghost use Rattle.pcache_c.specs.Codes.{OnGood, hash_at, moment_at, variance_at};
+ghost use Rattle.pcache_c.specs.Handles.{AsksOf, ChangesOf, IsSame, OnKind, Turns};
 ghost use Rattle.pcache_c.specs.Objects.{as_head, as_meta};
-ghost use Rattle.pcache_c.specs.Values.{AreWritten, MakesMeta, ReadsMeta, SavesMeta, SaysMeta, SaysServable, meta_said, nanos_of};
+ghost use Rattle.pcache_c.specs.Values.{AreWritten, MakesMeta, ReadsMeta, SavesMeta, SaysHash, SaysMeta, SaysServable, VariesMeta, meta_said, nanos_of};
 
-use crate::codes::{BAD_HANDLE, BAD_VALUE, OK, WRONG_KIND, code_of};
+use crate::codes::{BAD_HANDLE, BAD_VALUE, NONE, OK, WRONG_KIND, code_of};
 use crate::handle::PcacheHandle;
-use crate::hashes::put;
+use crate::hashes::{put, variance_from};
 use crate::object::Object;
+use pcache_base::key::HashBinary;
 use pcache_base::moment::Moment;
 use pcache_meta::header::ResponseHeader;
 use pcache_meta::meta::CacheMeta;
@@ -313,6 +314,90 @@ pub extern "C" fn pcache_meta_write(
         return BAD_HANDLE;
     };
     let code = write(alloc, &*object, internal, header, internal_len, header_len);
+    meta.put(object);
+    code
+}
+
+fn vary_meta(meta: &mut CacheMeta, variance: Option<HashBinary>) -> u32
+    ensures { VariesMeta variance meta.old meta.new result }
+{
+    match variance {
+        Some(variance) => meta.set_variance(variance),
+        None => meta.remove_variance(),
+    }
+    OK
+}
+
+fn vary(object: &mut Object, variance: Option<HashBinary>) -> u32
+    ensures { Turns as_meta object.old object.new result (λ m n. VariesMeta variance m n result) }
+{
+    match object {
+        Object::Meta(meta) => vary_meta(meta, variance),
+        _ => WRONG_KIND,
+    }
+}
+
+/// Sets what the response of a meta varies on: a hash of 16 bytes, or of none for nothing. A meta that renews a stored one has to have
+/// its variance, or the stored one is found as another variant from then on.
+#[unsafe(no_mangle)]
+pub extern "C" fn pcache_meta_vary(alloc: Global, meta: &mut PcacheHandle, variance: &[u8]) -> u32
+    ensures { OnGood (variance_at variance.now) result (IsSame meta.old meta.new) (λ v. ChangesOf
+        as_meta meta.old meta.new result (λ m n. VariesMeta v m n result)) }
+{
+    let variance = match variance_from(variance) {
+        Ok(variance) => variance,
+        Err(code) => return code,
+    };
+    let Some(mut object) = meta.take(alloc) else {
+        return BAD_HANDLE;
+    };
+    let code = vary(&mut *object, variance);
+    meta.put(object);
+    code
+}
+
+fn say_hash(hash: Option<HashBinary>, out: &mut [u8]) -> u32
+    requires { length out.old ≡ 16 }
+    ensures { SaysHash hash out.old out.new result }
+{
+    match hash {
+        Some(hash) => {
+            out.copy_from_slice(&hash);
+            OK
+        }
+        None => NONE,
+    }
+}
+
+fn variance_of(object: &Object, out: &mut [u8]) -> u32
+    requires { length out.old ≡ 16 }
+    ensures { OnKind (as_meta object.now) result (out.new ≡ out.old) (λ m.
+        SaysHash m.variance out.old out.new result) }
+{
+    match object {
+        Object::Meta(meta) => say_hash(meta.variance(), out),
+        _ => WRONG_KIND,
+    }
+}
+
+/// What the response of a meta varies on, to a buffer of 16: there is nothing to hand over if it varies on nothing.
+#[unsafe(no_mangle)]
+pub extern "C" fn pcache_meta_variance(
+    alloc: Global,
+    meta: &mut PcacheHandle,
+    out: &mut [u8],
+) -> u32
+    ensures says { OnGood (hash_at out.old) result (out.new ≡ out.old) (λ room. AsksOf as_meta
+        meta.old result (out.new ≡ out.old) (λ m. SaysHash m.variance out.old out.new result)) }
+    ensures same { IsSame meta.old meta.new }
+{
+    if out.len() != 16 {
+        return BAD_VALUE;
+    }
+    let Some(object) = meta.take(alloc) else {
+        return BAD_HANDLE;
+    };
+    let code = variance_of(&*object, out);
     meta.put(object);
     code
 }

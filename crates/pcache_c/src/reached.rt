@@ -1,9 +1,10 @@
 //! The calls on a request, by its number in the cache of an object.
-ghost use Rattle.std.specs.Prelude.{◌≡◌, None};
+ghost use Rattle.std.specs.Prelude.{◌≡◌, ◌*◌, None};
+ghost use Rattle.pcache_meta.specs.Header.{shown};
 ghost use Rattle.pcache_c.specs.Codes.{code_in};
 ghost use Rattle.pcache_c.specs.Opening.{Ends, Opens};
 ghost use Rattle.pcache_c.specs.Reached.{OnNumber};
-ghost use Rattle.pcache_c.specs.Requests.{Adds, Begins, CopyOf, EndsHit, Expires, Finishes, IsUnchanged, Looks, Misses, Passes, Purges, Reads, Releases, Renews, SaysHeld, SaysLength, SaysPhase, Seeks, SetsMeta, Takes, TurnsOff, Varies, Views, Waits, meta_shown};
+ghost use Rattle.pcache_c.specs.Requests.{Adds, Begins, CopyOf, EndsHit, Expires, Finishes, IsUnchanged, LimitsWaits, Looks, LooksForVariant, Misses, Passes, Purges, Reads, Releases, Renews, SaysHeld, SaysLength, SaysPhase, Seeks, ServesOn, ServesUpdating, SetsMeta, Takes, TurnsOff, Varies, Views, Waits, meta_shown};
 ghost use Rattle.pcache_c.specs.Handles.{object_of};
 
 use crate::codes::{BAD_HANDLE, OK, WRONG_KIND};
@@ -14,6 +15,7 @@ use crate::served::Served;
 use pcache_base::key::{CacheKey, HashBinary};
 use pcache_base::moment::Moment;
 use pcache_base::reason::NoCacheReason;
+use pcache_meta::header::ResponseHeader;
 use pcache_meta::meta::CacheMeta;
 use pcache_request::phase::HitStatus;
 use std::alloc::Global;
@@ -109,6 +111,25 @@ pub(crate) fn pass(object: &mut Object, number: u64) -> u32
     requests::pass(&mut served.cache, request)
 }
 
+/// Looks for the variant of what a look-up found.
+pub(crate) fn look_for(
+    object: &mut Object,
+    number: u64,
+    variance: HashBinary,
+    same: &mut u32,
+) -> u32
+    ensures { OnNumber number object.old object.new result (λ c d o p.
+        LooksForVariant variance c d o p same.new result) }
+{
+    let Object::Cache(served) = object else {
+        return WRONG_KIND;
+    };
+    let Some(request) = served.seats.find(number) else {
+        return BAD_HANDLE;
+    };
+    requests::look_for(&mut served.cache, request, variance, same)
+}
+
 /// Goes on as a miss.
 pub(crate) fn miss(object: &mut Object, number: u64) -> u32
     ensures { OnNumber number object.old object.new result (λ c d o p.
@@ -149,6 +170,39 @@ pub(crate) fn renew(object: &mut Object, number: u64, meta: &CacheMeta) -> u32
         return BAD_HANDLE;
     };
     requests::renew(&mut served.cache, request, meta)
+}
+
+/// Serves a stale body while another request renews it.
+pub(crate) fn serve_updating(object: &mut Object, number: u64) -> u32
+    ensures { OnNumber number object.old object.new result (λ c d o p.
+        (d ≡ c) × ServesUpdating o p result) }
+{
+    let Object::Cache(Served { cache: _, seats }) = object else {
+        return WRONG_KIND;
+    };
+    let Some(request) = seats.find(number) else {
+        return BAD_HANDLE;
+    };
+    requests::serve_updating(request)
+}
+
+/// Serves a stale body on with another head.
+pub(crate) fn serve_on(
+    object: &mut Object,
+    number: u64,
+    head: &ResponseHeader,
+    reason: NoCacheReason,
+) -> u32
+    ensures { OnNumber number object.old object.new result (λ c d o p.
+        ServesOn (shown head.now) reason c d o p result) }
+{
+    let Object::Cache(served) = object else {
+        return WRONG_KIND;
+    };
+    let Some(request) = served.seats.find(number) else {
+        return BAD_HANDLE;
+    };
+    requests::serve_on(&mut served.cache, request, head, reason)
 }
 
 /// Sets what the response varies on.
@@ -307,6 +361,20 @@ pub(crate) fn wait(object: &mut Object, number: u64, now: Moment, outcome: &mut 
         return BAD_HANDLE;
     };
     requests::wait(&mut served.cache, request, now, outcome)
+}
+
+/// Sets how long the request waits at most.
+pub(crate) fn limit_waits(object: &mut Object, number: u64, most_millis: u64) -> u32
+    ensures { OnNumber number object.old object.new result (λ c d o p.
+        (d ≡ c) × LimitsWaits (most_millis * 1000000) o p result) }
+{
+    let Object::Cache(Served { cache: _, seats }) = object else {
+        return WRONG_KIND;
+    };
+    let Some(request) = seats.find(number) else {
+        return BAD_HANDLE;
+    };
+    requests::limit_waits(request, most_millis)
 }
 
 /// Releases the permit.

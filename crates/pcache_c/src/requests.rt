@@ -1,8 +1,9 @@
 //! What the requests of a cache do. Each call tests what the call that it makes requires, and says by a code how it went.
-ghost use Rattle.std.specs.Prelude.{◌≡◌, [], IfOk, None};
+ghost use Rattle.std.specs.Prelude.{◌≡◌, ◌*◌, [], IfOk, None};
 ghost use Rattle.pcache_c.specs.Numbers.{IsNumber, held_number, outcome_number, phase_number, reason_number, status_number};
-ghost use Rattle.pcache_c.specs.Requests.{Adds, Begins, CopyOf, EndsHit, Expires, Fetches, Finishes, HandsOut, HandsOver, Looks, Misses, Passes, Purges, Reads, Releases, Renews, SaysKnown, Seeks, SetsMeta, Takes, TurnsOff, Varies, Views, Waits, end_number, meta_shown, rest_of};
+ghost use Rattle.pcache_c.specs.Requests.{Adds, Begins, CopyOf, EndsHit, Expires, Fetches, Finishes, HandsOut, HandsOver, LimitsWaits, Looks, LooksForVariant, Misses, Passes, Purges, Reads, Releases, Renews, SaysKnown, Seeks, ServesOn, ServesUpdating, SetsMeta, Takes, TurnsOff, Varies, Views, Waits, end_number, meta_shown, rest_of};
 ghost use Rattle.core.specs.Ptr.{as_ptr};
+ghost use Rattle.pcache_meta.specs.Header.{shown};
 ghost use Rattle.pcache_c.specs.Handles.{object_of};
 ghost use Rattle.pcache_request.specs.Requests.{length_by};
 
@@ -16,10 +17,13 @@ use pcache_base::moment::Moment;
 use pcache_base::poll::Poll;
 use pcache_base::reason::NoCacheReason;
 use pcache_lock::lock::{LockWaitOutcome, Locked};
+use pcache_meta::header::ResponseHeader;
 use pcache_meta::meta::CacheMeta;
+use pcache_request::cache::CacheOptionOverrides;
 use pcache_request::phase::{CachePhase, HitStatus};
 use std::alloc::{AllocError, Global};
 use std::mem;
+use std::time::Duration;
 
 /// The number of a phase, as the header has them.
 pub(crate) fn number_of_phase(phase: CachePhase) -> u32
@@ -157,6 +161,30 @@ pub(crate) fn pass(cache: &mut ListCache, open: &mut Open) -> u32
     }
 }
 
+/// Looks for the variant of what a look-up found: says whether it is the one, 1 or 0. If not, it is let go, and the next look-up is
+/// for the variant.
+pub(crate) fn look_for(
+    cache: &mut ListCache,
+    open: &mut Open,
+    variance: HashBinary,
+    same: &mut u32,
+) -> u32
+    ensures { LooksForVariant variance cache.old cache.new open.old open.new same.new result }
+{
+    if !open.request.cache.phase().may_look_up() {
+        return WRONG_CALL;
+    }
+    let Some((meta, _)) = &open.found else {
+        return NONE;
+    };
+    let is_same = open.request.cache.cache_vary_lookup(variance, meta);
+    *same = u32::from(is_same);
+    if !is_same {
+        let_go(cache, open.found.take());
+    }
+    OK
+}
+
 /// Goes on as a miss.
 pub(crate) fn miss(open: &mut Open) -> u32
     ensures { Misses open.old open.new result }
@@ -212,6 +240,38 @@ pub(crate) fn renew(cache: &mut ListCache, open: &mut Open, meta: &CacheMeta) ->
     };
     match cache.revalidate_cache_meta(&mut open.request, meta) {
         Ok(_) => OK,
+        Err(e) => code_of(e),
+    }
+}
+
+/// Serves a stale body while another request renews it.
+pub(crate) fn serve_updating(open: &mut Open) -> u32
+    ensures { ServesUpdating open.old open.new result }
+{
+    if !open.request.cache.phase().is_stale() {
+        return WRONG_CALL;
+    }
+    open.request.cache.set_stale_updating();
+    OK
+}
+
+/// Serves a stale body on with the head of an answer that says that it is good, and that is not stored.
+pub(crate) fn serve_on(
+    cache: &mut ListCache,
+    open: &mut Open,
+    head: &ResponseHeader,
+    reason: NoCacheReason,
+) -> u32
+    ensures { ServesOn (shown head.now) reason cache.old cache.new open.old open.new result }
+{
+    if !open.request.cache.may_revalidate() || !open.request.cache.may_release(reason) {
+        return WRONG_CALL;
+    }
+    match head.copied() {
+        Ok(head) => {
+            cache.revalidate_uncacheable(&mut open.request, head, reason);
+            OK
+        }
         Err(e) => code_of(e),
     }
 }
@@ -532,6 +592,21 @@ pub(crate) fn wait(cache: &mut ListCache, open: &mut Open, now: Moment, outcome:
         }
         Err(e) => code_of(e),
     }
+}
+
+/// Sets how long the request waits for locks at most.
+pub(crate) fn limit_waits(open: &mut Open, most_millis: u64) -> u32
+    ensures { LimitsWaits (most_millis * 1000000) open.old open.new result }
+{
+    if !open.request.cache.may_set_cache_lock() {
+        return WRONG_CALL;
+    }
+    let limits = CacheOptionOverrides {
+        wait_timeout: Some(Duration::from_millis(most_millis)),
+        max_lock_retries: None,
+    };
+    open.request.cache.set_cache_lock(true, Some(limits));
+    OK
 }
 
 /// Releases the permit, with the status of the reason.

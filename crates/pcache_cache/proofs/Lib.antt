@@ -6,6 +6,7 @@ pub mod Kept
 pub mod Ended
 pub mod Own
 pub mod Only
+pub mod Room
 pub mod Renewed
 pub mod Fed
 pub mod Adding

@@ -142,9 +142,9 @@ module _ (of : Account) (wg : Weighing) where
 
   -- ---- the end of a write
 
-  only-before : (m : Tracked) (s : Store) (k : Key) (replaced : Option ℕ) → IsItsKey of (Some k) → replaced ≡ body_number s (slot k) → TracksOnly of wg s m → OnlyBut of wg (slot k) s (without_entry true (compact_of k) replaced m)
-  only-before m s k None its is only = only_but_none of wg m s (slot k) (sym is) only
-  only-before m s k (Some n) its is only = only_but of wg m s k (Some n) its is only
+  pub only_before : (m : Tracked) (s : Store) (k : Key) (replaced : Option ℕ) → IsItsKey of (Some k) → replaced ≡ body_number s (slot k) → TracksOnly of wg s m → OnlyBut of wg (slot k) s (without_entry true (compact_of k) replaced m)
+  only_before m s k None its is only = only_but_none of wg m s (slot k) (sym is) only
+  only_before m s k (Some n) its is only = only_but of wg m s k (Some n) its is only
 
   -- an entry is admitted, and what is evicted is purged
   only-evicted : (limits : Limits) (m : Tracked) (t u : Store) (m' : Tracked) (out : List CacheEntryKey) (failed : ℕ) → failed ≡ 0 → IsFair limits m out → PurgesAll true t out failed u → m' ≡ without out m → TracksOnly of wg t m → TracksOnly of wg u m'
@@ -183,9 +183,9 @@ module _ (of : Account) (wg : Weighing) where
   only-body : (limits : Limits) (Lets : LockStatus → Type 0) (k : Key) (w : ℕ) (replaced : Option ℕ) (how : WriteEnd) (s s' : Store) (m m' : Tracked) → is_write_under (slot k) w (get s.writes w) ≡ true → IsItsKey of (Some k) → replaced ≡ body_number s (slot k)
       → EndsBody in_memory true (Some w) Lets k w (entered wg s (Some w)) limits how s s' (tracked_before true k replaced how m) m' → TracksOnly of wg s m → TracksOnly of wg s' m'
   only-body limits Lets k w replaced end.Nothing s s' m m' own its old ends only = absurd ends
-  only-body limits Lets k w replaced (end.Stored f) s s' m m' own its old ends only = let x = written-under (slot k) w s own in only-stored limits s k w x.0 x.1 x.2 x.3 its Lets f.size f.failed_purges f.evicted.items s' (without_entry true (compact_of k) replaced m) m' ends (only-before m s k replaced its old only)
+  only-body limits Lets k w replaced (end.Stored f) s s' m m' own its old ends only = let x = written-under (slot k) w s own in only-stored limits s k w x.0 x.1 x.2 x.3 its Lets f.size f.failed_purges f.evicted.items s' (without_entry true (compact_of k) replaced m) m' ends (only_before m s k replaced its old only)
   only-body limits Lets k w replaced (end.Dropped e) s s' m m' own its old ends only = still m m' (dropped s w) s' ends.dropped ends.tracked (only-dropped m s w only)
-  only-body limits Lets k w replaced (end.Withdrawn e) s s' m m' own its old ends only = let x = written-under (slot k) w s own in only-withdrawn limits s k w x.0 x.1 x.2 x.3 its Lets e s' (without_entry true (compact_of k) replaced m) m' ends (only-before m s k replaced its old only)
+  only-body limits Lets k w replaced (end.Withdrawn e) s s' m m' own its old ends only = let x = written-under (slot k) w s own in only-withdrawn limits s k w x.0 x.1 x.2 x.3 its Lets e s' (without_entry true (compact_of k) replaced m) m' ends (only_before m s k replaced its old only)
 
   only-idle : (how : WriteEnd) (s s' : Store) (m m' : Tracked) (t t' : Locks) → EndsIdle how s s' m m' t t' → TracksOnly of wg s m → TracksOnly of wg s' m'
   only-idle end.Nothing s s' m m' t t' ends only = still m m' s s' ends.0 ends.1 only

@@ -95,21 +95,32 @@ module _ (of : Account) (none : (e : CacheEntryKey) → of.is_left_out e ≡ fal
       let h = most b in
       omega arith
 
+-- what is tracked weighs no more than what is stored, and is not more
+pub tracked_less : (of : Account) → ((e : CacheEntryKey) → of.is_left_out e ≡ false) → (wg : Weighing) (s : Store) (m : Tracked) → TracksOnly of wg s m → (weight m ≤ stored_weight wg s) × (len m ≤ slots s)
+tracked_less of none wg s m only = (
+  total-covered (slot_weight wg) (λ n. n) (len m) m s.slots refl (no-two of none wg s m only) (covers-by of none wg s m only (body_weight wg) (λ n. n) (λ b. omega arith)),
+  (
+      let least : total (λ _. 1) m ≤ slots s = total-covered body_count (λ _. 1) (len m) m s.slots refl (no-two of none wg s m only) (covers-by of none wg s m only one (λ _. 1) (λ b. omega arith)) in
+      let all = len-total m in
+      omega arith
+      ),
+)
+
 pub sums_to_stored : (p : Parts) → TracksExactly p.weighing p.store p.tracked → SumsToStored p
 sums_to_stored p exact of none only = (weights, counts)
   where
-    s : Store
-    s = p.store
+    less : (weight p.tracked ≤ stored_weight p.weighing p.store) × (len p.tracked ≤ slots p.store)
+    less = tracked_less of none p.weighing p.store p.tracked only
 
     weights : weight p.tracked ≡ stored_weight p.weighing p.store
     weights =
         let most : stored_weight p.weighing p.store ≤ weight p.tracked = total-tracked (slot_weight p.weighing) (λ n. n) (len p.store.slots) p.store.slots p.tracked refl (tracked-at p.weighing (body_weight p.weighing) (λ n. n) (λ b. omega arith) p.store p.tracked exact) in
-        let least : weight p.tracked ≤ stored_weight p.weighing p.store = total-covered (slot_weight p.weighing) (λ n. n) (len p.tracked) p.tracked p.store.slots refl (no-two of none p.weighing p.store p.tracked only) (covers-by of none p.weighing p.store p.tracked only (body_weight p.weighing) (λ n. n) (λ b. omega arith)) in
+        let least = less.0 in
         omega arith
 
     counts : len p.tracked ≡ slots p.store
     counts =
         let most : slots p.store ≤ total (λ _. 1) p.tracked = total-tracked body_count (λ _. 1) (len p.store.slots) p.store.slots p.tracked refl (tracked-at p.weighing one (λ _. 1) (λ b. omega arith) p.store p.tracked exact) in
-        let least : total (λ _. 1) p.tracked ≤ slots p.store = total-covered body_count (λ _. 1) (len p.tracked) p.tracked p.store.slots refl (no-two of none p.weighing p.store p.tracked only) (covers-by of none p.weighing p.store p.tracked only one (λ _. 1) (λ b. omega arith)) in
         let all = len-total p.tracked in
+        let least = less.1 in
         omega arith

@@ -25,7 +25,7 @@ use pcache_store::memory::{MemCache, MemMissHandler};
 use pcache_store::storage::HandleMiss;
 
 impl<M: EvictionManager, K> Cache<M, K> {
-    ghost use Rattle.std.specs.Prelude.{◌≡◌, ◌⊎◌, ◌↔◌, Some, IsTrue, IfErr, List, OnErr, Option};
+    ghost use Rattle.std.specs.Prelude.{[], ◌≡◌, ◌⊎◌, ◌↔◌, Some, IsTrue, IfErr, List, OnErr, Option};
     ghost use Rattle.pcache_put.specs.Progress.{HasFailed};
     ghost use Rattle.pcache_put_ctx.specs.Puts.{IsResult, Piece};
     ghost use Rattle.pcache_put_ctx.specs.Readings.{IsReadAt, MayFailOnceRead, StoresPiece};
@@ -38,7 +38,9 @@ impl<M: EvictionManager, K> Cache<M, K> {
     ghost use Rattle.pcache_store.specs.Readers.{in_memory};
     ghost use Rattle.pcache_cache.specs.OwnPut.{EndsOwnPut, MayEndPut, evicted_put, put_past, store_put};
     ghost use Rattle.pcache_cache.specs.Parts.{Adds};
+    ghost use Rattle.pcache_cache.specs.Room.{IfRoom, evicted_by_put};
     ghost use Rattle.pcache_cache.specs.Strays.{LeavesNoStray};
+    ghost use Rattle.pcache_cache.specs.Weighing.{ending_weight};
 
     /// Whether a put may end here: it has no write, or one of this cache and of its own key. This holds of each put whose pieces
     /// all came here.
@@ -100,9 +102,10 @@ impl<M: EvictionManager, K> Cache<M, K> {
     }
 
     /// `CachePutCtx::finish_replacing`: ends the put once all pieces have come. The body is stored and its entry admitted, and what is
-    /// evicted for it is purged. The entry of the body that stood under the key until then is taken out first. If the put ends too early, or the end of its write fails, nothing is stored, and the write is
-    /// dropped; if the admission fails, the body is purged again. Requires a write of this cache, if there is one; ask
-    /// `may_end_put`.
+    /// evicted for it is purged: nothing, where nothing is tracked beside what is stored, and the body has room beside those of the
+    /// other keys (clause `room`). The entry of the body that stood under the key until then is taken out first. If the put ends too
+    /// early, or the end of its write fails, nothing is stored, and the write is dropped; if the admission fails, the body is purged
+    /// again. Requires a write of this cache, if there is one; ask `may_end_put`.
     pub fn finish_put<C: CachePut>(&mut self, put: &mut PendingPut<C, K>) -> Result<PutOutcome>
         requires own { MayEndPut self.old.store put.old.put }
         ensures ended { EndsAs result (λ end. EndsOwnPut put.old.put end self.old self.new
@@ -117,6 +120,9 @@ impl<M: EvictionManager, K> Cache<M, K> {
         ensures withdrawn { OnErr result (LeavesNone (Some put.old.put.key)
             (write_in put.old.put.stage) self.old.store self.new.store) }
         ensures only { LeavesNoStray (Some put.old.put.key) self.old self.new }
+        ensures room { IfRoom (Some put.old.put.key)
+            (ending_weight self.old.weighing self.old.store (write_in put.old.put.stage)) self.old
+            (evicted_by_put result ≡ []) }
         ensures limits { self.new.limits ≡ self.old.limits }
         ensures weighing { self.new.weighing ≡ self.old.weighing }
         ensures locks { self.new.locks ≡ self.old.locks }

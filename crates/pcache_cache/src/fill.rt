@@ -14,7 +14,7 @@ use pcache_store::memory::MemCache;
 use pcache_store::storage::HandleMiss;
 
 impl<M: EvictionManager, K> Cache<M, K> {
-    ghost use Rattle.std.specs.Prelude.{◌≡◌, ◌⊎◌, true, IfOk, IfErr, IsSome, OnOk, OnErr, Some};
+    ghost use Rattle.std.specs.Prelude.{[], ◌≡◌, ◌⊎◌, true, IfOk, IfErr, IsSome, OnOk, OnErr, Some};
     ghost use Rattle.pcache_base.specs.declared.error.ErrorType.TheVariants.{OutOfMemory};
     ghost use Rattle.pcache_lock.specs.declared.lock.status.LockStatus.TheVariants.{Done};
     ghost use Rattle.pcache_request.specs.Finishing.{after_finish};
@@ -28,8 +28,9 @@ impl<M: EvictionManager, K> Cache<M, K> {
     ghost use Rattle.pcache_store.specs.Readers.{in_memory};
     ghost use Rattle.pcache_store.specs.Refusals.{MayFailWrite};
     ghost use Rattle.pcache_cache.specs.Parts.{Adds, MayEnd, takes_bytes, tracked_at_end, written_by, written_past};
+    ghost use Rattle.pcache_cache.specs.Room.{IfRoom, evicted_in};
     ghost use Rattle.pcache_cache.specs.Strays.{LeavesNoStray};
-    ghost use Rattle.pcache_cache.specs.Weighing.{entered, written_head};
+    ghost use Rattle.pcache_cache.specs.Weighing.{ending_weight, entered, written_head};
 
     /// `HttpCache::set_miss_handler`: begins the write. Requires a phase in which a write may be made, a meta, and no write; ask
     /// `may_write` of the request.
@@ -117,7 +118,8 @@ impl<M: EvictionManager, K> Cache<M, K> {
 
     /// `HttpCache::finish_replacing`: ends the write and stores the body, whose entry is admitted; what is evicted for it is purged.
     /// The entry of the body that stood under the key until then is taken out first, so that it neither counts nor evicts anything.
-    /// The new one is admitted with what the cache says that it weighs.
+    /// The new one is admitted with what the cache says that it weighs. Where nothing is tracked beside what is stored, and the new
+    /// body has room beside those of the other keys, nothing is evicted (clause `room`).
     /// Requires a phase in which a write may be made, and a write of this cache; ask `may_end`.
     pub fn finish_miss_handler(
         &mut self,
@@ -142,6 +144,9 @@ impl<M: EvictionManager, K> Cache<M, K> {
         ensures limits { self.new.limits ≡ self.old.limits }
         ensures weighing { self.new.weighing ≡ self.old.weighing }
         ensures only { LeavesNoStray request.old.cache.key self.old self.new }
+        ensures room { IfRoom request.old.cache.key
+            (ending_weight self.old.weighing self.old.store request.old.cache.write) self.old
+            (evicted_in result ≡ []) }
         ensures withdrawn { OnErr result (LeavesNone request.old.cache.key request.old.cache.write
             self.old.store self.new.store) }
     {

@@ -11,7 +11,7 @@ use pcache_meta::meta::CacheMeta;
 use pcache_request::cache::LockName;
 
 impl<M: EvictionManager, K> Cache<M, K> {
-    ghost use Rattle.std.specs.Prelude.{◌≡◌, IfErr, option_map};
+    ghost use Rattle.std.specs.Prelude.{◌≡◌, IfErr, OnOk, option_map};
     ghost use Rattle.pcache_base.specs.declared.error.ErrorType.TheVariants.{OutOfMemory};
     ghost use Rattle.pcache_lock.specs.declared.lock.status.LockStatus.TheVariants.{Done, GiveUp};
     ghost use Rattle.pcache_meta.specs.Header.{shown};
@@ -23,12 +23,14 @@ impl<M: EvictionManager, K> Cache<M, K> {
     ghost use Rattle.pcache_request.specs.LockPasts.{settled_deeds, varied_deeds};
     ghost use Rattle.pcache_cache.specs.Parts.{Adds};
     ghost use Rattle.pcache_cache.specs.Renewing.{Renews, stock};
+    ghost use Rattle.pcache_cache.specs.Room.{IfRoom, KeepsBodies, weight_with};
     ghost use Rattle.pcache_cache.specs.Strays.{LeavesNoStray};
     ghost use Rattle.pcache_request.specs.Variants.{released_by_variance, table_varied, varied};
 
     /// `HttpCache::revalidate_cache_meta`: takes the meta of a response that says that the stale body is still valid. If the body's
-    /// entry weighs something else with that meta, it is admitted anew, and what is evicted for it is purged; if memory is refused
-    /// for that, the body is removed. Ask `may_revalidate` of the request.
+    /// entry weighs something else with that meta, it is admitted anew, and what is evicted for it is purged: nothing, where nothing
+    /// is tracked beside what is stored, and the body has room beside the others with what it weighs then (clause `room`); if memory
+    /// is refused for that, the body is removed. Ask `may_revalidate` of the request.
     pub fn revalidate_cache_meta(
         &mut self,
         request: &mut CacheRequest<K>,
@@ -41,6 +43,10 @@ impl<M: EvictionManager, K> Cache<M, K> {
             (stock self.new) }
         ensures kind { IfErr result (λ e. e ≡ OutOfMemory) }
         ensures only { LeavesNoStray request.old.cache.key self.old self.new }
+        ensures room { OnOk result (IfRoom request.old.cache.key
+            (weight_with self.old.weighing (renewed_by meta request.old.cache.meta)
+            request.old.cache.key self.old.store) self.old
+            (KeepsBodies self.old.store self.new.store)) }
         ensures table { self.new.locks ≡ settled Done request.old.cache.held self.old.locks }
         ensures deeds { Adds (settled_deeds Done request.old.cache.held) self.old.deeds self.new.deeds }
         ensures rest { self.new

@@ -1,4 +1,4 @@
--- Of two logs of one keeper one begins the other. Assumes `Logic`.
+-- Of two logs of one keeper one begins the other, and is what both have. Assumes `Logic`.
 use Rattle.std.proofs.Common.{◌≡◌, ℕ, List, [], ◌∷◌, ◌++◌, map, refl, sym, ap, ◌∙◌, inl, inr, ◌⊎◌}
 use Rattle.std.proofs.lemmas.List.{append-nil}
 use mathlib.Core.List.{IsPrefix}
@@ -36,12 +36,12 @@ either_way (g ∷ x) (h ∷ y) z p q =
 
 module _ {M : Type 1} {𝓤 : Ura M} (𝓛 : Logic 𝓤) {E : Type 0} (cv : Coded E) (η : ℕ) where
   abbrev pub Joined : List E → List E → List E → SProp 𝓤
-  Joined a b l = guard 𝓤 (IsPrefix a l × IsPrefix b l) (sem 𝓛 (had cv.code η l))
+  Joined a b l = guard 𝓤 (IsPrefix a l × IsPrefix b l × ((l ≡ a) ⊎ (l ≡ b))) (sem 𝓛 (had cv.code η l))
 
   chosen : (a b : List E) → IsPrefix (map cv.code a) (map cv.code b) ⊎ IsPrefix (map cv.code b) (map cv.code a)
       → ent 𝓤 (sep 𝓤 (sem 𝓛 (had cv.code η a)) (sem 𝓛 (had cv.code η b))) (ex 𝓤 (Joined a b))
-  chosen a b (inl p) = qed 𝓛 (‵ (had cv.code η a) ∷ ‵ (had cv.code η b) ∷ []) ∵ drop ! $ show ! (Joined a b) b $ check ! (prefix_out cv a b p, ([], append-nil b)) $ done !
-  chosen a b (inr p) = qed 𝓛 (‵ (had cv.code η a) ∷ ‵ (had cv.code η b) ∷ []) ∵ move ! (1 ∷ []) $ drop ! $ show ! (Joined a b) a $ check ! (([], append-nil a), prefix_out cv b a p) $ done !
+  chosen a b (inl p) = qed 𝓛 (‵ (had cv.code η a) ∷ ‵ (had cv.code η b) ∷ []) ∵ drop ! $ show ! (Joined a b) b $ check ! (prefix_out cv a b p, ([], append-nil b), inr refl) $ done !
+  chosen a b (inr p) = qed 𝓛 (‵ (had cv.code η a) ∷ ‵ (had cv.code η b) ∷ []) ∵ move ! (1 ∷ []) $ drop ! $ show ! (Joined a b) a $ check ! (([], append-nil a), prefix_out cv b a p, inl refl) $ done !
 
   pub joined : (a b : List E) → ent 𝓤 (sep 𝓤 (sem 𝓛 (had cv.code η a)) (sem 𝓛 (had cv.code η b))) (ex 𝓤 (Joined a b))
   unfolding at_least

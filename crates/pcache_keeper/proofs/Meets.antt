@@ -1,5 +1,5 @@
 -- What was seen of a keeper's log is a beginning of it; of another keeper's log nothing is known. Assumes `Logic`.
-use Rattle.std.proofs.Common.{◌≡◌, ℕ, List, [], ◌∷◌, map, subst, sym}
+use Rattle.std.proofs.Common.{◌≡◌, ◌⊎◌, inl, ℕ, List, [], ◌∷◌, map, refl, subst, sym}
 use Rattle.std.proofs.lemmas.List.{append-nil}
 use mathlib.Core.List.{IsPrefix}
 use native.Mathlib.Decide.{ℕ_discrete}
@@ -37,14 +37,14 @@ module _ {M : Type 1} {𝓤 : Ura M} (𝓛 : Logic 𝓤) {E : Type 0} (cv : Code
   Both-seen a b = sep 𝓤 (sem 𝓛 (had cv.code η a)) (sem 𝓛 (had cv.code θ b))
 
   abbrev pub Longer : List E → List E → List E → SProp 𝓤
-  Longer a b log = guard 𝓤 (IsPrefix a log × (θ ≡ η → IsPrefix b log)) (sem 𝓛 (had cv.code η log))
+  Longer a b log = guard 𝓤 (IsPrefix a log × (θ ≡ η → IsPrefix b log) × ((log ≡ a) ⊎ (log ≡ b))) (sem 𝓛 (had cv.code η log))
 
   seen_by_name : (a b : List E) → Dec (θ ≡ η) → ent 𝓤 (Both-seen a b) (ex 𝓤 (Longer a b))
   seen_by_name a b (yes e) =
-      subst (λ (n : ℕ). ent 𝓤 (sep 𝓤 (sem 𝓛 (had cv.code η a)) (sem 𝓛 (had cv.code n b))) (ex 𝓤 (λ (log : List E). guard 𝓤 (IsPrefix a log × (n ≡ η → IsPrefix b log)) (sem 𝓛 (had cv.code η log))))) (sym e)
-      (qed 𝓛 (‵ (had cv.code η a) ∷ ‵ (had cv.code η b) ∷ []) ∵ use2 𝓛 (some (λ (log : List E). given (IsPrefix a log × IsPrefix b log) (‵ (had cv.code η log)))) (joined 𝓛 cv η a b) $ pick ! (λ log. learn ! (λ p.
-      show ! (λ (log : List E). guard 𝓤 (IsPrefix a log × (η ≡ η → IsPrefix b log)) (sem 𝓛 (had cv.code η log))) log $ check ! (p.0, λ _. p.1) $ done !)))
-  seen_by_name a b (no n) = qed 𝓛 (‵ (had cv.code η a) ∷ ‵ (had cv.code θ b) ∷ []) ∵ move ! (1 ∷ []) $ drop ! $ show ! (Longer a b) a $ check ! (([], append-nil a), λ e. absurd (n e)) $ done !
+      subst (λ (n : ℕ). ent 𝓤 (sep 𝓤 (sem 𝓛 (had cv.code η a)) (sem 𝓛 (had cv.code n b))) (ex 𝓤 (λ (log : List E). guard 𝓤 (IsPrefix a log × (n ≡ η → IsPrefix b log) × ((log ≡ a) ⊎ (log ≡ b))) (sem 𝓛 (had cv.code η log))))) (sym e)
+      (qed 𝓛 (‵ (had cv.code η a) ∷ ‵ (had cv.code η b) ∷ []) ∵ use2 𝓛 (some (λ (log : List E). given (IsPrefix a log × IsPrefix b log × ((log ≡ a) ⊎ (log ≡ b))) (‵ (had cv.code η log)))) (joined 𝓛 cv η a b) $ pick ! (λ log. learn ! (λ p.
+      show ! (λ (log : List E). guard 𝓤 (IsPrefix a log × (η ≡ η → IsPrefix b log) × ((log ≡ a) ⊎ (log ≡ b))) (sem 𝓛 (had cv.code η log))) log $ check ! (p.0, λ _. p.1, p.2) $ done !)))
+  seen_by_name a b (no n) = qed 𝓛 (‵ (had cv.code η a) ∷ ‵ (had cv.code θ b) ∷ []) ∵ move ! (1 ∷ []) $ drop ! $ show ! (Longer a b) a $ check ! (([], append-nil a), λ e. absurd (n e), inl refl) $ done !
 
   pub longer : (a b : List E) → ent 𝓤 (Both-seen a b) (ex 𝓤 (Longer a b))
   longer a b = seen_by_name a b (ℕ_discrete θ η)

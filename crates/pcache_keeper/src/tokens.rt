@@ -1,5 +1,5 @@
 //! The keeper of a log, and what was seen of it.
-ghost use Rattle.std.specs.Prelude.{◌≡◌, ℕ, List, [], ◌∷◌, ◌++◌};
+ghost use Rattle.std.specs.Prelude.{◌≡◌, ◌⊎◌, ℕ, List, [], ◌∷◌, ◌++◌};
 ghost use mathlib.Core.List.{IsPrefix};
 ghost use base.Stored.{coded_list};
 ghost use denote.Sharing.{said};
@@ -91,11 +91,13 @@ impl<E> Keeper<E> {
 }
 
 impl<E> Seen<E> {
-    /// Afterwards it has seen what both had, if they saw the log of one keeper: of two beginnings of a log one begins the other.
+    /// Afterwards it has seen what both had, if they saw the log of one keeper: of two beginnings of a log one begins the other. What
+    /// it has seen then is what one of the two had.
     pub fn sees(&mut self, other: &Seen<E>)
         ensures { (self.new.name ≡ self.old.name)
             × IsPrefix self.old.log self.new.log
-            × (other.now.name ≡ self.old.name → IsPrefix other.now.log self.new.log) }
+            × (other.now.name ≡ self.old.name → IsPrefix other.now.log self.new.log)
+            × ((self.new.log ≡ self.old.log) ⊎ (self.new.log ≡ other.now.log)) }
     {}
 
     /// A copy.

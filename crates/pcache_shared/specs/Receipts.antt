@@ -37,12 +37,14 @@ pub record AreReceipts (start history : List Entry) (all : List (List Receipt)) 
   pub rise : All (λ rs. Rises (indices_of rs)) all
   pub once : (p : ℕ) → times p (indices_of (joined all)) ≡ times p (indices_from (length start) (length history))
 
--- the world has the old history and perhaps more entries, with the same entries at the start and the same limits
+-- the world has the old history and perhaps more entries, with the same entries at the start, the same limits, and the same age of
+-- permits that are too old
 pub record HasGrown (old new : Log) : Type 0 where
   pub more : List Entry
   pub history : new.history ≡ old.history ++ more
   pub start : new.start ≡ old.start
   pub limits : new.limits ≡ old.limits
+  pub age : new.age ≡ old.age
 
 -- `Holds` holds of the state that the world has reached, by calls that make a legal history
 abbrev pub HasReached : Log → (Log → Type 0) → Type 0

@@ -39,7 +39,7 @@ impl<M: EvictionManager, P: PutPolicy, K: Mark> Model for Desk<M, P, K> {
 
     ghost view = { λ d. d.world };
 
-    ghost invariant = { λ d. (d.keeper.table_id ≡ K.opened.table) × IsKeeper d.keeper.me × (d.keeper.me.0.claims ≡ []) × (d.keeper.me.0.parts + K.opened.shares ≡ whole) × (d.world.history ≡ K.opened.log.history ++ d.keeper.me.0.all) × (d.world.start ≡ K.opened.log.start) × (d.world.limits ≡ K.opened.log.limits) };
+    ghost invariant = { λ d. (d.keeper.table_id ≡ K.opened.table) × IsKeeper d.keeper.me × (d.keeper.me.0.claims ≡ []) × (d.keeper.me.0.parts + K.opened.shares ≡ whole) × (d.world.history ≡ K.opened.log.history ++ d.keeper.me.0.all) × (d.world.start ≡ K.opened.log.start) × (d.world.limits ≡ K.opened.log.limits) × (d.world.age ≡ K.opened.log.age) };
 }
 
 impl<M: EvictionManager, P: PutPolicy, K: Mark> Desk<M, P, K> {

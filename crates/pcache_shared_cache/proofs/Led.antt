@@ -2,7 +2,7 @@
 use Rattle.std.proofs.Common.{◌≡◌, ⊎_elim, inl, inr, ℕ, Bool, true, List, Option, None, Some, Result, Ok, Err, OnErr, OnOk, ap, option_map, sym, subst}
 use Rattle.pcache_base.specs.Key.{slot}
 use Rattle.pcache_base.specs.declared.error.ErrorType.{ErrorType}
-use Rattle.pcache_cache.proofs.Adding.{dropped_keeps, end_keeps, ends_request_keeps, found_keeps, handed_keeps, left_keeps, looked_keeps, published_keeps, renews_keeps, searched_keeps, settled_keeps, taken_keeps, varied_keeps, waited_keeps, writing_keeps, begun_keeps, written_keeps}
+use Rattle.pcache_cache.proofs.Adding.{dropped_keeps, end_keeps, ends_request_keeps, found_keeps, handed_keeps, left_keeps, let_go_keeps, looked_keeps, published_keeps, renews_keeps, searched_keeps, settled_keeps, taken_keeps, varied_keeps, waited_keeps, writing_keeps, begun_keeps, written_keeps}
 use Rattle.pcache_cache.proofs.Growing.{GrewFrom, grew_by, grew_if, grew_not, grew_same, kept_by_deeds, kept_by_notes}
 use Rattle.pcache_cache.specs.Growing.{Grew}
 use Rattle.pcache_cache.specs.Renewing.{stock}
@@ -14,7 +14,7 @@ use Rattle.pcache_lock.specs.declared.lock.status.LockStatus.TheVariants.{Done, 
 use Rattle.pcache_base.specs.declared.poll.Poll.{Poll}
 use Rattle.pcache_base.specs.declared.reason.NoCacheReason.{NoCacheReason}
 use Rattle.pcache_meta.specs.Meta.{Meta}
-use Rattle.pcache_request.specs.LockPasts.{end_deeds, found_deeds, handed_deeds, looked_deeds, published_deeds, settled_deeds, varied_deeds, waited_deeds}
+use Rattle.pcache_request.specs.LockPasts.{end_deeds, found_deeds, handed_deeds, let_go_deeds, looked_deeds, published_deeds, settled_deeds, varied_deeds, waited_deeds}
 use Rattle.pcache_request.specs.Releasing.{status_for}
 use Rattle.pcache_request.specs.Renewals.{renewed_by}
 use Rattle.pcache_request.specs.Requests.{Request}
@@ -29,7 +29,7 @@ use Rattle.pcache_store.specs.Past.{Purged}
 use Rattle.pcache_store.specs.Readers.{in_memory}
 use Rattle.pcache_store.specs.Store.{Reader}
 use Rattle.pcache_store.specs.declared.memory.hit.MemHitHandler.{MemHitHandler}
-use Rattle.pcache_shared_cache.specs.Calls.{BeginsWrite, Disables, EndsHit, EndsWriteOf, Expires, LetsGo, LooksUp, Publishes, Purges, Releases, Revalidates, TakesFound, TakesPermit, Varies, Waits, Writes}
+use Rattle.pcache_shared_cache.specs.Calls.{BeginsWrite, Disables, EndsHit, EndsRequest, EndsWriteOf, Expires, LetsGo, LooksUp, Publishes, Purges, Releases, Revalidates, TakesFound, TakesPermit, Varies, Waits, Writes}
 use Rattle.pcache_shared_cache.specs.Seen.{Leads}
 
 err_ap : {A X Y : Type 0} (f : X → Y) (result : Result A ErrorType) (x y : X) → OnErr result (x ≡ y) → OnErr result (f x ≡ f y)
@@ -106,6 +106,14 @@ hit_ended r p q row = record {
   weighing = ap (λ (x : Parts). x.weighing) row.rest;
   past = grew_by (left_past r.reader) p.past q.past (left_keeps (kept_by_notes p.past) r.reader) row.past;
   deeds = grew_same p.deeds q.deeds (ap (λ (x : Parts). x.deeds) row.rest);
+}
+
+pub request_ended : (r : Request) (p q : Parts) → EndsRequest r p q → Leads p q
+request_ended r p q row = record {
+  limits = ap (λ (x : Parts). x.limits) row.rest;
+  weighing = ap (λ (x : Parts). x.weighing) row.rest;
+  past = grew_by (λ l. left_past r.reader (dropped_past r.write l)) p.past q.past (λ x is. left_keeps (kept_by_notes p.past) r.reader (dropped_past r.write x) (dropped_keeps (kept_by_notes p.past) r.write x is)) row.past;
+  deeds = grew_by (let_go_deeds r.held) p.deeds q.deeds (let_go_keeps (kept_by_deeds p.deeds) r.held) row.deeds;
 }
 
 pub disabled : (reason : NoCacheReason) (r : Request) (p q : Parts) → Disables reason r p q → Leads p q

@@ -1,8 +1,8 @@
 -- Puts of a part: a piece that was read before the part was locked, and the end of a put.
-use Rattle.std.proofs.Common.{◌≡◌, inl, inr, IfErr, Option, Result, Ok, Err, Some, ap, subst}
+use Rattle.std.proofs.Common.{◌≡◌, ℕ, inl, inr, IfErr, Option, Result, Ok, Err, Some, ap, subst}
 use Rattle.pcache_base.specs.declared.error.ErrorType.{ErrorType}
 use Rattle.pcache_base.specs.declared.reason.NoCacheReason.{NoCacheReason}
-use Rattle.pcache_cache.proofs.Adding.{ends_put_keeps, put_keeps}
+use Rattle.pcache_cache.proofs.Adding.{dropped_keeps, ends_put_keeps, put_keeps}
 use Rattle.pcache_cache.proofs.Growing.{grew_by, grew_not, grew_same, kept_by_notes}
 use Rattle.pcache_cache.specs.OwnPut.{MayEndPut, put_past, store_put}
 use Rattle.pcache_cache.specs.Parts.{Adds, Parts}
@@ -16,9 +16,10 @@ use Rattle.pcache_put_ctx.specs.declared.report.PutEnd.{PutEnd}
 use Rattle.pcache_put_ctx.specs.declared.report.PutEnd.TheVariants as put_end
 use Rattle.pcache_put_ctx.specs.declared.report.PutOutcome.{PutOutcome}
 use Rattle.pcache_put_ctx.specs.declared.report.PutOutcome.TheVariants as answer
+use Rattle.pcache_request.specs.StorePasts.{dropped_past}
 use Rattle.pcache_store.specs.Readers.{in_memory}
 use Rattle.pcache_shared_cache.specs.Seen.{Leads}
-use Rattle.pcache_shared_cache.specs.SharedPuts.{EndsPutOf, TakesIn}
+use Rattle.pcache_shared_cache.specs.SharedPuts.{DropsLeft, EndsPutOf, TakesIn}
 
 -- both halves of a piece together: `says` is what a policy decides
 pub takes_in : {C : Type 0} (says : C → Says) (x mid y : Put C) (piece : Piece) (part : ReadPiece) (result : Result (Option NoCacheReason) ErrorType) (p q : Parts) → ReadsPiece (says x.policy) x mid piece part → IfUnread part (MayFailRead x.stage x.parser)
@@ -59,5 +60,14 @@ put_ended result x y p q row may = record {
   limits = ap (λ (r : Parts). r.limits) row.rest;
   weighing = ap (λ (r : Parts). r.weighing) row.rest;
   past = put_any result (row.ended may) (λ how is. ends_put_keeps (kept_by_notes p.past) in_memory x.key x.stage how (Some p.past) (Some q.past) is.1 (grew_not p.past));
+  deeds = grew_same p.deeds q.deeds (ap (λ (r : Parts). r.deeds) row.rest);
+}
+
+-- a write that an ended put left was dropped
+pub left_dropped : (w : Option ℕ) (p q : Parts) → DropsLeft w p q → Leads p q
+left_dropped w p q row = record {
+  limits = ap (λ (r : Parts). r.limits) row.rest;
+  weighing = ap (λ (r : Parts). r.weighing) row.rest;
+  past = grew_by (dropped_past w) p.past q.past (dropped_keeps (kept_by_notes p.past) w) row.past;
   deeds = grew_same p.deeds q.deeds (ap (λ (r : Parts). r.deeds) row.rest);
 }

@@ -1,6 +1,6 @@
 -- What each call of a request does to the state of its part, from p to q, with this result: what `Cache`'s call of the same name
 -- says. The request is r before it and, where the call changes it, s after it (own).
-use Rattle.std.specs.Prelude.{None, ◌≡◌, ◌⊎◌, ℕ, Bool, true, List, Option, Some, IfErr, IfOk, IfSome, OnErr, OnOk, Result, option_map}
+use Rattle.std.specs.Prelude.{[], None, ◌≡◌, ◌⊎◌, ℕ, Bool, true, List, Option, Some, IfErr, IfOk, IfSome, OnErr, OnOk, Result, option_map}
 use Rattle.pcache_base.specs.Key.{slot}
 use Rattle.pcache_base.specs.declared.error.ErrorType.{ErrorType}
 use Rattle.pcache_base.specs.declared.error.ErrorType.TheVariants.{InternalError, OutOfMemory}
@@ -8,8 +8,9 @@ use Rattle.pcache_base.specs.declared.poll.Poll.{Poll}
 use Rattle.pcache_base.specs.declared.reason.NoCacheReason.{NoCacheReason}
 use Rattle.pcache_cache.specs.Parts.{Adds, MayEnd, Parts, takes_bytes, tracked_at_end, written_by, written_past}
 use Rattle.pcache_cache.specs.Renewing.{Renews, stock}
+use Rattle.pcache_cache.specs.Room.{IfRoom, KeepsBodies, evicted_in, weight_with}
 use Rattle.pcache_cache.specs.Strays.{LeavesNoStray}
-use Rattle.pcache_cache.specs.Weighing.{entered}
+use Rattle.pcache_cache.specs.Weighing.{ending_weight, entered}
 use Rattle.pcache_lock.specs.Locks.{MayFailLock}
 use Rattle.pcache_lock.specs.declared.lock.outcome.LockWaitOutcome.{LockWaitOutcome}
 use Rattle.pcache_lock.specs.declared.lock.permit.WritePermit.{WritePermit}
@@ -17,12 +18,12 @@ use Rattle.pcache_lock.specs.declared.lock.status.LockStatus.{LockStatus}
 use Rattle.pcache_lock.specs.declared.lock.status.LockStatus.TheVariants.{Done, GiveUp}
 use Rattle.pcache_meta.specs.Meta.{Meta}
 use Rattle.pcache_request.specs.Failures.{FailsToBegin, FailsToLook}
-use Rattle.pcache_request.specs.LockPasts.{end_deeds, found_deeds, handed_deeds, looked_deeds, published_deeds, settled_deeds, varied_deeds, waited_deeds}
+use Rattle.pcache_request.specs.LockPasts.{end_deeds, found_deeds, handed_deeds, let_go_deeds, looked_deeds, published_deeds, settled_deeds, varied_deeds, waited_deeds}
 use Rattle.pcache_request.specs.LockUse.{published_by, table_handed}
 use Rattle.pcache_request.specs.LockWaits.{table_waited, wait_result, waited}
 use Rattle.pcache_request.specs.Releasing.{status_for}
 use Rattle.pcache_request.specs.Renewals.{renewed_by}
-use Rattle.pcache_request.specs.Requests.{Request, dropped_by, found_row, is_removed_by, left_by, settled, store_begun, store_found, table_found, tracked_gone_for, write_begun}
+use Rattle.pcache_request.specs.Requests.{Request, dropped_by, found_row, is_removed_by, left_by, let_go_by, settled, store_begun, store_found, table_found, tracked_gone_for, write_begun}
 use Rattle.pcache_request.specs.StorePasts.{EndsRequestPast, dropped_past, expired_past, left_past, purged_past, searched_past, taken_past, writing_past}
 use Rattle.pcache_request.specs.Variants.{looked_for, searched, seen_for, table_looked_for, table_varied}
 use Rattle.pcache_request.specs.WriteEnds.{Ends, EndsAs, evicted_after}
@@ -83,6 +84,7 @@ pub record EndsWriteOf (result : Result (Option FinishReport) ErrorType) (r : Re
       × (q.evicted ≡ evicted_after r r.key (entered p.weighing p.store r.write) (tracked_at_end p r end) p.evicted end))
   pub refused : (MayEnd p.store r → ⊥) → OnOk result ⊥ × IfErr result (λ e. e ≡ InternalError) × (q ≡ p)
   pub only : LeavesNoStray r.key p q
+  pub room : IfRoom r.key (ending_weight p.weighing p.store r.write) p (evicted_in result ≡ [])
   pub limits : q.limits ≡ p.limits
   pub weighing : q.weighing ≡ p.weighing
 
@@ -135,6 +137,14 @@ pub record EndsHit (r : Request) (p q : Parts) : Type 0 where
   pub past : Adds (left_past r.reader) p.past q.past
   pub rest : q ≡ record p { store = q.store; past = q.past }
 
+-- the request ends, and all that it holds is given back
+pub record EndsRequest (r : Request) (p q : Parts) : Type 0 where
+  pub store : q.store ≡ left_by r.reader (dropped_by r.write p.store)
+  pub past : Adds (λ l. left_past r.reader (dropped_past r.write l)) p.past q.past
+  pub locks : q.locks ≡ let_go_by r.held p.locks
+  pub deeds : Adds (let_go_deeds r.held) p.deeds q.deeds
+  pub rest : q ≡ record p { store = q.store; past = q.past; locks = q.locks; deeds = q.deeds }
+
 -- caching is turned off, and all that is held is given back
 pub record Disables (reason : NoCacheReason) (r : Request) (p q : Parts) : Type 0 where
   pub store : q.store ≡ left_by r.reader (dropped_by r.write p.store)
@@ -175,6 +185,7 @@ pub record Publishes {A : Type 0} (result : Result A ErrorType) (tokens : List �
 pub record Revalidates (result : Result Bool ErrorType) (m : Meta) (r : Request) (p q : Parts) : Type 0 where
   pub renews : Renews p.weighing p.limits (renewed_by m r.meta) r.key result (stock p) (stock q)
   pub only : LeavesNoStray r.key p q
+  pub room : OnOk result (IfRoom r.key (weight_with p.weighing (renewed_by m r.meta) r.key p.store) p (KeepsBodies p.store q.store))
   pub locks : q.locks ≡ settled Done r.held p.locks
   pub deeds : Adds (settled_deeds Done r.held) p.deeds q.deeds
   pub rest : q ≡ record p { store = q.store; past = q.past; tracked = q.tracked; evicted = q.evicted; locks = q.locks; deeds = q.deeds }

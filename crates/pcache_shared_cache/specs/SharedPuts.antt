@@ -1,12 +1,14 @@
 -- A put of a cache in parts, and what each of its calls does to the state of its part, from p to q, with this result: what `Cache`'s
 -- call of the same name says. The put is x before it and y after it (own).
-use Rattle.std.specs.Prelude.{◌≡◌, ◌⊎◌, ℕ, List, Option, Some, IfErr, OnErr, OnOk, Result}
+use Rattle.std.specs.Prelude.{[], ◌≡◌, ◌⊎◌, ℕ, List, Option, Some, IfErr, OnErr, OnOk, Result}
 use Rattle.pcache_base.specs.declared.error.ErrorType.{ErrorType}
 use Rattle.pcache_base.specs.declared.error.ErrorType.TheVariants.{InternalError}
 use Rattle.pcache_base.specs.declared.reason.NoCacheReason.{NoCacheReason}
 use Rattle.pcache_cache.specs.OwnPut.{EndsOwnPut, MayEndPut, evicted_put, put_past, store_put}
 use Rattle.pcache_cache.specs.Parts.{Adds, Parts}
+use Rattle.pcache_cache.specs.Room.{IfRoom, evicted_by_put}
 use Rattle.pcache_cache.specs.Strays.{LeavesNoStray}
+use Rattle.pcache_cache.specs.Weighing.{ending_weight}
 use Rattle.pcache_put.specs.Progress.{HasFailed}
 use Rattle.pcache_put_ctx.specs.Pasts.{EndsPutPast}
 use Rattle.pcache_put_ctx.specs.Puts.{Piece, Says}
@@ -14,6 +16,8 @@ use Rattle.pcache_put_ctx.specs.State.{Put, write_in}
 use Rattle.pcache_put_ctx.specs.Steps.{Done, EndsAs, MayFailPiece, TakesPiece, stage_ended}
 use Rattle.pcache_put_ctx.specs.declared.report.PutOutcome.{PutOutcome}
 use Rattle.pcache_request.specs.NoBody.{LeavesNone}
+use Rattle.pcache_request.specs.Requests.{dropped_by}
+use Rattle.pcache_request.specs.StorePasts.{dropped_past}
 use Rattle.pcache_store.specs.Readers.{in_memory}
 
 -- the put itself, the place of its part, and what it has seen of the part
@@ -39,4 +43,11 @@ pub record EndsPutOf {C : Type 0} (result : Result PutOutcome ErrorType) (x y : 
   pub withdrawn : MayEndPut p.store x → OnErr result (LeavesNone (Some x.key) (write_in x.stage) p.store q.store)
   pub refused : (MayEndPut p.store x → ⊥) → OnOk result ⊥ × IfErr result (λ e. e ≡ InternalError) × (q ≡ p) × (y ≡ x)
   pub only : LeavesNoStray (Some x.key) p q
+  pub room : IfRoom (Some x.key) (ending_weight p.weighing p.store (write_in x.stage)) p (evicted_by_put result ≡ [])
   pub rest : q ≡ record p { store = q.store; past = q.past; tracked = q.tracked; evicted = q.evicted }
+
+-- the write that an ended put left in flight, if there is one, is dropped
+pub record DropsLeft (w : Option ℕ) (p q : Parts) : Type 0 where
+  pub store : q.store ≡ dropped_by w p.store
+  pub past : Adds (dropped_past w) p.past q.past
+  pub rest : q ≡ record p { store = q.store; past = q.past }

@@ -1,4 +1,5 @@
 //! Puts: their pieces and their end.
+use crate::log::Sight;
 use crate::mark::Mark;
 use crate::put::SharedPut;
 use crate::shared::SharedCache;
@@ -15,12 +16,8 @@ impl<M: EvictionManager, K: Mark, const N: usize> SharedCache<M, K, N> {
     ghost use Rattle.pcache_put_ctx.specs.Puts.{IsResult, Piece};
     ghost use Rattle.pcache_put_ctx.specs.State.{Filled, HasTaken, limit_of, write_in};
     ghost use Rattle.pcache_put_ctx.specs.Steps.{EndsAs, IsStageAfter, RepeatsResult, TellsResult};
-    ghost use Rattle.pcache_request.specs.Requests.{dropped_by};
-    ghost use Rattle.pcache_request.specs.StorePasts.{dropped_past};
-    ghost use Rattle.pcache_cache.specs.Parts.{Adds};
     ghost use Rattle.pcache_shared_cache.specs.Seen.{Goes};
-    ghost use Rattle.pcache_shared_cache.specs.Shared.{MovesPart};
-    ghost use Rattle.pcache_shared_cache.specs.SharedPuts.{EndsPutOf, TakesIn};
+    ghost use Rattle.pcache_shared_cache.specs.SharedPuts.{DropsLeft, EndsPutOf, TakesIn};
 
     /// `Cache::cache_put` in the put's part: takes in the next piece of the response. Answers why nothing is stored, once that is so.
     /// The piece is read, and the policy asked once the head has come, before the part is locked: it is free to call the cache.
@@ -73,18 +70,18 @@ impl<M: EvictionManager, K: Mark, const N: usize> SharedCache<M, K, N> {
     }
 
     /// `Cache::end_put`: ends the put, and drops a write that is still in flight. The policy is dropped before the part is locked.
-    pub fn end_put<C: CachePut, R: Wait>(&self, rt: &R, put: SharedPut<C, K, N>)
-        ensures { MovesPart self.now put.place (λ p q.
-            (q.store ≡ dropped_by (write_in put.put.stage) p.store)
-            × Adds (dropped_past (write_in put.put.stage)) p.past q.past
-            × (q ≡ record p { store = q.store; past = q.past })) }
+    /// Returns what the put has seen of its part, with its end.
+    pub fn end_put<C: CachePut, R: Wait>(&self, rt: &R, put: SharedPut<C, K, N>) -> Sight<K>
+        ensures goes { Goes self.now K.names put.place put.seen result.log
+            (DropsLeft (write_in put.put.stage)) }
+        ensures place { result.place ≡ put.place }
     {
-        let place = put.place();
-        let left = put.into_left();
-        let mut guard = self.part(place).lock(rt);
+        let lock = self.part(put.place());
+        let (left, mut sight) = put.into_both();
+        let mut guard = lock.lock(rt);
         let part = &mut *guard;
         part.cache.drop_left(left);
-        part.cache.is_kept(); // for the prover
-        part.log.notes(&part.cache);
+        part.log.adds(&part.cache, &mut sight);
+        sight
     }
 }

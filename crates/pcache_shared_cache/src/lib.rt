@@ -34,11 +34,12 @@ mod shared;
 mod split;
 
 pub use lists::new_lists;
+pub use log::Sight;
 pub use mark::{Mark, Unnamed};
 pub use opening::{NewPart, OverParts, Unused, new_parts, over_parts};
 pub use permit::SharedPermit;
 pub use portion::Portion;
 pub use put::SharedPut;
-pub use request::SharedRequest;
+pub use request::{Ended, SharedRequest};
 pub use shared::SharedCache;
 pub use split::{place_of, portion_of, portion_of_watermark};

@@ -28,9 +28,11 @@ impl<M: EvictionManager, K> Noted<PartState> for Cache<M, K> {
     ghost note = { λ c. c };
 }
 
-// What was seen of the part at a place.
+/// What was seen of one part of a cache with the mark `K`: all states that the part had up to some call. It has no bytes but the
+/// place of the part. A request has one, and the end of a request or a put returns one: who takes it by `SharedRequest::sees` knows
+/// what those who had it knew, so whoever was told of a purge by its caller knows that it is over.
 #[derive(Drop)]
-pub(crate) struct Sight<K: Mark> {
+pub struct Sight<K: Mark> {
     place: usize,
     seen: Seen<PartState>,
     of: PhantomData<K>,
@@ -51,17 +53,18 @@ impl<K: Mark> Model for Sight<K> {
 
 impl<K: Mark> Sight<K> {
     ghost use Rattle.std.specs.Prelude.{◌≡◌};
-    ghost use Rattle.pcache_shared_cache.specs.Seen.{IsLog};
+    ghost use mathlib.Core.List.{IsPrefix};
+    ghost use Rattle.pcache_shared_cache.specs.Seen.{Begins, IsLog};
 
-    // The place of the part.
-    pub(crate) fn place(&self) -> usize
+    /// The place of the part.
+    pub fn place(&self) -> usize
         ensures { result ≡ self.now.place }
     {
         self.place
     }
 
-    // A copy.
-    pub(crate) fn again(&self) -> Sight<K>
+    /// A copy.
+    pub fn again(&self) -> Sight<K>
         ensures { result ≡ self.now }
     {
         Sight {
@@ -71,11 +74,23 @@ impl<K: Mark> Sight<K> {
         }
     }
 
-    // States what is known of it, for proofs of callers. The call does nothing.
-    pub(crate) fn is_log(&self)
+    /// States what is known of all states that were seen, as `SharedRequest::headline`. The call does nothing.
+    pub fn headline(&self)
         ensures { IsLog self.now.log }
     {
         let _place = self.place; // for the prover: once a field is used, the invariant is known
+    }
+
+    /// Afterwards this has seen what both had, if both are of one part, which the mark names. It has no cost.
+    pub fn sees(&mut self, other: &Sight<K>)
+        ensures place { self.new.place ≡ self.old.place }
+        ensures own { IsPrefix self.old.log self.new.log }
+        ensures other { other.now.place ≡ self.old.place
+            → Begins (K.names self.old.place) other.now.log self.new.log }
+    {
+        if self.place == other.place {
+            self.seen.sees(&other.seen);
+        }
     }
 }
 
@@ -167,17 +182,7 @@ impl<K: Mark> PartLog<K> {
         self.keeper.meets(&sight.seen);
     }
 
-    // Adds the state of the cache, whose last state p the log has. Nobody sees it yet.
-    pub(crate) fn notes<M: EvictionManager>(&mut self, cache: &Cache<Portion<M>, K>)
-        requires { (p : Parts) × EndsWith self.old.log p × Leads p cache.now }
-        ensures { self.new
-            ≡ record { place = self.old.place; log = self.old.log ++ cache.now ∷ [] } }
-    {
-        cache.headline(); // for the prover
-        self.keeper.add(cache);
-    }
-
-    // The same, and lets the caller who changed the part see it.
+    // Adds the state of the cache, whose last state p the log has, and lets the caller who changed the part see it.
     pub(crate) fn adds<M: EvictionManager>(
         &mut self,
         cache: &Cache<Portion<M>, K>,

@@ -1,6 +1,6 @@
 //! Look-ups, hits, and the end of a request.
 use crate::mark::Mark;
-use crate::request::SharedRequest;
+use crate::request::{Ended, SharedRequest};
 use crate::shared::SharedCache;
 use bytes::Bytes;
 use pcache_base::error::Result;
@@ -16,15 +16,15 @@ use std::sync::Wait;
 use std::thread::yield_now;
 
 impl<M: EvictionManager, K: Mark, const N: usize> SharedCache<M, K, N> {
-    ghost use Rattle.std.specs.Prelude.{◌≡◌, true, false, IfErr, OnErr, IsOk, IsSome, IsTrue, option_map};
+    ghost use Rattle.std.specs.Prelude.{◌≡◌, ◌⊎◌, true, false, IfErr, OnErr, IsOk, IsSome, IsTrue, option_map};
     ghost use Rattle.pcache_base.specs.declared.error.ErrorType.TheVariants.{NumbersExhausted, OutOfMemory};
-    ghost use Rattle.pcache_request.specs.Alone.{reads_alone};
+    ghost use Rattle.pcache_request.specs.Alone.{MayEndAlone, reads_alone};
     ghost use Rattle.pcache_request.specs.Phases.{IsDisabled, MayFinishHit, MayLookUp};
     ghost use Rattle.pcache_request.specs.Releasing.{MayDisable, disabled_for};
     ghost use Rattle.pcache_request.specs.Reports.{name_of};
     ghost use Rattle.pcache_request.specs.Requests.{HoldsNothing, asks_for_hit, length_by, whole_by, without_reader};
     ghost use Rattle.pcache_store.specs.Readers.{reader_of};
-    ghost use Rattle.pcache_shared_cache.specs.Calls.{Disables, EndsHit, LetsGo, LooksUp, Reads, TakesFound};
+    ghost use Rattle.pcache_shared_cache.specs.Calls.{Disables, EndsHit, EndsRequest, LetsGo, LooksUp, Reads, TakesFound};
     ghost use Rattle.pcache_shared_cache.specs.Seen.{Begins, Goes, Sees};
 
     /// `Cache::cache_lookup` in the request's part: what its store has for the key; if nothing is handed on, the key's lock is
@@ -112,7 +112,7 @@ impl<M: EvictionManager, K: Mark, const N: usize> SharedCache<M, K, N> {
     {
         let lock = self.part(request.place());
         if request.request.cache.reads_alone() {
-            request.sight.is_log(); // for the prover
+            request.sight.headline(); // for the prover
             return request.request.cache.read_body_alone();
         }
         let mut guard = lock.lock(rt);
@@ -131,7 +131,7 @@ impl<M: EvictionManager, K: Mark, const N: usize> SharedCache<M, K, N> {
     {
         let lock = self.part(request.place());
         if request.request.cache.reads_alone() {
-            request.sight.is_log(); // for the prover
+            request.sight.headline(); // for the prover
             return request.request.cache.is_body_whole_alone();
         }
         let mut guard = lock.lock(rt);
@@ -149,7 +149,7 @@ impl<M: EvictionManager, K: Mark, const N: usize> SharedCache<M, K, N> {
     {
         let lock = self.part(request.place());
         if request.request.cache.reads_alone() {
-            request.sight.is_log(); // for the prover
+            request.sight.headline(); // for the prover
             return request.request.cache.body_length_alone();
         }
         let mut guard = lock.lock(rt);
@@ -238,20 +238,28 @@ impl<M: EvictionManager, K: Mark, const N: usize> SharedCache<M, K, N> {
         result
     }
 
-    /// `Cache::end`: gives back all that a request holds. Nothing is locked if that is no lock, no write and no reader of a write.
-    pub fn end<R: Wait>(&self, rt: &R, request: SharedRequest<K, N>) -> Option<LockName>
-        ensures { result ≡ option_map name_of request.cache.held }
+    /// `Cache::end`: gives back all that a request holds. Nothing is locked, and no more is seen, if that is no lock, no write and no
+    /// reader of a write.
+    pub fn end<R: Wait>(&self, rt: &R, request: SharedRequest<K, N>) -> Ended<K>
+        ensures ends { (MayEndAlone request.cache × (result.sight.log ≡ request.seen))
+            ⊎ Goes self.now K.names request.place request.seen result.sight.log
+            (EndsRequest request.cache) }
+        ensures place { result.sight.place ≡ request.place }
+        ensures released { result.released ≡ option_map name_of request.cache.held }
     {
         let lock = self.part(request.place());
-        let request = request.into_request();
+        let (request, mut sight) = request.into_both();
         if request.cache.may_end_alone() {
             request.end_alone();
-            return None;
+            return Ended {
+                released: None,
+                sight,
+            };
         }
         let mut guard = lock.lock(rt);
         let part = &mut *guard;
-        let result = part.cache.end(request);
-        part.log.notes(&part.cache);
-        result
+        let released = part.cache.end(request);
+        part.log.adds(&part.cache, &mut sight);
+        Ended { released, sight }
     }
 }

@@ -80,7 +80,7 @@ impl<C: CachePut, K: Mark, const N: usize> SharedPut<C, K, N> {
     pub fn headline(&self)
         ensures { IsLog self.now.seen }
     {
-        self.sight.is_log();
+        self.sight.headline();
     }
 
     /// The put itself, for its getters.
@@ -110,12 +110,14 @@ impl<C: CachePut, K: Mark, const N: usize> SharedPut<C, K, N> {
             .set_max_file_size_bytes(max_file_size_bytes);
     }
 
-    // What the put leaves of its part.
-    pub(crate) fn into_left(self) -> LeftWrite<K>
-        ensures { result ≡ write_in self.put.stage }
+    // What the put leaves of its part, and what it has seen.
+    pub(crate) fn into_both(self) -> (LeftWrite<K>, Sight<K>)
+        ensures left { result.0 ≡ write_in self.put.stage }
+        ensures place { result.1.place ≡ self.place }
+        ensures seen { result.1.log ≡ self.seen }
     {
-        let SharedPut { sight: _, pending } = self;
-        pending.into_left()
+        let SharedPut { sight, pending } = self;
+        (pending.into_left(), sight)
     }
 
     // Reads the next piece, which needs no part.

@@ -6,10 +6,19 @@ use pcache_base::error::Result;
 use pcache_base::key::{CacheKey, HashBinary};
 use pcache_cache::CacheRequest;
 use pcache_meta::meta::CacheMeta;
-use pcache_request::cache::HttpCache;
+use pcache_request::cache::{HttpCache, LockName};
 use pcache_store::memory::MemCache;
 use std::alloc::Global;
 use std::marker::Model;
+
+/// What the end of a request gave back.
+#[derive(Drop)]
+pub struct Ended<K: Mark> {
+    /// The lock that was let go, if the request held one.
+    pub released: Option<LockName>,
+    /// What the request has seen of its part, with its end.
+    pub sight: Sight<K>,
+}
 
 /// A request of the cache in `N` parts with the mark `K`. It is made with its key, which determines its part, and keeps both: no
 /// call sets another key, and a variance does not change the part. It knows what it has seen of the part, which has no bytes: all
@@ -45,7 +54,8 @@ impl<K: Mark, const N: usize> SharedRequest<K, N> {
     ghost use Rattle.pcache_request.specs.Requests.{MayTakeMeta, enabled_with, missed, new_request, with_key, with_meta};
     ghost use Rattle.pcache_request.specs.Stale.{updating};
     ghost use Rattle.pcache_request.specs.Variants.{looks_for_variance, same_variance};
-    ghost use Rattle.pcache_shared_cache.specs.Seen.{IsLog};
+    ghost use mathlib.Core.List.{IsPrefix};
+    ghost use Rattle.pcache_shared_cache.specs.Seen.{Begins, IsLog};
 
     // A request for a key, which has seen this of the key's part.
     pub(crate) fn new(alloc: Global, key: CacheKey, sight: Sight<K>) -> SharedRequest<K, N>
@@ -74,7 +84,25 @@ impl<K: Mark, const N: usize> SharedRequest<K, N> {
     pub fn headline(&self)
         ensures { IsLog self.now.seen }
     {
-        self.sight.is_log();
+        self.sight.headline();
+    }
+
+    /// What it has seen, for another request of the part: see `sees`.
+    pub fn sight(&self) -> Sight<K>
+        ensures { result ≡ record { place = self.now.place; log = self.now.seen } }
+    {
+        self.sight.again()
+    }
+
+    /// Afterwards it has seen what was seen by whoever had this, if that was of the same part, which the mark names. It locks nothing,
+    /// and has no cost.
+    pub fn sees(&mut self, other: &Sight<K>)
+        ensures own { IsPrefix self.old.seen self.new.seen }
+        ensures other { other.now.place ≡ self.old.place
+            → Begins (K.names self.old.place) other.now.log self.new.seen }
+        ensures rest { self.new ≡ record self.old { seen = self.new.seen } }
+    {
+        self.sight.sees(other);
     }
 
     /// The request itself, for its getters.
@@ -206,11 +234,13 @@ impl<K: Mark, const N: usize> SharedRequest<K, N> {
         SharedPermit::new(self.sight.again(), self.request.cache.take_write_lock())
     }
 
-    // The request of the part.
-    pub(crate) fn into_request(self) -> CacheRequest<K>
-        ensures { result.cache ≡ self.cache }
+    // The request of the part, and what it has seen.
+    pub(crate) fn into_both(self) -> (CacheRequest<K>, Sight<K>)
+        ensures request { result.0.cache ≡ self.cache }
+        ensures place { result.1.place ≡ self.place }
+        ensures seen { result.1.log ≡ self.seen }
     {
-        let SharedRequest { sight: _, request } = self;
-        request
+        let SharedRequest { sight, request } = self;
+        (request, sight)
     }
 }

@@ -2,14 +2,16 @@
 //!
 //! The text of a head without fields has 16 bytes (`HTTP/1.1 200`, and two ends of lines), and a field `vary` with a value of
 //! `n` bytes has `n + 8` (a colon, a space and the end of its line).
-ghost use Rattle.std.specs.Prelude.{◌≡◌};
+ghost use Rattle.std.specs.Prelude.{◌≡◌, true};
 ghost use Rattle.pcache_request.specs.declared.phase.CachePhase.TheVariants.{CacheKey};
 
 use crate::requests::{List, NOW, Request, fill, finds, list_of, list_weighing, request_for};
+use bytes::Bytes;
 use http::StatusCode;
 use http_header::{HeaderValue, VARY};
 use pcache_base::error::{Error, ErrorType, Result};
 use pcache_base::moment::Moment;
+use pcache_base::reason::NoCacheReason;
 use pcache_cache::{OVERHEAD, Weighing};
 use pcache_meta::header::ResponseHeader;
 use pcache_meta::meta::CacheMeta;
@@ -141,4 +143,54 @@ fn counts_bodies(cache: &mut List) -> bool {
         && matches!(fill(cache, "b", b"bb"), Ok(true))
         && matches!(renew_with(cache, "a", "0123456789abc"), Ok(true))
         && weighs(cache, 4, 2)
+}
+
+// A head of 36 bytes is as long as the caller allows, and one of 37 turns caching off before anything is stored. Without a write there
+// is no length.
+#[test]
+fn a_head_may_be_too_long(rt: HostRuntime) -> Result<()> {
+    let mut cache = list_of(rt.alloc(), 100)?;
+    assert!(rt; keeps_short_heads(&mut cache));
+    Ok(())
+}
+
+fn keeps_short_heads(cache: &mut List) -> bool {
+    matches!(fill_below(cache, "a", "0123456789ab", 36), Ok(true))
+        && matches!(fill_below(cache, "b", "0123456789abc", 36), Ok(false))
+        && matches!(finds(cache, "a", b"aa"), Ok(true))
+        && weighs(cache, 2, 1)
+}
+
+// Stores a body of two bytes whose head varies on this, if the head has at most so many bytes.
+fn fill_below(cache: &mut List, name: &str, value: &str, most: usize) -> Result<bool> {
+    let mut request = request_for(cache.alloc(), name)?;
+    let filled = fill_below_in(cache, &mut request, value, most);
+    cache.end(request);
+    filled
+}
+
+fn fill_below_in(cache: &mut List, request: &mut Request, value: &str, most: usize) -> Result<bool>
+    requires phase { request.old.cache.phase ≡ CacheKey }
+    requires uses { request.old.cache.uses.eviction ≡ true }
+{
+    let meta = varying(cache.alloc(), value)?;
+    request.cache.cache_miss();
+    request.cache.set_cache_meta(meta);
+    if cache.head_length(request).is_some() {
+        return Ok(true);
+    }
+    cache.set_miss_handler(request)?;
+    if !matches!(cache.head_length(request), Some(length) if length <= most) {
+        return Ok(turn_off(cache, request));
+    }
+    cache.write_body(request, Bytes::from_static(b"aa"), true)?;
+    Ok(cache.finish_miss_handler(request)?.is_some() && cache.head_length(request).is_none())
+}
+
+// Whether caching is on after it was turned off.
+fn turn_off(cache: &mut List, request: &mut Request) -> bool {
+    if request.cache.may_disable(NoCacheReason::ResponseTooLarge) {
+        cache.disable(request, NoCacheReason::ResponseTooLarge);
+    }
+    request.cache.phase().is_on()
 }

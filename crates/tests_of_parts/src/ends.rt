@@ -24,14 +24,16 @@ fn breaks_off<R: Wait>(rt: &R, cache: &Lists) -> Result<bool> {
     is_cut
 }
 
-// The writer ends after a first part.
+// The writer ends after a first part, and the reader is told so.
 fn breaks_off_beside<R: Wait>(rt: &R, cache: &Lists, reader: &mut Request) -> Result<bool>
     requires { reader.old.cache.phase ≡ CacheKey }
 {
     let mut writer = request_for(cache, "a")?;
     let follows = follows(rt, cache, &mut writer, reader);
-    cache.end(rt, writer);
-    if !follows? || !reader.cache().has_body_reader() {
+    let ended = cache.end(rt, writer);
+    reader.sees(&ended.sight);
+    let is_told = reader.sight().place() == ended.sight.place() && ended.released.is_none();
+    if !follows? || !is_told || !reader.cache().has_body_reader() {
         return Ok(false);
     }
     let end = cache.read_body(rt, reader)?;

@@ -56,7 +56,7 @@ fn tell_of_way<R: Wait>(
     told: &mut Told,
 ) {
     let ended = mem::replace(request, next_for(cache, call));
-    let is_gone = cache.end(rt, ended).is_some();
+    let is_gone = cache.end(rt, ended).released.is_some();
     permits::tell_gone(is_gone && word(call, 0) == "end", told);
 }
 

@@ -4,8 +4,10 @@ use Rattle.pcache_cache.specs.Parts.{IsKept, MayEnd, Parts}
 use Rattle.pcache_cache.proofs.Ended.{kept_finished, same-number}
 use Rattle.pcache_cache.proofs.Unlocking.{if_ended}
 use Rattle.pcache_cache.proofs.Ways.{each_end}
+use Rattle.pcache_cache.specs.Room.{HasRoom, beside}
 use Rattle.pcache_cache.specs.Strays.{TracksOnly}
 use Rattle.pcache_cache.proofs.Only.{only_finished}
+use Rattle.pcache_cache.proofs.Room.{finish_calm}
 use Rattle.pcache_cache.proofs.cache.Cache.finish_miss_handler.Goals as goal
 
 pub invariant_of-self : goal.invariant_of-self
@@ -26,3 +28,15 @@ returns-clause-only g c of its only =
     only_finished of inside.weighing (g.M.EvictionManager.limits inside.manager) r c.replaced_by.result c.ending_weight.result inside.store.state call.new.storage.state (tracked inside.manager) (tracked call.new.eviction) inside.lock.table call.new.lock.table call.result
     (subst (λ (p : Parts). MayEnd p.store r) (sym c.self.view_is) c.requires.own) (sym c.writer-writer.ensures.entry ∙ same-number _ c.writer-writer.result ∙ c.writer-writer.ensures.write) (c.ending_weight.ensures ∙ ap (ending_weight inside.weighing inside.store.state) c.writer-writer.ensures.write) its c.replaced_by.ensures
     (each_end call.result (λ how is. is.0) call.ensures.ended) (subst (λ (p : Parts). TracksOnly of p.weighing p.store p.tracked) (sym c.self.view_is) only)
+
+pub returns-clause-room : goal.returns-clause-room
+returns-clause-room g c of none its only room =
+    let tracked = g.M.EvictionManager.tracked in
+    let inside = c.self.inside in
+    let call = c.finish_replacing in
+    let r = c.args.request.now.cache in
+    finish_calm of none inside.weighing (g.M.EvictionManager.limits inside.manager) r c.replaced_by.result c.ending_weight.result inside.store.state call.new.storage.state (tracked inside.manager) (tracked call.new.eviction) inside.lock.table call.new.lock.table call.result
+    (subst (λ (p : Parts). MayEnd p.store r) (sym c.self.view_is) c.requires.own).uses its c.replaced_by.ensures (subst (λ (p : Parts). TracksOnly of p.weighing p.store p.tracked) (sym c.self.view_is) only)
+    (subst (HasRoom inside.weighing (g.M.EvictionManager.limits inside.manager) (beside r.key inside.store.state)) (sym (c.ending_weight.ensures ∙ ap (ending_weight inside.weighing inside.store.state) c.writer-writer.ensures.write))
+    (subst (λ (p : Parts). HasRoom p.weighing p.limits (beside r.key p.store) (ending_weight p.weighing p.store r.write)) (sym c.self.view_is) room))
+    (each_end call.result (λ how is. is.0) call.ensures.ended)

@@ -1,9 +1,13 @@
-use Rattle.std.proofs.Common.{◌≡◌, Some, ap, subst, sym, ◌∙◌}
-use Rattle.pcache_base.specs.Key.{slot}
+use Rattle.std.proofs.Common.{◌≡◌, OnOk, Option, Some, ap, subst, sym, ◌∙◌}
+use Rattle.pcache_base.specs.Key.{Key, slot}
+use Rattle.pcache_meta.specs.Meta.{Meta}
+use Rattle.pcache_request.specs.Renewals.{renewed_by}
 use Rattle.pcache_request.specs.Requests.{Request}
 use Rattle.pcache_cache.specs.Parts.{Parts}
+use Rattle.pcache_cache.specs.Room.{IfRoom, KeepsBodies, weight_with}
 use Rattle.pcache_cache.specs.Strays.{IsItsKey, TracksOnly}
 use Rattle.pcache_cache.proofs.Only.{numbered, only_renewed}
+use Rattle.pcache_cache.proofs.Room.{renewed_room}
 use Rattle.pcache_cache.proofs.cache.Cache.revalidate_cache_meta.Goals as goal
 
 pub returns-clause-only : goal.returns-clause-only
@@ -13,3 +17,19 @@ returns-clause-only g c of its only =
     let keyed : c.args.request.now.cache.key ≡ Some key = sym (c.in-Some-Some.ensures.value ∙ ap (λ (r : Request). r.key) c.renew_request-released.ensures.request) in
     only_renewed of inside.weighing (g.M.EvictionManager.limits inside.manager) c.in-Some-Some.meta.now key c.set_meta.result _ _ c.set_meta.ensures.renews
     (λ b there. numbered inside.store.state inside.store.past c.headline.ensures.bodies c.headline.ensures.kept (slot key) b there) (subst (IsItsKey of) keyed its) (subst (λ (p : Parts). TracksOnly of p.weighing p.store p.tracked) (sym c.self.view_is) only)
+
+pub returns-clause-room : goal.returns-clause-room
+returns-clause-room g c =
+    let inside = c.self.inside in
+    let r = c.args.request.now.cache in
+    let new = c.set_meta.new.store.state in
+    let key = c.in-Some-Some.key.now in
+    let made = c.renew_request-released.ensures.request in
+    let keyed : Some key ≡ r.key = c.in-Some-Some.ensures.value ∙ ap (λ (x : Request). x.key) made in
+    let given : Some c.in-Some-Some.meta.now ≡ Some (renewed_by c.args.meta r.meta) = c.in-Some-Some.ensures' ∙ ap (λ (x : Request). x.meta) made in
+    let meta : c.in-Some-Some.meta.now ≡ renewed_by c.args.meta r.meta = cc in
+    let p : Parts = record { store = inside.store.state; past = inside.store.past; weighing = inside.weighing; tracked = g.M.EvictionManager.tracked inside.manager; limits = g.M.EvictionManager.limits inside.manager; evicted = g.M.EvictionManager.evicted inside.manager; locks = inside.lock.table; deeds = inside.lock.past } in
+    let own = renewed_room p c.in-Some-Some.meta.now (Some key) c.set_meta.result (record { store = new; past = c.set_meta.new.store.past; tracked = g.M.EvictionManager.tracked c.set_meta.new.manager; evicted = g.M.EvictionManager.evicted c.set_meta.new.manager }) c.set_meta.ensures.renews in
+    let with_meta = subst (λ (x : Meta). OnOk c.set_meta.result (IfRoom (Some key) (weight_with p.weighing x (Some key) p.store) p (KeepsBodies p.store new))) meta own in
+    let with_key = subst (λ (k : Option Key). OnOk c.set_meta.result (IfRoom k (weight_with p.weighing (renewed_by c.args.meta r.meta) k p.store) p (KeepsBodies p.store new))) keyed with_meta in
+    subst (λ (q : Parts). OnOk c.set_meta.result (IfRoom r.key (weight_with q.weighing (renewed_by c.args.meta r.meta) r.key q.store) q (KeepsBodies q.store new))) c.self.view_is with_key

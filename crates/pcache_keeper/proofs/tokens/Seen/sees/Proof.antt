@@ -1,5 +1,5 @@
 -- `sees`: the longer log begins with both. Assumes `Logic`.
-use Rattle.std.proofs.Common.{◌≡◌, ℕ, List, [], ◌∷◌, refl}
+use Rattle.std.proofs.Common.{◌≡◌, ◌⊎◌, ℕ, List, [], ◌∷◌, refl}
 use mir.Syntax.{a_type, dnil, named}
 use mir.Val.{Val, vunit, vptr}
 use mir.MapTy.{inst_fn}
@@ -48,6 +48,6 @@ sees_spec 𝓤 𝓛 𝓜 𝓡 wired E _ =
     fsplit ! $ move ! (1 ∷ []) $ fsplit ! $ move ! (3 ∷ []) $ fsplit ! $ fsplit3 ! $ move ! (3 ∷ []) $ fsplit ! $ fsplit ! $ keep ! (1 ∷ 4 ∷ 5 ∷ 6 ∷ 7 ∷ 8 ∷ []) $
     enter ! 𝓣.C 𝓣.Λ fn (vptr b o ∷ q ∷ []) Post $ alloc_all ! (λ l. pass_all ! refl ((tt, tt), ((tt, tt), tt)) $
     use1 𝓛 (‵ (hidden_shr (Token E') κs.1.0 (record {}, tt) a.1.0.ref_ptr.0 a.1.0.ref_ptr.1) ⊛ ‵ (fhide (had cv.code s.name s.log))) (lent_out 𝓛 (Seen.struct E') (Seen.the_codes E'.Denot E'.coded (marker.the_row E').coded) (Seen.the_heap E') (Seen.the_lent E') κs.1.0 s a.1.0.ref_ptr.0 a.1.0.ref_ptr.1) $ split ! $ drop ! $ unhide ! $ move ! (1 ∷ 2 ∷ 5 ∷ []) $ opens ! tt Ps b o (λ ts. move ! (1 ∷ []) $ fsplit ! $
-    move ! (1 ∷ 6 ∷ []) $ use2 𝓛 (some (λ (log : List E'.Denot). given (IsPrefix h.log log × (s.name ≡ h.name → IsPrefix s.log log)) (‵ (had cv.code h.name log)))) (longer 𝓛 cv h.name s.name h.log s.log) $ pick ! (λ log. learn ! (λ p. move ! (1 ∷ 0 ∷ []) $ fjoin ! $ move ! (1 ∷ 0 ∷ 2 ∷ 3 ∷ 4 ∷ []) $
+    move ! (1 ∷ 6 ∷ []) $ use2 𝓛 (some (λ (log : List E'.Denot). given (IsPrefix h.log log × (s.name ≡ h.name → IsPrefix s.log log) × ((log ≡ h.log) ⊎ (log ≡ s.log))) (‵ (had cv.code h.name log)))) (longer 𝓛 cv h.name s.name h.log s.log) $ pick ! (λ log. learn ! (λ p. move ! (1 ∷ 0 ∷ []) $ fjoin ! $ move ! (1 ∷ 0 ∷ 2 ∷ 3 ∷ 4 ∷ []) $
     closes ! tt Ps (record { marker = h.marker; name = h.name; log = log }) ts b o $ sets ! (of_opd ! (unit_lit !)) refl (tt, tt) $ feq_i ! (List Val) (vunit ∷ []) (vunit ∷ []) refl $ move ! (4 ∷ 5 ∷ []) $ fjoin ! $ move ! (4 ∷ 0 ∷ []) $ fjoin ! $ nothing ! $ nothing ! $ fjoin ! $ feq_i ! (List Val) (vptr b o ∷ []) (vptr b o ∷ []) refl $ move ! (0 ∷ 4 ∷ 5 ∷ []) $ fjoin3 ! $ fjoin ! $
-    returns ! (look_at ! 0 refl) $ free_all ! refl $ keep ! (1 ∷ 0 ∷ 2 ∷ []) $ by ! (ends 𝓛 En hs c y (vunit) (tt) (record { marker = h.marker; name = h.name; log = log }, (tt, tt)) (tt, (tt, tt)) (fact_i 𝓤 _ (emp 𝓤) (refl, p.0, p.1))))))))
+    returns ! (look_at ! 0 refl) $ free_all ! refl $ keep ! (1 ∷ 0 ∷ 2 ∷ []) $ by ! (ends 𝓛 En hs c y (vunit) (tt) (record { marker = h.marker; name = h.name; log = log }, (tt, tt)) (tt, (tt, tt)) (fact_i 𝓤 _ (emp 𝓤) (refl, p.0, p.1, p.2))))))))

@@ -71,6 +71,7 @@ invariant_of-self-2 g c =
       ok.history ∙ (ap (λ l. l ++ e ∷ []) i.4 ∙ (append_assoc g.K.Mark.opened.log.history c.self.inside.keeper.me.0.all (e ∷ []) ∙ (ap (λ (x : Entry). g.K.Mark.opened.log.history ++ (c.self.inside.keeper.me.0.all ++ x ∷ [])) (sym same) ∙ ap (λ m. g.K.Mark.opened.log.history ++ m.0.all) (sym kept)))),
       ok.start ∙ i.5,
       ok.limits ∙ i.6,
+      ok.age ∙ i.7,
     )
 
 pub returns-clause-ok : goal.returns-clause-ok

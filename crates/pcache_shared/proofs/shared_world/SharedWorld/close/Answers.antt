@@ -78,4 +78,4 @@ pub returns-clause-grown : goal.returns-clause-grown
 returns-clause-grown g c =
     let i = c.loop-share.invariant in
     let w = c.world.invariant in
-    record { more = c.loop-share.keeper.me.0.all; history = w.4 ∙ ap (λ l. g.K.Mark.opened.log.history ++ l) (sym i.3); start = w.5; limits = w.6 }
+    record { more = c.loop-share.keeper.me.0.all; history = w.4 ∙ ap (λ l. g.K.Mark.opened.log.history ++ l) (sym i.3); start = w.5; limits = w.6; age = w.7 }

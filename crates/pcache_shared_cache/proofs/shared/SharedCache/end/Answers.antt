@@ -1,21 +1,28 @@
-use Rattle.std.proofs.Common.{ap}
-use Rattle.pcache_cache.proofs.Adding.{dropped_keeps, left_keeps, let_go_keeps}
-use Rattle.pcache_cache.proofs.Growing.{grew_by, kept_by_deeds, kept_by_notes}
-use Rattle.pcache_cache.specs.Parts.{Parts}
-use Rattle.pcache_request.specs.LockPasts.{let_go_deeds}
-use Rattle.pcache_request.specs.StorePasts.{dropped_past, left_past}
-use Rattle.pcache_shared_cache.specs.Seen.{Leads}
+use Rattle.std.proofs.Common.{inl, inr, subst, ◌∙◌}
+use Rattle.pcache_request.specs.Alone.{MayEndAlone}
+use Rattle.pcache_request.specs.Requests.{Request}
+use Rattle.pcache_shared_cache.specs.Calls.{EndsRequest}
+use Rattle.pcache_shared_cache.proofs.Led.{request_ended}
+use Rattle.pcache_shared_cache.proofs.Logs.{goes_by, lent}
 use Rattle.pcache_shared_cache.proofs.shared.SharedCache.end.Goals as goal
 
-pub notes-requires : goal.notes-requires
-notes-requires g c =
+pub adds-requires-clause-leads : goal.adds-requires-clause-leads
+adds-requires-clause-leads g c =
     let p = c.part.inside.cache in
-    let q = c.end-result.new.self in
-    let r = c.into_request-request.result.cache in
-    let leads : Leads p q = record {
-      limits = ap (λ (x : Parts). x.limits) c.end-result.ensures.rest;
-      weighing = ap (λ (x : Parts). x.weighing) c.end-result.ensures.rest;
-      past = grew_by (λ l. left_past r.reader (dropped_past r.write l)) p.past q.past (λ x is. left_keeps (kept_by_notes p.past) r.reader (dropped_past r.write x) (dropped_keeps (kept_by_notes p.past) r.write x is)) c.end-result.ensures.past;
-      deeds = grew_by (let_go_deeds r.held) p.deeds q.deeds (let_go_keeps (kept_by_deeds p.deeds) r.held) c.end-result.ensures.deeds;
-    } in
-    (p, c.part.invariant, leads)
+    let q = c.end-released.new.self in
+    let r = c.into_both-request.result.0.cache in
+    let row : EndsRequest r p q = record { store = c.end-released.ensures.store; past = c.end-released.ensures.past; locks = c.end-released.ensures.table; deeds = c.end-released.ensures.deeds; rest = c.end-released.ensures.rest } in
+    (p, c.part.invariant, request_ended r p q row)
+
+pub returns-then-may_end_alone-clause-ends : goal.returns-then-may_end_alone-clause-ends
+returns-then-may_end_alone-clause-ends g c = inl (subst MayEndAlone c.into_both-request.ensures.request (c.may_end_alone.ensures.0 c.if-may_end_alone.true), c.into_both-request.ensures.seen)
+
+pub returns-clause-ends : goal.returns-clause-ends
+returns-clause-ends g c =
+    let p = c.part.inside.cache in
+    let q = c.end-released.new.self in
+    let r = c.into_both-request.result.0.cache in
+    let row : EndsRequest r p q = record { store = c.end-released.ensures.store; past = c.end-released.ensures.past; locks = c.end-released.ensures.table; deeds = c.end-released.ensures.deeds; rest = c.end-released.ensures.rest } in
+    let here = lent c.args.self.now c.part-lock.result.now c.part-lock.ensures.limits c.part-lock.ensures.place c.place.ensures.place c.lock-guard.ensures.place c.lock-guard.ensures.limits (c.part.view_is ∙ c.deref_mut-part.ensures.value) in
+    inr (goes_by c.args.self.now g.K.Mark.names c.part.inside.log.place c.args.request.place c.into_both-request.result.1.log c.args.request.seen c.adds.new.sight.log p q here c.into_both-request.ensures.seen
+    (c.adds.ensures.moves p c.part.invariant) (subst (λ (x : Request). EndsRequest x p q) c.into_both-request.ensures.request row))

@@ -1,33 +1,23 @@
-use Rattle.std.proofs.Common.{ℕ, Option, ap, subst, ◌∙◌}
-use Rattle.pcache_cache.proofs.Adding.{dropped_keeps}
-use Rattle.pcache_cache.proofs.Growing.{grew_by, grew_same, kept_by_notes}
-use Rattle.pcache_cache.specs.Parts.{Adds, Parts}
-use Rattle.pcache_request.specs.Requests.{dropped_by}
-use Rattle.pcache_request.specs.StorePasts.{dropped_past}
-use Rattle.pcache_shared_cache.specs.Seen.{Held, Leads}
-use Rattle.pcache_shared_cache.proofs.InPart.{moves_part}
+use Rattle.std.proofs.Common.{ℕ, Option, subst, ◌∙◌}
+use Rattle.pcache_shared_cache.specs.SharedPuts.{DropsLeft}
+use Rattle.pcache_shared_cache.proofs.Logs.{goes_by, lent}
+use Rattle.pcache_shared_cache.proofs.Pushed.{left_dropped}
 use Rattle.pcache_shared_cache.proofs.shared.SharedCache.end_put.Goals as goal
 
-pub notes-requires : goal.notes-requires
-notes-requires g c =
-    let p = c.part-2.inside.cache in
+pub adds-requires-clause-leads : goal.adds-requires-clause-leads
+adds-requires-clause-leads g c =
+    let p = c.part.inside.cache in
     let q = c.drop_left.new.self in
-    let w = c.into_left-left.result in
-    let leads : Leads p q = record {
-      limits = ap (λ (x : Parts). x.limits) c.drop_left.ensures.rest;
-      weighing = ap (λ (x : Parts). x.weighing) c.drop_left.ensures.rest;
-      past = grew_by (dropped_past w) p.past q.past (dropped_keeps (kept_by_notes p.past) w) c.drop_left.ensures.past;
-      deeds = grew_same p.deeds q.deeds (ap (λ (x : Parts). x.deeds) c.drop_left.ensures.rest);
-    } in
-    (p, c.part-2.invariant, leads)
+    let w = c.into_both-left.result.0 in
+    let row : DropsLeft w p q = record { store = c.drop_left.ensures.store; past = c.drop_left.ensures.past; rest = c.drop_left.ensures.rest } in
+    (p, c.part.invariant, left_dropped w p q row)
 
-pub returns : goal.returns
-returns g c =
-    let p = c.part-2.inside.cache in
+pub returns-clause-goes : goal.returns-clause-goes
+returns-clause-goes g c =
+    let p = c.part.inside.cache in
     let q = c.drop_left.new.self in
-    moves_part c.args.self.now c.args.put.place c.place-place.result c.part.result.now.limits c.lock-guard.result.value.now p q c.place-place.ensures.place c.part.ensures.limits c.lock-guard.ensures.limits c.lock-guard.ensures.kept (ap (λ (h : Held). h.now) (c.part-2.view_is ∙ c.deref_mut-part.ensures.value))
-    (ap (λ (x : Parts). x.limits) c.drop_left.ensures.rest) c.is_kept.ensures (
-      c.drop_left.ensures.store ∙ ap (λ (w : Option ℕ). dropped_by w p.store) c.into_left-left.ensures,
-      subst (λ (w : Option ℕ). Adds (dropped_past w) p.past q.past) c.into_left-left.ensures c.drop_left.ensures.past,
-      c.drop_left.ensures.rest,
-    )
+    let w = c.into_both-left.result.0 in
+    let row : DropsLeft w p q = record { store = c.drop_left.ensures.store; past = c.drop_left.ensures.past; rest = c.drop_left.ensures.rest } in
+    let here = lent c.args.self.now c.part-lock.result.now c.part-lock.ensures.limits c.part-lock.ensures.place c.place.ensures.place c.lock-guard.ensures.place c.lock-guard.ensures.limits (c.part.view_is ∙ c.deref_mut-part.ensures.value) in
+    goes_by c.args.self.now g.K.Mark.names c.part.inside.log.place c.args.put.place c.into_both-left.result.1.log c.args.put.seen c.adds.new.sight.log p q here c.into_both-left.ensures.seen
+    (c.adds.ensures.moves p c.part.invariant) (subst (λ (x : Option ℕ). DropsLeft x p q) c.into_both-left.ensures.left row)

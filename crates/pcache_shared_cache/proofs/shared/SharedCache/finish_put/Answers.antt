@@ -20,6 +20,7 @@ returns-then-not-may_end_put-clause-goes g c =
       withdrawn = λ may. not_so c.may_end_put.result c.if-not-may_end_put.true c.may_end_put.ensures may;
       refused = λ no. (tt, c.new.ensures, refl, refl);
       only = λ of its only. only;
+      room = λ of none its only has. refl;
       rest = refl;
     }))
 
@@ -34,6 +35,7 @@ adds-requires-2-clause-leads g c =
       withdrawn = λ _. e.withdrawn;
       refused = λ no. absurd (no (c.may_end_put.ensures.0 c.if-not-may_end_put.false));
       only = e.only;
+      room = e.room;
       rest = λ i. record { store = q.store; past = q.past; tracked = q.tracked; evicted = q.evicted; limits = e.limits i; weighing = e.weighing i; locks = e.locks i; deeds = e.deeds i };
     } in
     (p, c.part-2.invariant, put_ended c.finish_put-outcome.result x c.finish_put-outcome.new.put.put p q row (c.may_end_put.ensures.0 c.if-not-may_end_put.false))
@@ -49,6 +51,7 @@ returns-clause-goes g c =
       withdrawn = λ _. e.withdrawn;
       refused = λ no. absurd (no (c.may_end_put.ensures.0 c.if-not-may_end_put.false));
       only = e.only;
+      room = e.room;
       rest = λ i. record { store = q.store; past = q.past; tracked = q.tracked; evicted = q.evicted; limits = e.limits i; weighing = e.weighing i; locks = e.locks i; deeds = e.deeds i };
     } in
     let here = lent c.args.self.now c.part.result.now c.part.ensures.limits c.part.ensures.place (c.place.ensures.place ∙ ap (λ (s : SeatedPut g.row.C.Denot). s.place) (sym c.put.view_is)) c.lock-guard.ensures.place c.lock-guard.ensures.limits (c.part-2.view_is ∙ c.deref_mut-part.ensures.value) in

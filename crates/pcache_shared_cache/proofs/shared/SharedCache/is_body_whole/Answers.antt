@@ -4,7 +4,7 @@ use Rattle.pcache_shared_cache.proofs.Logs.{sees_by, lent, sees_last}
 use Rattle.pcache_shared_cache.proofs.shared.SharedCache.is_body_whole.Goals as goal
 
 pub returns-then-reads_alone-clause-sees : goal.returns-then-reads_alone-clause-sees
-returns-then-reads_alone-clause-sees g c = rw (← c.request.view_is) (sees_last c.args.self.now g.K.Mark.names c.request.inside.sight.place c.request.inside.sight.log c.is_log.ensures (λ p. c.is_body_whole_alone.ensures p.store))
+returns-then-reads_alone-clause-sees g c = rw (← c.request.view_is) (sees_last c.args.self.now g.K.Mark.names c.request.inside.sight.place c.request.inside.sight.log c.headline.ensures (λ p. c.is_body_whole_alone.ensures p.store))
 
 pub returns-clause-sees : goal.returns-clause-sees
 returns-clause-sees g c =

@@ -8,7 +8,7 @@ pub returns-then-reads_alone-clause-sees : goal.returns-then-reads_alone-clause-
 returns-then-reads_alone-clause-sees g c =
     let old = c.request.inside.request.cache in
     let read = c.read_body_alone in
-    rw (← c.request.view_is) (sees_last c.args.self.now g.K.Mark.names c.request.inside.sight.place c.request.inside.sight.log c.is_log.ensures
+    rw (← c.request.view_is) (sees_last c.args.self.now g.K.Mark.names c.request.inside.sight.place c.request.inside.sight.log c.headline.ensures
     (λ p. record { read = read_with p.store read.result old.reader read.ensures.read; request = left_with p.store read.result old read.new.self read.ensures.request }))
 
 pub returns-then-reads_alone-clause-reader : goal.returns-then-reads_alone-clause-reader

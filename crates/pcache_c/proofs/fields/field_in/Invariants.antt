@@ -1,0 +1,6 @@
+use Rattle.std.proofs.Common.{◌≡◌, slice_get}
+use Rattle.http_header.specs.HeaderMap.{pairs}
+use Rattle.pcache_c.proofs.fields.field_in.Given as goal
+
+abbrev pub invariant-fields : goal.invariant-fields
+invariant-fields l = slice_get l.field-iterator l.left ≡ slice_get (pairs l.fn.fields) l.fn.index
