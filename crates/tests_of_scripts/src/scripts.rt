@@ -1,6 +1,7 @@
 //! Whole scripts, each with the replies that are wanted.
 //! Expected replies are hand-computed from the definitions.
 mod files;
+mod large;
 mod phases;
 mod purges;
 mod puts;

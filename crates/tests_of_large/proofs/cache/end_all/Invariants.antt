@@ -1,0 +1,5 @@
+use Rattle.std.specs.Vec.{vec_len}
+use Rattle.tests_of_large.proofs.cache.end_all.Given as goal
+
+abbrev pub decreases-open : goal.decreases-open
+decreases-open l = vec_len l.open
