@@ -63,7 +63,7 @@ fn holds_many<M: EvictionManager>(rt: &impl Abort, alloc: Global, manager: M) {
 #[test]
 fn a_million_entries_in_a_ring(rt: HostRuntime) -> Result<()> {
     let alloc = rt.alloc();
-    let manager = clock::Manager::new(alloc, Seed::fixed(), 1_050_000)?;
+    let manager = sieve::Manager::new(alloc, Seed::fixed(), 1_050_000)?;
     play(&rt, alloc, Held { alloc, manager }, ROWS_OF_A_MILLION);
     Ok(())
 }
