@@ -1,5 +1,5 @@
 -- Two byte strings that spell a meta are seen as that meta.
-use Rattle.std.proofs.Common.{◌≡◌, ℕ, List, ◌++◌, length, take, drop, ap, ◌∙◌, arith, length-append}
+use Rattle.std.proofs.Common.{◌≡◌, ℕ, List, ◌++◌, length, take, drop, refl, ap, ◌∙◌, arith, length-append}
 use Rattle.std.proofs.Math.Seq.{take-append_seam, drop-append_seam}
 use Rattle.pcache_meta.specs.Meta.{Meta}
 use Rattle.pcache_meta.specs.MetaBytes.{SpellsMeta}
