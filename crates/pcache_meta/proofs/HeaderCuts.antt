@@ -1,5 +1,5 @@
 -- Parts of a text that is read line by line.
-use Rattle.std.proofs.Common.{◌≡◌, ℕ, ◌+◌, ◌-◌, ◌≤◌, List, [], ◌∷◌, ◌++◌, length, take, drop, Some, refl, sym, ap, ◌∙◌, append_assoc, arith, length-append}
+use Rattle.std.proofs.Common.{◌≡◌, ℕ, ◌+◌, ◌-◌, ◌≤◌, List, [], ◌∷◌, ◌++◌, length, take, drop, Some, sym, ap, ◌∙◌, append_assoc, arith, length-append}
 use Rattle.std.specs.List.{slice_range}
 use Rattle.std.proofs.Math.Seq.{take-append_seam, drop-append_seam, drop-append-add}
 use Rattle.pcache_meta.specs.HeaderReading.{line_from, name_from, BeginsWith, EndsWith}

@@ -1,4 +1,4 @@
-use Rattle.std.proofs.Common.{rules, ◌∙◌, ◌+◌, sym, drop, take, length, length-drop, arith}
+use Rattle.std.proofs.Common.{◌∙◌, ◌+◌, sym, drop, take, length-drop, arith}
 use Rattle.std.proofs.lemmas.List.{take_rest}
 use Rattle.pcache_meta.proofs.HeaderLines.{line_from_short}
 use Rattle.pcache_meta.proofs.HeaderScan.{stays_on, past}
