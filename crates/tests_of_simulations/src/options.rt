@@ -35,8 +35,8 @@ const USUAL: Words<'static> = Words {
     bad_lines: "100",
 };
 
-/// The usual words with those that are given, each with its value.
-pub fn with(call: &'static str) -> Words<'static> {
+// The usual words with those that are given, each with its value.
+fn with(call: &'static str) -> Words<'static> {
     let mut words = USUAL;
     for given in call.split("; ") {
         let (name, value) = given.split_once(' ').unwrap_or((given, ""));
