@@ -102,39 +102,6 @@ impl Head {
         done(unsafe { raw::pcache_head_add(&mut self.0 .0, name.as_ptr(), name.len(), value.as_ptr(), value.len()) })
     }
 
-    /// Its status.
-    ///
-    /// # Errors
-    /// None of this crate's making.
-    pub fn status(&mut self) -> Result<u16, Error> {
-        status_in(&mut self.0)
-    }
-
-    /// How many values a name has, in any case.
-    ///
-    /// # Errors
-    /// None of this crate's making.
-    pub fn count(&mut self, name: &str) -> Result<usize, Error> {
-        count_in(&mut self.0, name)
-    }
-
-    /// The value with this number, from 0, of those of a name in any case; nothing past the last one.
-    ///
-    /// # Errors
-    /// None of this crate's making.
-    pub fn value(&mut self, name: &str, index: usize) -> Result<Option<Vec<u8>>, Error> {
-        value_in(&mut self.0, name, index)
-    }
-
-    /// The field with this number, from 0: a name in lower case, and a value. A name with several values is there once for each, one
-    /// after another. Nothing past the last one.
-    ///
-    /// # Errors
-    /// None of this crate's making.
-    pub fn field(&mut self, index: usize) -> Result<Option<(String, Vec<u8>)>, Error> {
-        field_in(&mut self.0, index)
-    }
-
     /// What Cache-Control says, if there is one.
     ///
     /// # Errors
@@ -380,39 +347,6 @@ impl Meta {
         })
     }
 
-    /// Its status.
-    ///
-    /// # Errors
-    /// None of this crate's making.
-    pub fn status(&mut self) -> Result<u16, Error> {
-        status_in(&mut self.0)
-    }
-
-    /// How many values a name has, in any case.
-    ///
-    /// # Errors
-    /// None of this crate's making.
-    pub fn count(&mut self, name: &str) -> Result<usize, Error> {
-        count_in(&mut self.0, name)
-    }
-
-    /// The value with this number, from 0, of those of a name in any case; nothing past the last one.
-    ///
-    /// # Errors
-    /// None of this crate's making.
-    pub fn value(&mut self, name: &str, index: usize) -> Result<Option<Vec<u8>>, Error> {
-        value_in(&mut self.0, name, index)
-    }
-
-    /// The field with this number, from 0: a name in lower case, and a value. A name with several values is there once for each, one
-    /// after another. Nothing past the last one.
-    ///
-    /// # Errors
-    /// None of this crate's making.
-    pub fn field(&mut self, index: usize) -> Result<Option<(String, Vec<u8>)>, Error> {
-        field_in(&mut self.0, index)
-    }
-
     /// The status and the fields of its head, the names in lower case.
     ///
     /// ```
@@ -435,6 +369,48 @@ impl Meta {
         Ok((self.status()?, fields))
     }
 }
+
+/// What a head says and the head of a meta too: its status, and its fields by name and by number.
+macro_rules! head_of {
+    ($($owner:ty),*) => {$(
+        impl $owner {
+            /// Its status.
+            ///
+            /// # Errors
+            /// None of this crate's making.
+            pub fn status(&mut self) -> Result<u16, Error> {
+                status_in(&mut self.0)
+            }
+
+            /// How many values a name has, in any case.
+            ///
+            /// # Errors
+            /// None of this crate's making.
+            pub fn count(&mut self, name: &str) -> Result<usize, Error> {
+                count_in(&mut self.0, name)
+            }
+
+            /// The value with this number, from 0, of those of a name in any case; nothing past the last one.
+            ///
+            /// # Errors
+            /// None of this crate's making.
+            pub fn value(&mut self, name: &str, index: usize) -> Result<Option<Vec<u8>>, Error> {
+                value_in(&mut self.0, name, index)
+            }
+
+            /// The field with this number, from 0: a name in lower case, and a value. A name with several values is there once for each, one
+            /// after another. Nothing past the last one.
+            ///
+            /// # Errors
+            /// None of this crate's making.
+            pub fn field(&mut self, index: usize) -> Result<Option<(String, Vec<u8>)>, Error> {
+                field_in(&mut self.0, index)
+            }
+        }
+    )*};
+}
+
+head_of!(Head, Meta);
 
 // SAFETY of each call below: the handle is the caller's alone, slices hold what they say for the call, and what is written to is the
 // function's own.
