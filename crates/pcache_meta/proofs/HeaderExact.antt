@@ -16,7 +16,7 @@ use Rattle.http_header.specs.HeaderMap.{append, append_all, pairs}
 use Rattle.http_header.proofs.TokenLemmas.{IsHeaderName-from_test, AllPass-from_test}
 use Rattle.pcache_meta.specs.Header.{Fields, Header}
 use Rattle.pcache_meta.specs.HeaderText.{Field, IsField, FitsMap, field_text, field_line, fields_text, version_text, status_text, line_end, header_text, SpellsHeader}
-use Rattle.pcache_meta.specs.HeaderReading.{line_from, name_from, name_at, value_at, field_at, append_at, fields_at, version_at, status_at, status_line_at, ordered_at, header_at}
+use Rattle.pcache_meta.specs.HeaderReading.{line_from, name_from, name_at, value_at, field_at, append_at, fields_at, version_at, status_at, status_line_at, ordered_at, header_at, unordered_at}
 use Rattle.pcache_meta.specs.Reading.{◌>>=◌, bytes_at, mark_at}
 use Rattle.pcache_meta.specs.declared.header.HttpVersion.{HttpVersion}
 use Rattle.pcache_meta.specs.declared.header.HttpVersion.TheVariants.{Http09, Http10, Http11, Http2, Http3}
@@ -33,7 +33,7 @@ after_one None f y e go = absurd cc
 
 -- ---- the colon
 
-name_takes : (front bytes n r : List ℕ) → name_from front bytes ≡ Some (n, r) → (k : List ℕ) × (n ≡ front ++ k) × (bytes ≡ k ++ 0x3A ∷ r)
+pub name_takes : (front bytes n r : List ℕ) → name_from front bytes ≡ Some (n, r) → (k : List ℕ) × (n ≡ front ++ k) × (bytes ≡ k ++ 0x3A ∷ r)
 name_takes front [] n r e = absurd cc
 name_takes front (a ∷ bytes) n r e = elim (chosen (eqb a 0x3A) _ _ _ e) [
   | inl p ↦
@@ -365,3 +365,13 @@ header_again bytes h spelled =
     append_cancel_left (status_text h.version h.status ++ line_end) _ _ (sym spelled.text ∙ spelled.order ∙ ap (λ (m : Fields). header_text h.version h.status (pairs m)) spelled.fields) in
     rw (whole, line, status_line_again h.version h.status spelled.status, fields, ordered_again (fields_text spelled.lines) (append_all [] spelled.lines) same)
     (ap (λ (f : Fields). let x : Header = record { version = h.version; status = h.status; fields = f } in Some x) (sym spelled.fields))
+
+-- what is read is also read without a look at the order of its lines
+pub unordered_again : (bytes : List ℕ) (h : Header) → header_at bytes ≡ Some h → unordered_at bytes ≡ Some h
+unfolding header_at unordered_at
+unordered_again bytes h e = after (line_from [] bytes) _ h e (λ text rest line go.
+    after_one (status_line_at text) _ h go (λ x status go.
+    after_one (fields_at [] rest) _ h go (λ fields read go.
+    after_one (ordered_at rest fields) _ h go (λ ordered order end.
+    let stands = ordered_takes rest fields ordered order in
+    rw (line, status, read) (ap (λ (f : Fields). let y : Header = record { version = x.0; status = x.1; fields = f } in Some y) (sym stands.0) ∙ end)))))

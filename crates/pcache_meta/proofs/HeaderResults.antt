@@ -4,11 +4,12 @@ use Rattle.std.proofs.lemmas.Option.{same_Some}
 use Rattle.pcache_meta.specs.Header.{Header}
 use Rattle.pcache_meta.specs.HeaderText.{SpellsHeader}
 use Rattle.pcache_meta.specs.HeaderForm.{IsHeaderText}
-use Rattle.pcache_meta.specs.HeaderReading.{header_at}
-use Rattle.pcache_meta.specs.Reading.{FailsOrWants}
+use Rattle.std.specs.Prelude.{Result, Ok, Err, IfOk, IfErr}
+use Rattle.pcache_meta.specs.HeaderReading.{header_at, unordered_at}
+use Rattle.pcache_meta.specs.Reading.{FailsOrWants, GivesOrWants}
 use Rattle.pcache_base.specs.declared.error.ErrorType.{ErrorType}
 use Rattle.pcache_base.specs.declared.error.ErrorType.TheVariants.{InternalError, OutOfMemory}
-use Rattle.pcache_meta.proofs.HeaderExact.{header_takes, header_again}
+use Rattle.pcache_meta.proofs.HeaderExact.{header_takes, header_again, unordered_again}
 
 -- a head that was read is spelled, and is the one that is
 pub read_found : (bytes : List ℕ) (h : Header) → header_at bytes ≡ Some h → SpellsHeader bytes h
@@ -22,3 +23,18 @@ pub refused_for_form : (e : ErrorType) (bytes : List ℕ) (h : Header) → Fails
 refused_for_form InternalError bytes h none never spelled = let some = header_again bytes h spelled in absurd (cc (none, some))
 refused_for_form OutOfMemory bytes h none never spelled = never refl (h, spelled)
 refused_for_form _ bytes h none never spelled = none
+
+-- a head that was read line by line is the one that is spelled
+pub kept_same : (bytes : List ℕ) (found h : Header) → unordered_at bytes ≡ Some found → SpellsHeader bytes h → found ≡ h
+kept_same bytes found h read spelled = same_Some found h (sym read ∙ unordered_again bytes h (header_again bytes h spelled))
+
+pub kept_ok : {T : Type 0} (view : T → Header) (r : Result T ErrorType) (bytes : List ℕ) (h : Header) → GivesOrWants view r (unordered_at bytes) → SpellsHeader bytes h → IfOk r (λ x. view x ≡ h)
+kept_ok view (Ok x) bytes h read spelled = kept_same bytes (view x) h read spelled
+kept_ok view (Err e) bytes h read spelled = tt
+
+-- reading such a text fails only when memory runs out
+pub kept_kind : {T : Type 0} (view : T → Header) (r : Result T ErrorType) (bytes : List ℕ) → GivesOrWants view r (unordered_at bytes) → IsHeaderText bytes → IfErr r (λ e. e ≡ OutOfMemory)
+kept_kind view (Ok x) bytes read text = tt
+kept_kind view (Err InternalError) bytes read text = let some = unordered_again bytes text.0 (header_again bytes text.0 text.1) in absurd (cc (read, some))
+kept_kind view (Err OutOfMemory) bytes read text = refl
+kept_kind view (Err _) bytes read text = absurd read

@@ -1,5 +1,6 @@
 pub mod Exact
 pub mod HashLoop
+pub mod HeaderCuts
 pub mod HeaderExact
 pub mod HeaderForm
 pub mod HeaderGroups
@@ -8,6 +9,7 @@ pub mod HeaderMaps
 pub mod HeaderNames
 pub mod HeaderOrder
 pub mod HeaderResults
+pub mod HeaderScan
 pub mod HeaderSpelled
 pub mod MetaExact
 pub mod MetaKeeps

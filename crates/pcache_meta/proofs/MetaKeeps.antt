@@ -1,12 +1,11 @@
 -- Two byte strings that spell a meta are seen as that meta.
-use Rattle.std.proofs.Common.{◌≡◌, ℕ, List, ap, refl, inl, inr}
-use Rattle.std.specs.Prelude.{Result, Ok, Err, IfErr, IsErrOf, ◌⊎◌}
+use Rattle.std.proofs.Common.{◌≡◌, ℕ, List, ◌++◌, length, take, drop, refl, ap, ◌∙◌, arith, length-append}
+use Rattle.std.proofs.Math.Seq.{take-append_seam, drop-append_seam}
 use Rattle.pcache_meta.specs.Meta.{Meta}
 use Rattle.pcache_meta.specs.MetaBytes.{SpellsMeta}
-use Rattle.pcache_meta.specs.MetaSpelling.{SpellsInternal}
-use Rattle.pcache_meta.specs.MetaKept.{meta_at, meta_of, AreOf}
-use Rattle.pcache_base.specs.declared.error.ErrorType.{ErrorType}
-use Rattle.pcache_base.specs.declared.error.ErrorType.TheVariants.{OutOfMemory, InternalError}
+use Rattle.pcache_meta.specs.MetaKept.{meta_at, meta_of, AreOf, kept_at, IsKept}
+use Rattle.pcache_meta.specs.MetaWriting.{internal_written}
+use Rattle.pcache_meta.specs.HeaderText.{header_written}
 use Rattle.pcache_meta.proofs.HeaderExact.{header_again}
 use Rattle.pcache_meta.proofs.MetaExact.{internal_again}
 
@@ -15,25 +14,27 @@ pub meta_again : (internal header : List ℕ) (m : Meta) → SpellsMeta internal
 unfolding meta_at meta_of
 meta_again internal header m spelled = rw (internal_again internal m.internal spelled.0, header_again header m.header spelled.1) refl
 
--- the strings that are written of a meta, kept
-pub kept_of : (m : Meta) (internal header : List ℕ) → AreOf m internal header → AreOf (meta_of internal header) internal header
-kept_of m internal header are = rw (meta_again internal header m are.spelled) are
+-- the strings that are written of a meta, one behind the other, are seen as that meta
+pub kept_again : (text internal header : List ℕ) (split : ℕ) (m : Meta) → text ≡ internal ++ header → split ≡ length internal → SpellsMeta internal header m → kept_at split text ≡ m
+unfolding kept_at
+kept_again text internal header split m whole at spelled =
+    rw (whole, at, take-append_seam internal header, drop-append_seam internal header) (meta_again internal header m spelled)
 
--- the strings that are kept, as they are read, spell what they are seen as
-pub kept_spelled : (m : Meta) (a b internal header : List ℕ) → a ≡ internal → b ≡ header → meta_of internal header ≡ m
-    → AreOf (meta_of internal header) internal header → SpellsMeta a b m
-kept_spelled m a b internal header first second is are = rw (first, second, ← is) are.spelled
+pub is_kept : (text internal header : List ℕ) (split : ℕ) (m : Meta) → text ≡ internal ++ header → split ≡ length internal → AreOf m internal header → IsKept split text
+is_kept text internal header split m whole at are = record {
+  within = let size = ap (λ (x : List ℕ). length x) whole ∙ length-append internal header in omega (arith, size, at);
+  parts =
+      let front : take split text ≡ internal = rw (whole, at) (take-append_seam internal header) in
+      let rest : drop split text ≡ header = rw (whole, at) (drop-append_seam internal header) in
+      rw (kept_again text internal header split m whole at are.spelled, front, rest) are;
+}
 
--- what the first of them says is what the meta says beside its head
-pub kept_said : (m : Meta) (a internal header : List ℕ) → a ≡ internal → meta_of internal header ≡ m → AreOf (meta_of internal header) internal header → SpellsInternal a m.internal
-kept_said m a internal header first is are = rw (first, ← is) are.spelled.0
+-- what is kept, as it is read
+pub kept_said : (m : Meta) (split : ℕ) (text : List ℕ) → kept_at split text ≡ m → IsKept split text → take split text ≡ internal_written m.internal
+kept_said m split text is kept = rw (← is) kept.parts.said
 
--- reading what spells a meta fails only when memory runs out
-pub wants_memory : {T : Type 0} (r : Result T ErrorType) (m : Meta) (internal header : List ℕ) → SpellsMeta internal header m
-    → (IsErrOf r InternalError → (x : Meta) → ¬ (SpellsMeta internal header x)) → IfErr r (λ e. (e ≡ OutOfMemory) ⊎ (e ≡ InternalError))
-    → IfErr r (λ e. e ≡ OutOfMemory)
-wants_memory (Ok t) m internal header spelled refused kinds = tt
-wants_memory (Err e) m internal header spelled refused kinds = elim kinds [
-  | inl is ↦ is
-  | inr is ↦ absurd (refused (ap Err is) m spelled)
-]
+pub kept_head : (m : Meta) (split : ℕ) (text : List ℕ) → kept_at split text ≡ m → IsKept split text → drop split text ≡ header_written m.header
+kept_head m split text is kept = rw (← is) kept.parts.head
+
+pub kept_spelled : (m : Meta) (split : ℕ) (text : List ℕ) → kept_at split text ≡ m → IsKept split text → SpellsMeta (take split text) (drop split text) m
+kept_spelled m split text is kept = rw (← is) kept.parts.spelled

@@ -1,6 +1,6 @@
 -- Reading the text of a head from left to right. Each `.._at` gives exactly what `HeaderText` says
 -- (`proofs/HeaderExact.antt`).
-use Rattle.std.specs.Prelude.{ℕ, ◌+◌, ◌-◌, ◌*◌, ◌^◌, ◌&&◌, Bool, List, [], ◌∷◌, ◌++◌, length, Option, Some, None, nat_le, nat_lt, bytes_eq, codes, ◌==◌, if◌then◌else◌}
+use Rattle.std.specs.Prelude.{◌≡◌, ℕ, ◌+◌, ◌-◌, ◌*◌, ◌^◌, ◌&&◌, Bool, List, [], ◌∷◌, ◌++◌, length, Option, Some, None, nat_le, nat_lt, bytes_eq, codes, ◌==◌, if◌then◌else◌}
 use Rattle.std.specs.List.{list_all}
 use Rattle.http.specs.StatusCode.{code_digits}
 use Rattle.http_header.specs.FieldName.{is_header_name}
@@ -23,6 +23,14 @@ line_from front (a ∷ b ∷ bytes) =
 abbrev pub name_from : List ℕ → List ℕ → Option (List ℕ × List ℕ)
 name_from front [] = None
 name_from front (a ∷ bytes) = if a == 0x3A then Some (front, bytes) else name_from (front ++ a ∷ []) bytes
+
+-- the text begins with these bytes
+abbrev pub BeginsWith : List ℕ → List ℕ → Type 0
+BeginsWith text bytes = (more : List ℕ) × (text ≡ bytes ++ more)
+
+-- the text ends with these bytes
+abbrev pub EndsWith : List ℕ → List ℕ → Type 0
+EndsWith text bytes = (front : List ℕ) × (text ≡ front ++ bytes)
 
 -- a version and the space after it
 unfoldable pub version_at : List ℕ → Option HttpVersion
@@ -110,4 +118,12 @@ header_at bytes = do
   first ← status_line_at parts.0
   read ← fields_at [] parts.1
   fields ← ordered_at parts.1 read
+  Some (record { version = first.0; status = first.1; fields = fields })
+
+-- all of the bytes, in whatever order the lines are
+unfoldable pub unordered_at : List ℕ → Option Header
+unordered_at bytes = do
+  parts ← line_from [] bytes
+  first ← status_line_at parts.0
+  fields ← fields_at [] parts.1
   Some (record { version = first.0; status = first.1; fields = fields })

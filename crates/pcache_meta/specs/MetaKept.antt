@@ -1,5 +1,5 @@
--- A meta that is kept as the two byte strings that are written of it (own).
-use Rattle.std.specs.Prelude.{◌≡◌, ℕ, List, [], Option, Some, unwrap_or}
+-- A meta that is kept as the two byte strings that are written of it, one behind the other (own).
+use Rattle.std.specs.Prelude.{◌≡◌, ℕ, ◌≤◌, List, [], length, take, drop, Option, Some, unwrap_or}
 use Rattle.pcache_meta.specs.Header.{Header}
 use Rattle.pcache_meta.specs.HeaderReading.{header_at}
 use Rattle.pcache_meta.specs.HeaderText.{header_written}
@@ -31,3 +31,12 @@ pub record AreOf (m : Meta) (internal header : List ℕ) : Type 0 where
   pub said : internal ≡ internal_written m.internal
   pub head : header ≡ header_written m.header
   pub spelled : SpellsMeta internal header m
+
+-- the meta that a text spells: what it says beside its head up to the place `split`, and behind it the head
+unfoldable pub kept_at : ℕ → List ℕ → Meta
+kept_at split text = meta_of (take split text) (drop split text)
+
+-- the text is what is written of that meta, in two parts
+pub record IsKept (split : ℕ) (text : List ℕ) : Type 0 where
+  pub within : split ≤ length text
+  pub parts : AreOf (kept_at split text) (take split text) (drop split text)

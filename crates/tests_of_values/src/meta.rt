@@ -9,6 +9,7 @@ use pcache_meta::header::{HttpVersion, ResponseHeader};
 use pcache_meta::meta::CacheMeta;
 use pcache_meta::meta::spelled::SpelledMeta;
 use std::alloc::Global;
+use std::fmt::Write;
 
 fn at(secs: u64) -> Moment {
     Moment::from_secs(secs)
@@ -109,6 +110,7 @@ fn answer(
 ) {
     match word(call, 0) {
         "field" => told.yes_or_no(add_field(alloc, meta, word(call, 1), word(call, 2))),
+        "fields" => told.yes_or_no(add_fields(alloc, meta, number(call, 1))),
         "read" => tell_read(CacheMeta::deserialize(alloc, internal, header), told),
         "beginnings" => told.yes_or_no(refuses_beginnings(alloc, internal, header)),
         _ => tell_of(alloc, meta, call, told),
@@ -122,6 +124,18 @@ fn add_field(alloc: Global, meta: &mut CacheMeta, name: &str, value: &str) -> bo
         name,
         value.as_bytes(),
     )
+}
+
+// Adds so many names, each with its number as value.
+fn add_fields(alloc: Global, meta: &mut CacheMeta, count: u64) -> bool {
+    let mut name = String::new(alloc);
+    for number in 0..count {
+        name.clear();
+        if write!(name, "x{number}").is_err() || !add_field(alloc, meta, name.as_str(), name.as_str()) {
+            return false;
+        }
+    }
+    true
 }
 
 fn tell_of(alloc: Global, meta: &CacheMeta, call: &'static str, told: &mut Told) {
@@ -155,6 +169,7 @@ fn tell_copy(alloc: Global, meta: &CacheMeta, call: &'static str, told: &mut Tol
         "write" => tell_strings(meta.serialize(alloc), told),
         "again" => tell_again(written_and_read(alloc, meta), meta, told),
         "kept" => tell_kept(alloc, copy_kept(alloc, meta), told),
+        "kept-again" => tell_again(kept_and_read(alloc, meta), meta, told),
         _ => told.say("no such call"),
     }
 }
@@ -240,6 +255,10 @@ fn tell_again(read: Result<CacheMeta>, meta: &CacheMeta, told: &mut Told) {
 
 fn copy_kept(alloc: Global, meta: &CacheMeta) -> Result<SpelledMeta> {
     SpelledMeta::new(alloc, meta)?.copied(alloc)
+}
+
+fn kept_and_read(alloc: Global, meta: &CacheMeta) -> Result<CacheMeta> {
+    copy_kept(alloc, meta)?.meta(alloc)
 }
 
 // What is kept of the meta, once it was copied.
@@ -340,6 +359,15 @@ const STRINGS: &str = r"
     epoch-is 7
     field cache-control max-age=5 -> yes
     again -> 300 1 1 1 7!, 30 60 acacacacacacacacacacacacacacacac, the same fields
+    kept-again -> 300 1 1 1 7!, 30 60 acacacacacacacacacacacacacacacac, the same fields
+    # so do repeated names, a long unusual name, an empty value, and many names
+    field set-cookie a=1 -> yes
+    field x-a-name-that-is-in-no-list-of-names-and-longer-than-all-of-them 1 -> yes
+    field set-cookie b=2 -> yes
+    field x-empty -> yes
+    kept-again -> 300 1 1 1 7!, 30 60 acacacacacacacacacacacacacacacac, the same fields
+    fields 300 -> yes
+    kept-again -> 300 1 1 1 7!, 30 60 acacacacacacacacacacacacacacacac, the same fields
     # each shorter beginning is refused
     internal 9a 03 92 cd 01 2c 00 92 01 00 92 01 00 1e 3c c0 c0 92 01 00 07
     header HTTP/1.1 200\r\n\r\n

@@ -1,9 +1,11 @@
 //! Reading the text of a head.
-ghost use Rattle.std.specs.Prelude.{◌≡◌, [], IfOk, IfErr, IsErrOf, ◌⊎◌};
+ghost use Rattle.std.specs.Prelude.{◌≡◌, ◌↔◌, ◌≤◌, ◌++◌, IsTrue, ℕ, List, length, take, drop, [], IfOk, IfErr, IsErrOf, ◌⊎◌};
+ghost use Rattle.http_header.specs.FieldName.{IsFieldName};
+ghost use Rattle.http_header.specs.Token.{lowercase};
 ghost use Rattle.http_header.specs.HeaderMap.{RefusesAppend};
 ghost use Rattle.pcache_meta.specs.Header.{Header, shown, shown_fields};
 ghost use Rattle.pcache_meta.specs.HeaderForm.{IsHeaderText};
-ghost use Rattle.pcache_meta.specs.HeaderReading.{append_at, field_at, fields_at, header_at, line_from, name_at, name_from, ordered_at, status_at, status_line_at, value_at, version_at};
+ghost use Rattle.pcache_meta.specs.HeaderReading.{BeginsWith, EndsWith, append_at, field_at, fields_at, header_at, line_from, name_at, name_from, ordered_at, status_at, status_line_at, unordered_at, value_at, version_at};
 ghost use Rattle.pcache_meta.specs.HeaderText.{SpellsHeader};
 ghost use Rattle.pcache_meta.specs.Reading.{Gives, GivesOrWants, mark_at};
 ghost use Rattle.pcache_base.specs.declared.error.ErrorType.TheVariants.{InternalError, OutOfMemory};
@@ -12,12 +14,27 @@ use crate::header::{HttpVersion, ResponseHeader};
 use crate::header_text::form::is_header_text;
 use crate::header_text::order::are_lines_of;
 use crate::msgpack::reader::unreadable;
+use bytes::Bytes;
 use http::StatusCode;
 use http_header::{
-    HeaderMap, HeaderMapError, HeaderName, HeaderNameError, HeaderValue, HeaderValueError,
+    HeaderMap, HeaderMapError, HeaderName, HeaderNameError, HeaderValue, HeaderValueError, MAX_KEYS,
 };
+use memchr::memchr;
 use pcache_base::error::{Error, ErrorType, Result};
 use std::alloc::Global;
+
+// How many bytes come before the first CR, found by one search: they stay in their line.
+fn before_return(bytes: &[u8]) -> usize
+    ensures within { result ≤ length bytes.now }
+    ensures stays { (front : List ℕ)
+        → line_from (front ++ take result bytes.now) (drop result bytes.now)
+        ≡ line_from front bytes.now }
+{
+    match memchr(b'\r', bytes) {
+        Some(end) => end,
+        None => bytes.len(),
+    }
+}
 
 // The bytes before the first CR LF, and those after it.
 pub(super) fn split_line(bytes: &[u8]) -> Result<(&[u8], &[u8])>
@@ -29,8 +46,16 @@ pub(super) fn split_line(bytes: &[u8]) -> Result<(&[u8], &[u8])>
             return Ok((&bytes[..i], &bytes[i + 2..]));
         }
         i += 1;
+        i += before_return(&bytes[i..]);
     }
     Err(unreadable())
+}
+
+// The bytes of a text before the first CR LF, and those after it.
+fn first_line(text: &Bytes) -> Result<(&[u8], &[u8])>
+    ensures { Gives (λ x. (x.0.now, x.1.now)) result (line_from [] text.now) }
+{
+    split_line(text.as_slice())
 }
 
 // The bytes before the first colon, and those after it.
@@ -93,43 +118,84 @@ pub(super) fn status_line(text: &[u8]) -> Result<(HttpVersion, StatusCode)>
     Ok((version, status))
 }
 
-fn name_of(alloc: Global, bytes: &[u8]) -> Result<HeaderName>
+// The name that these bytes spell in any case. A text begins with them, and a name that is no standard
+// one stays a part of it.
+#[tactic(auto, using(crate::proofs::HeaderCuts::cut_front, crate::proofs::HeaderCuts::front_within))]
+fn found_name(
+    alloc: Global,
+    text: &Bytes,
+    bytes: &[u8],
+) -> std::result::Result<HeaderName, HeaderNameError>
+    requires { BeginsWith text.now bytes.now }
+    ensures ok { IfOk result (λ name. name ≡ lowercase bytes.now) }
+    ensures invalid { IsErrOf result HeaderNameError.Invalid → ¬ (IsFieldName bytes.now) }
+{
+    match HeaderName::standard(bytes) {
+        Some(name) => Ok(name),
+        None => HeaderName::from_shared(alloc, text.slice(..bytes.len())?),
+    }
+}
+
+// Whether the bytes are the same.
+fn is_same(left: &[u8], right: &[u8]) -> bool
+    ensures { IsTrue result ↔ (left.now ≡ right.now) }
+{
+    left == right
+}
+
+// The name that these bytes are, with which a text begins.
+fn name_of(alloc: Global, text: &Bytes, bytes: &[u8]) -> Result<HeaderName>
+    requires { BeginsWith text.now bytes.now }
     ensures { GivesOrWants (λ name. name) result (name_at bytes.now) }
 {
-    match HeaderName::from_lowercase(alloc, bytes) {
+    match found_name(alloc, text, bytes) {
         Ok(name) => {
-            // For the prover: its contract says what holds of each name.
-            let _bytes = name.as_bytes();
-            Ok(name)
+            if is_same(name.as_bytes(), bytes) {
+                Ok(name)
+            } else {
+                Err(unreadable())
+            }
         }
         Err(HeaderNameError::Invalid) => Err(unreadable()),
         Err(HeaderNameError::OutOfMemory) => Err(Error::new(ErrorType::OutOfMemory)),
     }
 }
 
-fn value_of(alloc: Global, bytes: &[u8]) -> Result<HeaderValue>
-    ensures { GivesOrWants (λ value. value.bytes) result (value_at bytes.now) }
+// The value that these bytes are.
+fn value_of(bytes: Bytes) -> Result<HeaderValue>
+    ensures { GivesOrWants (λ value. value.bytes) result (value_at bytes) }
 {
-    match HeaderValue::from_bytes(alloc, bytes) {
+    match HeaderValue::from_shared(bytes) {
         Ok(value) => {
             // For the prover: its contract says what holds of each value.
             let _bytes = value.as_bytes();
             Ok(value)
         }
-        Err(HeaderValueError::Invalid) => Err(unreadable()),
-        Err(HeaderValueError::OutOfMemory) => Err(Error::new(ErrorType::OutOfMemory)),
+        Err(_) => Err(unreadable()),
     }
 }
 
-// The name and the value that a line is.
-#[tactic(auto, unfolding(crate::specs::HeaderReading::field_at))]
-fn field_of(alloc: Global, line: &[u8]) -> Result<(HeaderName, HeaderValue)>
+// The value at the end of a line, with which a text begins. It stays a part of the text.
+#[tactic(auto, using(crate::proofs::HeaderCuts::cut_end, crate::proofs::HeaderCuts::end_within))]
+fn value_in(text: &Bytes, line: &[u8], value: &[u8]) -> Result<HeaderValue>
+    requires text { BeginsWith text.now line.now }
+    requires line { EndsWith line.now value.now }
+    ensures { GivesOrWants (λ v. v.bytes) result (value_at value.now) }
+{
+    let end = line.len();
+    value_of(text.slice(end - value.len()..end)?)
+}
+
+// The name and the value that a line is, with which a text begins. They stay parts of the text.
+#[tactic(auto, unfolding(crate::specs::HeaderReading::field_at), using(crate::proofs::HeaderCuts::begins_name, crate::proofs::HeaderCuts::ends_value))]
+fn field_of(alloc: Global, text: &Bytes, line: &[u8]) -> Result<(HeaderName, HeaderValue)>
+    requires { BeginsWith text.now line.now }
     ensures { GivesOrWants (λ f. (f.0, f.1.bytes)) result (field_at line.now) }
 {
     let (name, rest) = split_name(line)?;
-    let rest = behind_space(rest)?;
-    let name = name_of(alloc, name)?;
-    let value = value_of(alloc, rest)?;
+    let value = behind_space(rest)?;
+    let name = name_of(alloc, text, name)?;
+    let value = value_in(text, line, value)?;
     Ok((name, value))
 }
 
@@ -162,14 +228,26 @@ fn append_field(headers: &mut HeaderMap, name: HeaderName, value: HeaderValue) -
     }
 }
 
-// The map that the lines make, up to the empty line.
-fn read_fields(alloc: Global, bytes: &[u8]) -> Result<HeaderMap>
-    ensures { GivesOrWants (λ m. shown_fields m) result (fields_at [] bytes.now) }
+// A map with room for so many names.
+fn room_for(alloc: Global, names: usize) -> Result<HeaderMap>
+    ensures ok { IfOk result (λ m. m ≡ []) }
+    ensures kind { IfErr result (λ e. e ≡ OutOfMemory) }
 {
-    let mut headers = HeaderMap::new(alloc);
-    let mut rest = bytes;
+    match HeaderMap::with_capacity(alloc, names.min(MAX_KEYS)) {
+        Ok(headers) => Ok(headers),
+        Err(_) => Err(Error::new(ErrorType::OutOfMemory)),
+    }
+}
+
+// The map that the lines make, up to the empty line. It is made with room for so many names.
+#[tactic(auto, using(crate::proofs::HeaderCuts::begins, crate::proofs::HeaderCuts::line_end_within))]
+fn read_fields(alloc: Global, text: Bytes, names: usize) -> Result<HeaderMap>
+    ensures { GivesOrWants (λ m. shown_fields m) result (fields_at [] text) }
+{
+    let mut headers = room_for(alloc, names)?;
+    let mut rest = text;
     'lines: loop {
-        let (line, behind) = split_line(rest)?;
+        let (line, behind) = first_line(&rest)?;
         if line.is_empty() {
             return if behind.is_empty() {
                 Ok(headers)
@@ -177,9 +255,10 @@ fn read_fields(alloc: Global, bytes: &[u8]) -> Result<HeaderMap>
                 Err(unreadable())
             };
         }
-        let (name, value) = field_of(alloc, line)?;
+        let len = line.len();
+        let (name, value) = field_of(alloc, &rest, line)?;
         append_field(&mut headers, name, value)?;
-        rest = behind;
+        rest.advance(len + 2);
     }
 }
 
@@ -203,13 +282,43 @@ fn read_header(alloc: Global, bytes: &[u8]) -> Result<ResponseHeader>
 {
     let (line, rest) = split_line(bytes)?;
     let (version, status) = status_line(line)?;
-    let headers = read_fields(alloc, rest)?;
+    let headers = read_fields(alloc, Bytes::copy_from_slice(alloc, rest)?, 0)?;
     in_order(rest, &headers)?;
     Ok(ResponseHeader {
         version,
         status,
         headers,
     })
+}
+
+// The head that all of the bytes are, in whatever order its lines are. Its values stay parts of the text.
+#[tactic(auto, unfolding(crate::specs::HeaderReading::unordered_at), using(crate::proofs::HeaderCuts::line_end_within, crate::proofs::HeaderCuts::behind_line))]
+fn read_unordered(alloc: Global, text: Bytes, names: usize) -> Result<ResponseHeader>
+    ensures { GivesOrWants (λ h. shown h) result (unordered_at text) }
+{
+    let mut rest = text;
+    let (line, _) = first_line(&rest)?;
+    let (version, status) = status_line(line)?;
+    let end = line.len() + 2;
+    rest.advance(end);
+    let headers = read_fields(alloc, rest, names)?;
+    Ok(ResponseHeader {
+        version,
+        status,
+        headers,
+    })
+}
+
+/// The head whose text all of the bytes are, as a caller knows: their order is not looked at again. Its map
+/// is made with room for so many names. Its
+/// values are parts of the text and no copies, so the text stays in memory as long as one of them does.
+/// Fails only when memory runs out.
+pub fn header_kept(alloc: Global, text: Bytes, names: usize) -> Result<ResponseHeader>
+    requires { IsHeaderText text }
+    ensures ok { (h : Header) → SpellsHeader text h → IfOk result (λ found. shown found ≡ h) }
+    ensures kind { IfErr result (λ e. e ≡ OutOfMemory) }
+{
+    read_unordered(alloc, text, names)
 }
 
 /// The head whose text all of the bytes are: its lines are grouped by name, in the order in which the

@@ -1,38 +1,42 @@
 //! Metas kept as bytes.
-ghost use Rattle.std.specs.Prelude.{◌≡◌, IfOk, IfErr};
+ghost use Rattle.std.specs.Prelude.{◌≡◌, ◌≤◌, length, take, drop, IfOk, IfErr};
 ghost use Rattle.pcache_meta.specs.HeaderText.{header_written};
 ghost use Rattle.pcache_meta.specs.Meta.{with_entry_id};
 ghost use Rattle.pcache_meta.specs.MetaBytes.{SpellsMeta};
 ghost use Rattle.pcache_meta.specs.MetaWriting.{internal_written};
 ghost use Rattle.pcache_base.specs.declared.error.ErrorType.TheVariants.{OutOfMemory};
 
+use crate::header_text::reader::header_kept;
 use crate::header_text::writer::header_serialize;
 use crate::meta::CacheMeta;
 use crate::meta::codec::deserialize_internal;
 use crate::meta::internal_meta::InternalMetaLatest;
+use bytes::Bytes;
 use pcache_base::entry_id::CacheEntryId;
-use pcache_base::error::Result;
+use pcache_base::error::{Error, ErrorType, Result};
 use std::alloc::Global;
 use std::marker::Model;
 
-/// A meta kept as the two byte strings that `CacheMeta::serialize` gives of it.
+/// A meta kept as the two byte strings that `CacheMeta::serialize` gives of it, one behind the other in
+/// one shared text: a copy copies no byte, and of a meta that is read back the values are parts of it.
 ///
 /// A contract sees the meta that they spell.
 #[derive(Drop)]
 pub struct SpelledMeta {
-    internal: Vec<u8>,
-    header: Vec<u8>,
+    text: Bytes,
+    split: usize,
+    names: usize,
 }
 
 impl Model for SpelledMeta {
     ghost use Rattle.pcache_meta.specs.Meta.{Meta};
-    ghost use Rattle.pcache_meta.specs.MetaKept.{AreOf, meta_of};
+    ghost use Rattle.pcache_meta.specs.MetaKept.{IsKept, kept_at};
 
     ghost Value = { Meta };
 
-    ghost view = { λ s. meta_of s.internal.items s.header.items };
+    ghost view = { λ s. kept_at s.split s.text };
 
-    ghost invariant = { λ s. AreOf (meta_of s.internal.items s.header.items) s.internal.items s.header.items };
+    ghost invariant = { λ s. IsKept s.split s.text };
 }
 
 impl SpelledMeta {
@@ -58,16 +62,26 @@ impl SpelledMeta {
             entry_id,
             ..meta.internal
         };
-        let internal = said.serialize(alloc)?;
+        let mut text = said.serialize(alloc)?;
         let header = header_serialize(alloc, &meta.header)?;
-        Ok(SpelledMeta { internal, header })
+        let split = text.len();
+        text.reserve_exact(header.len())?;
+        text.extend_from_slice(header.as_slice())?;
+        match Bytes::from_vec(text) {
+            Ok(text) => Ok(SpelledMeta {
+                text,
+                split,
+                names: meta.header.headers.keys_len(),
+            }),
+            Err(_) => Err(Error::new(ErrorType::OutOfMemory)),
+        }
     }
 
     /// The number of the write that stored the body, if the meta names one.
     pub fn entry_id(&self) -> Option<CacheEntryId>
         ensures { result ≡ self.now.entry_id }
     {
-        match deserialize_internal(self.internal.as_slice()) {
+        match deserialize_internal(self.strings().0) {
             Ok(said) => said.entry_id,
             Err(_) => unreachable!(),
         }
@@ -79,25 +93,43 @@ impl SpelledMeta {
         ensures header { result.1.now ≡ header_written self.now.header }
         ensures spelled { SpellsMeta result.0.now result.1.now self.now }
     {
-        (self.internal.as_slice(), self.header.as_slice())
+        parts_of(&self.text, self.split)
     }
 
-    /// The meta, read back. Fails only when memory runs out.
+    /// The meta, read back. Its values are parts of the kept text and no copies, so the text stays in
+    /// memory as long as one of them does. Fails only when memory runs out.
     pub fn meta(&self, alloc: Global) -> Result<CacheMeta>
         ensures ok { IfOk result (λ m. m ≡ self.now) }
         ensures kind { IfErr result (λ e. e ≡ OutOfMemory) }
     {
-        CacheMeta::deserialize(alloc, self.internal.as_slice(), self.header.as_slice())
+        let Ok(internal) = deserialize_internal(self.strings().0) else {
+            unreachable!();
+        };
+        let mut head = self.text.clone()?;
+        head.advance(self.split);
+        let header = header_kept(alloc, head, self.names)?;
+        Ok(CacheMeta { internal, header })
     }
 
-    /// A copy of the same meta. Fails only when memory runs out.
-    pub fn copied(&self, alloc: Global) -> Result<SpelledMeta>
+    /// A copy of the same meta, which shares its text. Fails only when the text has as many owners as
+    /// can be counted.
+    pub fn copied(&self, _alloc: Global) -> Result<SpelledMeta>
         ensures ok { IfOk result (λ copy. copy ≡ self.now) }
         ensures kind { IfErr result (λ e. e ≡ OutOfMemory) }
     {
         Ok(SpelledMeta {
-            internal: Vec::from_slice(alloc, self.internal.as_slice())?,
-            header: Vec::from_slice(alloc, self.header.as_slice())?,
+            text: self.text.clone()?,
+            split: self.split,
+            names: self.names,
         })
     }
+}
+
+// The bytes of a text before a place, and those from there on.
+fn parts_of(text: &Bytes, split: usize) -> (&[u8], &[u8])
+    requires { split ≤ length text.now }
+    ensures front { result.0.now ≡ take split text.now }
+    ensures rest { result.1.now ≡ drop split text.now }
+{
+    text.as_slice().split_at(split)
 }

@@ -1,13 +1,15 @@
-use Rattle.pcache_meta.proofs.MetaKeeps.{kept_spelled, wants_memory}
+use Rattle.std.proofs.Common.{ℕ, List, drop, ap, ◌∙◌}
+use Rattle.pcache_meta.specs.Header.{shown}
+use Rattle.pcache_meta.proofs.MetaKeeps.{kept_spelled}
+use Rattle.pcache_meta.proofs.MetaMade.{meta_made}
 use Rattle.pcache_meta.proofs.meta.spelled.SpelledMeta.meta.Goals as goal
+
+pub unreachable-requires : goal.unreachable-requires
+unreachable-requires c = c.in_default.ensures.refused c.args.self.now.internal c.strings.ensures.spelled.0
 
 pub returns-clause-ok : goal.returns-clause-ok
 returns-clause-ok c =
-    c.deserialize.ensures.same c.args.self.now
-    (kept_spelled c.args.self.now c.as_slice.result.now c.as_slice-2.result.now _ _ c.as_slice.ensures.value c.as_slice-2.ensures.value c.self.view_is c.self.invariant)
-
-pub returns-clause-kind : goal.returns-clause-kind
-returns-clause-kind c =
-    wants_memory c.deserialize.result c.args.self.now c.as_slice.result.now c.as_slice-2.result.now
-    (kept_spelled c.args.self.now c.as_slice.result.now c.as_slice-2.result.now _ _ c.as_slice.ensures.value c.as_slice-2.ensures.value c.self.view_is c.self.invariant)
-    c.deserialize.ensures.refused c.deserialize.ensures.kinds
+    let kept = kept_spelled c.args.self.now c.self.inside.split c.self.inside.text c.self.view_is c.self.invariant in
+    let head = c.advance.ensures ∙ ap (λ (x : List ℕ). drop c.self.inside.split x) c.in_ok-head.ensures.cases in
+    meta_made c.in-Ok.internal (shown c.in_ok-header.header) c.args.self.now (c.in-Ok.ensures.same c.args.self.now.internal c.strings.ensures.spelled.0)
+    (c.in_ok-header.ensures.ok c.args.self.now.header (rw head kept.1))

@@ -1,19 +1,27 @@
-use Rattle.std.proofs.Common.{ap, ◌∙◌}
+use Rattle.std.proofs.Common.{◌≡◌, ◌++◌, length, refl, ap, ◌∙◌, arith}
 use Rattle.pcache_meta.specs.Header.{shown}
 use Rattle.pcache_meta.specs.Meta.{Meta, with_entry_id}
-use Rattle.pcache_meta.proofs.MetaKeeps.{kept_of, meta_again}
+use Rattle.pcache_meta.proofs.MetaKeeps.{kept_again, is_kept}
 use Rattle.pcache_meta.proofs.meta.spelled.SpelledMeta.with_entry_id.Goals as goal
 
 pub invariant_of-result : goal.invariant_of-result
 invariant_of-result c =
     let m : Meta = record { internal = c.meta.inside.internal; header = shown c.meta.inside.header } in
-    kept_of (with_entry_id c.args.entry_id m) c.in_ok-internal.internal.items c.in_ok-header.header.items (record {
-      said = c.in_ok-internal.ensures.written;
+    let whole : c.in-Ok.text ≡ c.in_ok-text.text.items ++ c.in_ok-header.header.items =
+    c.in-Ok.ensures.ok ∙ c.in_ok-extend_from_slice.ensures.items ∙ rw (c.in_ok-reserve_exact.ensures.items, c.as_slice.ensures.value) refl in
+    let at : c.len-split.result ≡ length c.in_ok-text.text.items = omega (arith, c.len-split.ensures, c.in_ok-text.text.ok.0) in
+    is_kept c.in-Ok.text c.in_ok-text.text.items c.in_ok-header.header.items c.len-split.result (with_entry_id c.args.entry_id m) whole at (record {
+      said = c.in_ok-text.ensures.written;
       head = c.in_ok-header.ensures.written;
-      spelled = (c.in_ok-internal.ensures.spelled, c.in_ok-header.ensures.spelled);
+      spelled = (c.in_ok-text.ensures.spelled, c.in_ok-header.ensures.spelled);
     })
 
-pub returns-clause-ok : goal.returns-clause-ok
-returns-clause-ok c =
+pub returns-in-Ok-clause-ok : goal.returns-in-Ok-clause-ok
+returns-in-Ok-clause-ok c =
     let m : Meta = record { internal = c.meta.inside.internal; header = shown c.meta.inside.header } in
-    meta_again c.in_ok-internal.internal.items c.in_ok-header.header.items (with_entry_id c.args.entry_id m) (c.in_ok-internal.ensures.spelled, c.in_ok-header.ensures.spelled) ∙ ap (with_entry_id c.args.entry_id) c.meta.view_is
+    let whole : c.in-Ok.text ≡ c.in_ok-text.text.items ++ c.in_ok-header.header.items =
+    c.in-Ok.ensures.ok ∙ c.in_ok-extend_from_slice.ensures.items ∙ rw (c.in_ok-reserve_exact.ensures.items, c.as_slice.ensures.value) refl in
+    let at : c.len-split.result ≡ length c.in_ok-text.text.items = omega (arith, c.len-split.ensures, c.in_ok-text.text.ok.0) in
+    kept_again c.in-Ok.text c.in_ok-text.text.items c.in_ok-header.header.items c.len-split.result (with_entry_id c.args.entry_id m) whole at
+    (c.in_ok-text.ensures.spelled, c.in_ok-header.ensures.spelled)
+    ∙ ap (λ (x : Meta). with_entry_id c.args.entry_id x) c.meta.view_is
