@@ -22,6 +22,7 @@ impl<M: EvictionManager, K> Cache<M, K> {
     ghost use Rattle.pcache_request.specs.Phases.{IsFilling};
     ghost use Rattle.pcache_request.specs.Failures.{FailsToBegin};
     ghost use Rattle.pcache_request.specs.Requests.{MayWrite, begin_followed, settled, store_begun, write_begun};
+    ghost use Rattle.pcache_request.specs.Sizes.{exceeds_head};
     ghost use Rattle.pcache_request.specs.LockPasts.{end_deeds, settled_deeds};
     ghost use Rattle.pcache_request.specs.StorePasts.{EndsRequestPast, writing_past};
     ghost use Rattle.pcache_request.specs.WriteEnds.{Ends, EndsAs, evicted_after};
@@ -70,15 +71,26 @@ impl<M: EvictionManager, K> Cache<M, K> {
             .set_miss_handler(&mut self.store, &mut self.lock)
     }
 
-    /// The length of the text of the head that the request's write stores, in bytes; `None` without a write. It is for heads what
-    /// `track_body_bytes_for_max_file_size` is for bodies: who limits them asks for it once the write has begun, and turns caching
-    /// off for a head that is too large, as for a body.
+    /// The length of the text of the head that the request's write stores, in bytes; `None` without a write.
     pub fn head_length(&self, request: &CacheRequest<K>) -> Option<usize>
         ensures { result ≡ written_head self.now.store request.now.cache.write }
     {
         let writer = request.cache.writer()?;
         let (_body, head) = writer.lengths(&self.store);
         Some(head)
+    }
+
+    /// Whether the head that the request's write stores is longer than the request's limit (`set_max_head_size_bytes`). Without a
+    /// limit, and without a write, it is not. It is for heads what `HttpCache::exceeded_max_file_size` is for bodies: who limits
+    /// them asks once the write has begun, and turns caching off for `ResponseTooLarge`.
+    pub fn exceeded_max_head_size(&self, request: &CacheRequest<K>) -> bool
+        ensures { result ≡ exceeds_head request.now.cache.head_limit
+            (written_head self.now.store request.now.cache.write) }
+    {
+        let Some(length) = self.head_length(request) else {
+            return false;
+        };
+        !request.cache.is_head_within(length)
     }
 
     /// Adds bytes to the request's write, and with `eof` announces that they are the last. Without a write, or after the last

@@ -51,6 +51,8 @@ pub record Request : Type 0 where
   pub stale_variance : Option (List ℕ)
   -- the count of the body's bytes, if their number is limited
   pub size : Option Counted
+  -- the length in bytes of the longest head that it stores, if that is limited
+  pub head_limit : Option ℕ
   -- why its response was predicted not to be cacheable, if the cache was bypassed for that
   pub predicted : Option NoCacheReason
   -- an admission policy is in use
@@ -63,11 +65,11 @@ nothing_used = record { eviction = false; predictor = false; lock = false }
 
 -- a request before caching is turned on
 abbrev pub new_request : Request
-new_request = record { phase = phase.Disabled reason.NeverEnabled; uses = nothing_used; key = None; meta = None; held = None; reader = None; write = None; entry = None; wait_timeout = None; max_retries = None; waits_since = None; valid_after = None; stale_variance = None; size = None; predicted = None; has_policy = false; digest = empty_digest }
+new_request = record { phase = phase.Disabled reason.NeverEnabled; uses = nothing_used; key = None; meta = None; held = None; reader = None; write = None; entry = None; wait_timeout = None; max_retries = None; waits_since = None; valid_after = None; stale_variance = None; size = None; head_limit = None; predicted = None; has_policy = false; digest = empty_digest }
 
 -- a request that was just enabled
 abbrev pub enabled_request : InUse → Request
-enabled_request uses = record { phase = phase.Uninit; uses = uses; key = None; meta = None; held = None; reader = None; write = None; entry = None; wait_timeout = None; max_retries = None; waits_since = None; valid_after = None; stale_variance = None; size = None; predicted = None; has_policy = false; digest = empty_digest }
+enabled_request uses = record { phase = phase.Uninit; uses = uses; key = None; meta = None; held = None; reader = None; write = None; entry = None; wait_timeout = None; max_retries = None; waits_since = None; valid_after = None; stale_variance = None; size = None; head_limit = None; predicted = None; has_policy = false; digest = empty_digest }
 
 -- a request that is enabled keeps its digest
 abbrev pub enabled_with : InUse → Request → Request

@@ -76,6 +76,7 @@ pub struct HttpCache<S: Storage> {
     valid_after: Option<Moment>,
     stale_variance: Option<HashBinary>,
     size: Option<MaxFileSizeTracker>,
+    head_limit: Option<usize>,
     predicted: Option<NoCacheReason>,
     has_policy: bool,
     digest: HttpCacheDigest,
@@ -105,6 +106,7 @@ impl<S: Storage> Model for HttpCache<S> {
       valid_after = a.valid_after;
       stale_variance = a.stale_variance;
       size = a.size;
+      head_limit = a.head_limit;
       predicted = a.predicted;
       has_policy = a.has_policy;
       digest = a.digest;
@@ -320,6 +322,7 @@ impl<S: Storage> HttpCache<S> {
             valid_after: None,
             stale_variance: None,
             size: None,
+            head_limit: None,
             predicted: None,
             has_policy: false,
             digest: HttpCacheDigest::new(),
@@ -344,6 +347,7 @@ impl<S: Storage> HttpCache<S> {
         self.valid_after = None;
         self.stale_variance = None;
         self.size = None;
+        self.head_limit = None;
         self.predicted = None;
         self.has_policy = false;
     }
@@ -743,6 +747,7 @@ impl<S: Storage> HttpCache<S> {
             valid_after: _,
             stale_variance: _,
             size: _,
+            head_limit: _,
             predicted: _,
             has_policy: _,
             digest: _,

@@ -14,6 +14,7 @@ impl<M: EvictionManager, K: Mark, const N: usize> SharedCache<M, K, N> {
     ghost use Rattle.pcache_request.specs.Finishing.{after_finish};
     ghost use Rattle.pcache_request.specs.Phases.{IsFilling};
     ghost use Rattle.pcache_request.specs.Requests.{MayWrite};
+    ghost use Rattle.pcache_request.specs.Sizes.{exceeds_head};
     ghost use Rattle.pcache_shared_cache.specs.Calls.{BeginsWrite, EndsWriteOf, Writes};
     ghost use Rattle.pcache_cache.specs.Weighing.{written_head};
     ghost use Rattle.pcache_shared_cache.specs.Seen.{Goes, Sees};
@@ -68,6 +69,25 @@ impl<M: EvictionManager, K: Mark, const N: usize> SharedCache<M, K, N> {
         let part = &mut *guard;
         part.log.shows(&mut request.sight);
         part.cache.head_length(&request.request)
+    }
+
+    /// `Cache::exceeded_max_head_size`: whether the head that the request's write stores is longer than the request's limit
+    /// (`set_max_head_size_bytes`). Without a limit, and without a write, it is not.
+    pub fn exceeded_max_head_size<R: Wait>(
+        &self,
+        rt: &R,
+        request: &mut SharedRequest<K, N>,
+    ) -> bool
+        ensures sees { Sees self.now K.names request.old.place request.old.seen request.new.seen
+            (λ p. result ≡ exceeds_head request.old.cache.head_limit
+            (written_head p.store request.old.cache.write)) }
+        ensures rest { request.new ≡ record request.old { seen = request.new.seen } }
+    {
+        let lock = self.part(request.place());
+        let mut guard = lock.lock(rt);
+        let part = &mut *guard;
+        part.log.shows(&mut request.sight);
+        part.cache.exceeded_max_head_size(&request.request)
     }
 
     /// `Cache::finish_miss_handler`: ends the write and stores the body, whose entry is admitted; what is evicted for it is

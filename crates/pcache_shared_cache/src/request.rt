@@ -48,7 +48,7 @@ impl<K: Mark, const N: usize> SharedRequest<K, N> {
     ghost use Rattle.pcache_base.specs.declared.error.ErrorType.TheVariants.{InternalError};
     ghost use Rattle.pcache_request.specs.LockUse.{permit_in, unheld};
     ghost use Rattle.pcache_request.specs.Phases.{IsOn, IsStale, MayBypass, MayLookUp, MayMiss, WasEnabled};
-    ghost use Rattle.pcache_request.specs.Sizes.{is_within, limit_of, with_bytes, with_limit};
+    ghost use Rattle.pcache_request.specs.Sizes.{is_within, limit_of, with_bytes, with_head_limit, with_limit};
     ghost use Rattle.pcache_store.specs.Store.{sought};
     ghost use Rattle.pcache_request.specs.Releasing.{bypassed};
     ghost use Rattle.pcache_request.specs.Requests.{MayTakeMeta, enabled_with, missed, new_request, with_key, with_meta};
@@ -220,6 +220,24 @@ impl<K: Mark, const N: usize> SharedRequest<K, N> {
         ensures { result ≡ not (is_within self.now.cache.size) }
     {
         self.request.cache.exceeded_max_file_size()
+    }
+
+    /// `HttpCache::set_max_head_size_bytes`: limits the length of the head that is stored, in bytes.
+    pub fn set_max_head_size_bytes(&mut self, max_head_size_bytes: usize)
+        requires { IsOn self.old.cache.phase }
+        ensures { self.new
+            ≡ record self.old { cache = with_head_limit max_head_size_bytes self.old.cache } }
+    {
+        self.request
+            .cache
+            .set_max_head_size_bytes(max_head_size_bytes);
+    }
+
+    /// `HttpCache::max_head_size_bytes`: the limit on the length of the head, if there is one.
+    pub fn max_head_size_bytes(&self) -> Option<usize>
+        ensures { result ≡ self.now.cache.head_limit }
+    {
+        self.request.cache.max_head_size_bytes()
     }
 
     /// `HttpCache::take_write_lock`: takes the permit out, so that another request of the same part can

@@ -174,13 +174,18 @@ fn fill_below_in(cache: &mut List, request: &mut Request, value: &str, most: usi
     requires uses { request.old.cache.uses.eviction ≡ true }
 {
     let meta = varying(cache.alloc(), value)?;
+    request.cache.set_max_head_size_bytes(most);
     request.cache.cache_miss();
     request.cache.set_cache_meta(meta);
     if cache.head_length(request).is_some() {
         return Ok(true);
     }
     cache.set_miss_handler(request)?;
-    if !matches!(cache.head_length(request), Some(length) if length <= most) {
+    let is_longer = !matches!(cache.head_length(request), Some(length) if length <= most);
+    if is_longer != cache.exceeded_max_head_size(request) {
+        return Ok(!is_longer);
+    }
+    if is_longer {
         return Ok(turn_off(cache, request));
     }
     cache.write_body(request, Bytes::from_static(b"aa"), true)?;

@@ -9,6 +9,9 @@ use pcache_base::poll::Poll;
 use pcache_request::phase::HitStatus;
 use std::sync::Wait;
 
+// The head that each write of these tests stores.
+const HEAD: &str = "HTTP/1.1 200\r\n\r\n";
+
 #[test]
 fn a_body_that_breaks_off_is_not_whole(rt: HostRuntime) -> Result<()> {
     let cache = lists_of(rt.alloc(), 32)?;
@@ -53,11 +56,15 @@ fn follows<R: Wait>(
     requires writer { writer.old.cache.phase ≡ CacheKey }
     requires reader { reader.old.cache.phase ≡ CacheKey }
 {
+    writer.set_max_head_size_bytes(HEAD.len() - 1);
     writer.cache_miss();
     writer.set_cache_meta(meta_of(cache.alloc()));
     cache.set_miss_handler(rt, writer)?;
+    let length = cache.head_length(rt, writer);
+    let is_longer = cache.exceeded_max_head_size(rt, writer);
     cache.write_body(rt, writer, Bytes::from_static(b"he"), false)?;
-    is_read(rt, cache, reader, b"he")
+    let is_read = is_read(rt, cache, reader, b"he")?;
+    Ok(is_read && is_longer && length == Some(HEAD.len()))
 }
 
 // Finds the body, and reads a piece of it.

@@ -110,6 +110,7 @@ impl HttpCache<MemCache> {
             valid_after: _,
             stale_variance: _,
             size: _,
+            head_limit: _,
             predicted: _,
             has_policy: _,
             digest: _,

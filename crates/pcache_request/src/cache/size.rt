@@ -1,4 +1,4 @@
-//! The limit on a body's size.
+//! The limits on a body's size and on a head's.
 use super::HttpCache;
 use pcache_put::max_file_size::MaxFileSizeTracker;
 use pcache_store::storage::Storage;
@@ -6,7 +6,7 @@ use pcache_store::storage::Storage;
 impl<S: Storage> HttpCache<S> {
     ghost use Rattle.std.specs.Prelude.{◌≡◌, not, option_map};
     ghost use Rattle.pcache_request.specs.Phases.{IsOn, WasEnabled};
-    ghost use Rattle.pcache_request.specs.Sizes.{with_limit, limit_of, with_bytes, is_within};
+    ghost use Rattle.pcache_request.specs.Sizes.{with_limit, limit_of, with_bytes, is_within, with_head_limit, is_head_within};
 
     /// Limits the number of the body's bytes, and sets their count to zero.
     /// Requires that caching is on; ask `phase().is_on()`.
@@ -52,5 +52,30 @@ impl<S: Storage> HttpCache<S> {
             Some(size) => !size.allow_caching(),
             None => false,
         }
+    }
+
+    /// Limits the length of the head that is stored, the text with its lines' ends, in bytes. Own; for heads what
+    /// `set_max_file_size_bytes` is for bodies.
+    /// Requires that caching is on; ask `phase().is_on()`.
+    pub fn set_max_head_size_bytes(&mut self, max_head_size_bytes: usize)
+        requires { IsOn self.old.phase }
+        ensures { self.new ≡ with_head_limit max_head_size_bytes self.old }
+    {
+        self.head_limit = Some(max_head_size_bytes);
+    }
+
+    /// The limit on the length of the head, in bytes, if there is one.
+    pub fn max_head_size_bytes(&self) -> Option<usize>
+        ensures { result ≡ self.now.head_limit }
+    {
+        self.head_limit
+    }
+
+    /// Whether a head of so many bytes is within the limit. Without a limit each is.
+    pub fn is_head_within(&self, head_length: usize) -> bool
+        ensures { result ≡ is_head_within self.now.head_limit head_length }
+    {
+        let is_longer = matches!(self.head_limit, Some(most) if head_length > most);
+        !is_longer
     }
 }

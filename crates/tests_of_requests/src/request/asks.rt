@@ -1,6 +1,6 @@
 //! The getters of requests.
 use super::*;
-use crate::rows::word;
+use crate::rows::{size, word};
 use bytes::Bytes;
 use pcache_base::error::{Error, ErrorType};
 use pcache_base::poll::Poll;
@@ -16,6 +16,7 @@ pub fn tell(parts: &mut Parts, cache: &mut Request, call: &'static str, told: &m
         "is" => told.yes_or_no(is(cache, word(call, 2))),
         "has" => told.yes_or_no(has(parts, cache, word(call, 2))),
         "waits" => told.yes_or_no(waits(parts, cache)),
+        "head-within" => told.yes_or_no(cache.is_head_within(size(call, 2))),
         "merges" => told.yes_or_no(is_merged(parts.alloc, cache)),
         "total" => totals(parts, told),
         _ => return reads(parts, cache, call, told),
@@ -115,6 +116,7 @@ fn shows(parts: &Parts, cache: &mut Request, what: &str, told: &mut Told) -> boo
 fn shows_of_limits(parts: &Parts, cache: &mut Request, what: &str, told: &mut Told) -> bool {
     match what {
         "limit?" => limit(cache, told),
+        "head-limit?" => told.named(&cache.max_head_size_bytes()),
         "retries" => retries(cache, told),
         "set-retries" => told.named(&cache.lock_ctx().max_retries),
         "streaming" => told.named(&cache.support_streaming_partial_write(&parts.store)),

@@ -75,6 +75,7 @@ fn made_of_policies(parts: &mut Parts, cache: &mut Request, call: &'static str) 
         "disable" => Ok(disable(parts, cache, reason(word(call, 2)))),
         "limit" => Ok(limit(cache, size(call, 2))),
         "count" => Ok(count(cache, size(call, 2))),
+        "limit-head" => Ok(limit_head(cache, size(call, 2))),
         "became-uncacheable" => became_uncacheable(parts, cache, reason(word(call, 2))),
         "became-cacheable" => Ok(became_cacheable(parts, cache)),
         "trace" => {
@@ -445,6 +446,14 @@ fn limit(cache: &mut Request, bytes: usize) -> Said {
     let may = cache.phase().is_on();
     if may {
         cache.set_max_file_size_bytes(bytes);
+    }
+    made(may)
+}
+
+fn limit_head(cache: &mut Request, bytes: usize) -> Said {
+    let may = cache.phase().is_on();
+    if may {
+        cache.set_max_head_size_bytes(bytes);
     }
     made(may)
 }

@@ -18,6 +18,19 @@ const CHOICES: &str = "
     1 count 1 -> beyond
     1 is exceeded -> yes
     1 leaves
+    # A head of 16 bytes is within a limit of 16, and one of 17 is not.
+    1 limit-head 16 -> wrong
+    1 enable
+    1 head-limit? -> None
+    1 head-within 99 -> yes
+    1 limit-head 16
+    1 head-limit? -> Some(16)
+    1 head-within 16 -> yes
+    1 head-within 17 -> no
+    1 leaves
+    1 enable
+    1 head-limit? -> None
+    1 leaves
     # A key whose response was not cacheable is foretold, and the cache is passed by for that reason.
     2 enable-predicting
     2 key
