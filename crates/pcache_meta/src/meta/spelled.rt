@@ -26,6 +26,8 @@ pub struct SpelledMeta {
     text: Bytes,
     split: usize,
     names: usize,
+    // The number that the text says, so that nobody reads the text for it.
+    entry_id: Option<CacheEntryId>,
 }
 
 impl Model for SpelledMeta {
@@ -36,7 +38,7 @@ impl Model for SpelledMeta {
 
     ghost view = { λ s. kept_at s.split s.text };
 
-    ghost invariant = { λ s. IsKept s.split s.text };
+    ghost invariant = { λ s. IsKept s.split s.text × (s.entry_id ≡ (kept_at s.split s.text).entry_id) };
 }
 
 impl SpelledMeta {
@@ -72,6 +74,7 @@ impl SpelledMeta {
                 text,
                 split,
                 names: meta.header.headers.keys_len(),
+                entry_id,
             }),
             Err(_) => Err(Error::new(ErrorType::OutOfMemory)),
         }
@@ -81,10 +84,7 @@ impl SpelledMeta {
     pub fn entry_id(&self) -> Option<CacheEntryId>
         ensures { result ≡ self.now.entry_id }
     {
-        match deserialize_internal(self.strings().0) {
-            Ok(said) => said.entry_id,
-            Err(_) => unreachable!(),
-        }
+        self.entry_id
     }
 
     /// The two byte strings: what the meta says beside its head, and the text of its head.
@@ -121,6 +121,7 @@ impl SpelledMeta {
             text: self.text.clone()?,
             split: self.split,
             names: self.names,
+            entry_id: self.entry_id,
         })
     }
 }

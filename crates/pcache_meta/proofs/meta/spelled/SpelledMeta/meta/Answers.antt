@@ -9,7 +9,7 @@ unreachable-requires c = c.in_default.ensures.refused c.args.self.now.internal c
 
 pub returns-clause-ok : goal.returns-clause-ok
 returns-clause-ok c =
-    let kept = kept_spelled c.args.self.now c.self.inside.split c.self.inside.text c.self.view_is c.self.invariant in
+    let kept = kept_spelled c.args.self.now c.self.inside.split c.self.inside.text c.self.view_is c.self.invariant.0 in
     let head = c.advance.ensures ∙ ap (λ (x : List ℕ). drop c.self.inside.split x) c.in_ok-head.ensures.cases in
     meta_made c.in-Ok.internal (shown c.in_ok-header.header) c.args.self.now (c.in-Ok.ensures.same c.args.self.now.internal c.strings.ensures.spelled.0)
     (c.in_ok-header.ensures.ok c.args.self.now.header (rw head kept.1))
