@@ -73,11 +73,7 @@ impl<M: EvictionManager, K: Mark, const N: usize> SharedCache<M, K, N> {
 
     /// `Cache::exceeded_max_head_size`: whether the head that the request's write stores is longer than the request's limit
     /// (`set_max_head_size_bytes`). Without a limit, and without a write, it is not.
-    pub fn exceeded_max_head_size<R: Wait>(
-        &self,
-        rt: &R,
-        request: &mut SharedRequest<K, N>,
-    ) -> bool
+    pub fn exceeded_max_head_size<R: Wait>(&self, rt: &R, request: &mut SharedRequest<K, N>) -> bool
         ensures sees { Sees self.now K.names request.old.place request.old.seen request.new.seen
             (λ p. result ≡ exceeds_head request.old.cache.head_limit
             (written_head p.store request.old.cache.write)) }

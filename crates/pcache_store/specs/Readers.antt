@@ -1,6 +1,7 @@
 -- The meaning of the readers and handlers of the store in memory, and what that store promises of all its calls
 -- (own).
-use Rattle.std.specs.Prelude.{ℕ, Bool, true, false, Option, None, Some}
+use Rattle.std.specs.Prelude.{ℕ, ◌×◌, Bool, true, false, Option, None, Some, cond}
+use Rattle.pcache_meta.specs.Meta.{Meta}
 use Rattle.pcache_store.specs.Store.{Reader, Whole, Part, Guarantees}
 use Rattle.pcache_store.specs.declared.memory.hit.MemHitHandler.{MemHitHandler}
 use Rattle.pcache_store.specs.declared.memory.hit.MemHitHandler.TheVariants.{Complete, Partial}
@@ -18,6 +19,11 @@ slot_named (Partial p) = Some p.slot
 abbrev pub needs_no_store : Reader → Bool
 needs_no_store (Whole id body start stop done) = true
 needs_no_store (Part n place) = false
+
+-- what a look-up found, if that is a complete body
+abbrev pub if_complete : Option (Meta × Reader) → Option (Meta × Reader)
+if_complete None = None
+if_complete (Some p) = cond (needs_no_store p.1) (Some p) None
 
 -- removals always succeed, and an entry has the number of its write
 abbrev pub in_memory : Guarantees

@@ -8,7 +8,7 @@ ghost use Rattle.pcache_store.specs.Finishes.{body_number, created};
 ghost use Rattle.pcache_store.specs.Kept.{lengths, write_lengths};
 ghost use Rattle.pcache_store.specs.Notes.{added, leave_noted, look_noted, target_id};
 ghost use Rattle.pcache_store.specs.Past.{Dropped, Finished, Joined, Wrote};
-ghost use Rattle.pcache_store.specs.Readers.{in_memory, reader_of};
+ghost use Rattle.pcache_store.specs.Readers.{if_complete, in_memory, reader_of};
 ghost use Rattle.pcache_store.specs.Refusals.{MayFailFinish};
 ghost use Rattle.pcache_store.specs.Shards.{of_shard};
 ghost use Rattle.pcache_store.specs.Store.{Part, complete_body, dropped, find, finished, is_untouched, is_write_under, left, wrote};
@@ -20,6 +20,7 @@ mod draft;
 mod draft_table;
 mod draft_text;
 mod drafts;
+mod found;
 mod hit;
 mod miss;
 pub mod past;
@@ -31,6 +32,7 @@ use crate::storage::{MissFinishType, PurgeOutcome, PurgeTarget, PurgeType, Stora
 use bare::BareStore;
 use bytes::Bytes;
 use draft::Draft;
+pub use found::FoundBody;
 pub use hit::{CompleteHit, MemHitHandler, PartialHit};
 pub use miss::MemMissHandler;
 use past::{Given, Past, Step};
@@ -212,6 +214,17 @@ impl MemCache {
         ensures kind { IfErr result (λ e. e ≡ OutOfMemory) }
     {
         self.bare.spelled_meta(alloc, key)
+    }
+
+    /// What a look-up of the key finds, if that is its complete body: the meta is not read yet. Such a look-up leaves the store
+    /// and its past as they are, so the store is only lent. Fails only when memory runs out, and then such a body is there.
+    pub fn complete_body(&self, key: &CacheKey) -> Result<Option<FoundBody>>
+        ensures found { IfOk result (λ f. f ≡ if_complete (find self.now.state (slot key.now))) }
+        ensures something { OnErr result
+            (IsSome (if_complete (find self.now.state (slot key.now)))) }
+        ensures kind { IfErr result (λ e. e ≡ OutOfMemory) }
+    {
+        self.bare.complete_body(key)
     }
 
     // The record of a write, which is in the shard of its key's slot.

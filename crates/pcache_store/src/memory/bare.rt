@@ -9,7 +9,7 @@ ghost use Rattle.pcache_store.specs.Finishes.{body_number, created};
 ghost use Rattle.pcache_store.specs.Kept.{lengths, write_lengths};
 ghost use Rattle.pcache_store.specs.Purge.{expire_outcome, expired_at, slot_expired, target_outcome, target_purged};
 ghost use Rattle.pcache_store.specs.Refusals.{MayFailFinish, MayFailWrite};
-ghost use Rattle.pcache_store.specs.Readers.{reader_of, slot_named};
+ghost use Rattle.pcache_store.specs.Readers.{if_complete, reader_of, slot_named};
 ghost use Rattle.pcache_store.specs.Shards.{of_shard};
 ghost use Rattle.pcache_store.specs.Store.{begun, complete_body, dropped, find, find_write, finished, followed, found_part, is_untouched, is_write_under, joined, left_on, meta_set, wrote};
 ghost use Rattle.pcache_store.specs.Tag.{named_by};
@@ -17,7 +17,8 @@ ghost use Rattle.pcache_store.specs.Totals.{stored_bytes, slots};
 
 use crate::memory::draft::Draft;
 use crate::memory::drafts::Drafts;
-use crate::memory::hit::{CompleteHit, MemHitHandler, PartialHit};
+use crate::memory::found::FoundBody;
+use crate::memory::hit::{MemHitHandler, PartialHit};
 use crate::memory::miss::MemMissHandler;
 use crate::memory::slots::Slots;
 use crate::storage::streaming_write::U64WriteId;
@@ -175,6 +176,24 @@ impl BareStore {
             return Ok(None);
         };
         Ok(Some(body.spelled(alloc)?))
+    }
+
+    /// What a look-up of the key finds, if that is its complete body.
+    pub fn complete_body(&self, key: &CacheKey) -> Result<Option<FoundBody>>
+        ensures found { IfOk result (λ f. f ≡ if_complete (find self.now (slot key.now))) }
+        ensures something { OnErr result (IsSome (if_complete (find self.now (slot key.now)))) }
+        ensures kind { IfErr result (λ e. e ≡ OutOfMemory) }
+    {
+        let Some(there) = self.slots.get(key.slot()) else {
+            return Ok(None);
+        };
+        if there.least().is_some() {
+            return Ok(None);
+        }
+        let Some(body) = there.body() else {
+            return Ok(None);
+        };
+        Ok(Some(body.found(self.alloc)?))
     }
 
     // The meta of a write, as it is kept.
@@ -363,9 +382,8 @@ impl BareStore {
         let Some(body) = held.body() else {
             return Ok(None);
         };
-        let (meta, bytes) = body.shared(alloc)?;
-        let hit = CompleteHit::new(meta.entry_id(), bytes);
-        Ok(Some((meta, MemHitHandler::Complete(hit))))
+        let (meta, hit) = body.found(alloc)?.read(alloc)?;
+        Ok(Some((meta, hit)))
     }
 
     /// A reader of the write that a tag names, if it is in flight and of the key, and its meta.

@@ -5,14 +5,14 @@ ghost use Rattle.pcache_base.specs.declared.error.ErrorType.TheVariants.{OutOfMe
 ghost use Rattle.pcache_meta.specs.Meta as meta_of;
 ghost use Rattle.pcache_table.specs.Numbers.{least};
 ghost use Rattle.pcache_store.specs.Kept.{head_size};
-ghost use Rattle.pcache_store.specs.Store.{opened_in, is_idle, with_meta, has_write, number_of_body, body_with, slot_without};
+ghost use Rattle.pcache_store.specs.Store.{opened_in, found_body, is_idle, with_meta, has_write, number_of_body, body_with, slot_without};
 
+use crate::memory::found::FoundBody;
 use crate::memory::untouched::Untouched;
 use bytes::Bytes;
 use pcache_base::entry_id::CacheEntryId;
 use pcache_base::error::Result;
 use pcache_base::moment::Moment;
-use pcache_meta::meta::CacheMeta;
 use pcache_meta::meta::spelled::SpelledMeta;
 use std::alloc::Global;
 use std::marker::Model;
@@ -64,17 +64,17 @@ impl Body {
         head_len(&self.meta)
     }
 
-    // The meta, read back, and the bytes, which are shared.
-    pub(crate) fn shared(&self, alloc: Global) -> Result<(CacheMeta, Bytes)>
-        ensures ok { IfOk result (λ p. p ≡ (self.now.meta, self.now.bytes)) }
+    // Shares of the meta, which is not read, and of the bytes.
+    pub(crate) fn found(&self, alloc: Global) -> Result<FoundBody>
+        ensures ok { IfOk result (λ f. Some f ≡ found_body (Some self.now)) }
         ensures kind { IfErr result (λ e. e ≡ OutOfMemory) }
     {
-        let meta = self.meta.meta(alloc)?;
+        let meta = self.meta.copied(alloc)?;
         let bytes = self.bytes.clone()?;
-        Ok((meta, bytes))
+        Ok(FoundBody::new(meta, self.entry_id(), bytes))
     }
 
-    // The number of the write that stored the body. It is read from the bytes of the meta, and kept nowhere else.
+    // The number of the write that stored the body.
     pub(crate) fn entry_id(&self) -> Option<CacheEntryId>
         ensures { result ≡ self.now.meta.entry_id }
     {
