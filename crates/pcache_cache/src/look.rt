@@ -11,7 +11,7 @@ use pcache_meta::meta::CacheMeta;
 use pcache_predict::admission::AdmissionPolicy;
 use pcache_request::cache::LockName;
 use pcache_request::phase::HitStatus;
-use pcache_store::memory::MemHitHandler;
+use pcache_store::memory::{FoundBody, MemHitHandler};
 use pcache_store::storage::HandleHit;
 
 impl<M: EvictionManager, K> Cache<M, K> {
@@ -29,7 +29,7 @@ impl<M: EvictionManager, K> Cache<M, K> {
     ghost use Rattle.pcache_request.specs.LockPasts.{found_deeds, let_go_deeds, looked_deeds, looked_with_deeds, settled_deeds};
     ghost use Rattle.pcache_request.specs.StorePasts.{dropped_past, left_past, looked_past, searched_past, taken_past};
     ghost use Rattle.pcache_store.specs.Notes.{leave_noted, noted};
-    ghost use Rattle.pcache_store.specs.Readers.{reader_of};
+    ghost use Rattle.pcache_store.specs.Readers.{if_complete, reader_of};
     ghost use Rattle.pcache_cache.specs.Parts.{Adds};
     ghost use Rattle.pcache_cache.specs.Strays.{LeavesNoStray};
     ghost use Rattle.pcache_store.specs.Store.{gives_piece, left, read_of, reader_after};
@@ -140,6 +140,22 @@ impl<M: EvictionManager, K> Cache<M, K> {
         request
             .cache
             .cache_lookup(&mut self.store, &mut self.lock, policy, now)
+    }
+
+    /// What a look-up of the request's key finds, if that is a complete body, whether or not a variant hides it; its meta is not
+    /// read yet. Such a look-up changes nothing, so a cache behind a lock can be asked under the lock, and the meta read after it.
+    /// Fails only when memory runs out, and then such a body is there.
+    pub fn complete_body(&self, request: &CacheRequest<K>) -> Result<Option<FoundBody>>
+        ensures found { IfOk result (λ f. f
+            ≡ if_complete (found_for self.now.store request.now.cache.key)) }
+        ensures something { OnErr result
+            (IsSome (if_complete (found_for self.now.store request.now.cache.key))) }
+        ensures kind { IfErr result (λ e. e ≡ OutOfMemory) }
+    {
+        match request.cache.key() {
+            Some(key) => self.store.complete_body(key),
+            None => Ok(None),
+        }
     }
 
     /// `HttpCache::cache_found_tracked`: takes the pair that a look-up found. An entry that is not tracked stays so: its body was

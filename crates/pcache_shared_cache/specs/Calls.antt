@@ -23,7 +23,7 @@ use Rattle.pcache_request.specs.LockUse.{published_by, table_handed}
 use Rattle.pcache_request.specs.LockWaits.{table_waited, wait_result, waited}
 use Rattle.pcache_request.specs.Releasing.{status_for}
 use Rattle.pcache_request.specs.Renewals.{renewed_by}
-use Rattle.pcache_request.specs.Requests.{Request, dropped_by, found_row, is_removed_by, left_by, let_go_by, settled, store_begun, store_found, table_found, tracked_gone_for, write_begun}
+use Rattle.pcache_request.specs.Requests.{Request, dropped_by, found_for, found_row, is_removed_by, left_by, let_go_by, settled, store_begun, store_found, table_found, tracked_gone_for, write_begun}
 use Rattle.pcache_request.specs.StorePasts.{EndsRequestPast, dropped_past, expired_past, left_past, purged_past, searched_past, taken_past, writing_past}
 use Rattle.pcache_request.specs.Variants.{looked_for, searched, seen_for, table_looked_for, table_varied}
 use Rattle.pcache_request.specs.WriteEnds.{Ends, EndsAs, evicted_after}
@@ -31,7 +31,7 @@ use Rattle.pcache_request.specs.declared.cache.finish.FinishReport.{FinishReport
 use Rattle.pcache_request.specs.declared.phase.HitStatus.{HitStatus}
 use Rattle.pcache_store.specs.Notes.{leave_noted, noted}
 use Rattle.pcache_store.specs.Purge.{expire_outcome, expired_at, purge_outcome, purged_at}
-use Rattle.pcache_store.specs.Readers.{in_memory, reader_of}
+use Rattle.pcache_store.specs.Readers.{if_complete, in_memory, reader_of}
 use Rattle.pcache_store.specs.declared.memory.hit.MemHitHandler.{MemHitHandler}
 use Rattle.pcache_store.specs.Refusals.{MayFailWrite}
 use Rattle.pcache_store.specs.Store.{Reader, left, read_of, reader_after}
@@ -101,6 +101,11 @@ pub record LooksUp (result : Result (Option (Meta × MemHitHandler)) ErrorType) 
   pub same_deeds : OnErr result (q.deeds ≡ p.deeds)
   pub kind : IfErr result (λ e. MayFailLock p.locks e)
   pub rest : q ≡ record p { store = q.store; past = q.past; locks = q.locks; deeds = q.deeds }
+
+-- the look-up of the key finds this complete body, and the part stays as it is
+pub record FindsBody (found : Option (Meta × Reader)) (r : Request) (p q : Parts) : Type 0 where
+  pub found : IfSome found (λ f. if_complete (found_for p.store r.key) ≡ Some f)
+  pub same : q ≡ p
 
 -- the pair that a look-up found is taken
 pub record TakesFound (result : Result (Unit {0}) ErrorType) (status : HitStatus) (m : Meta) (h : Reader) (now : ℕ) (r s : Request) (p q : Parts) : Type 0 where

@@ -21,14 +21,6 @@ pub record SeatedPermit : Type 0 where
 abbrev pub OfPart : Limits → (Parts → Type 0) → Type 0
 OfPart limits P = (p : Parts) × (p.limits ≡ limits) × IsKept p.weighing p.limits p.tracked p.store × P p
 
--- the same, for the part at a place
-abbrev pub InPart : List Limits → ℕ → (Parts → Type 0) → Type 0
-InPart limits place P = (l : Limits) × (slice_get limits place ≡ Some l) × OfPart l P
-
--- P holds of the states of the part at a place before a call and after it
-abbrev pub MovesPart : List Limits → ℕ → (Parts → Parts → Type 0) → Type 0
-MovesPart limits place P = InPart limits place (λ p. (q : Parts) × (q.limits ≡ p.limits) × IsKept q.weighing q.limits q.tracked q.store × P p q)
-
 -- the same, for the states of all parts, each while the call had it
 abbrev pub InParts : List Limits → (List Parts → Type 0) → Type 0
 InParts limits P = (ps : List Parts) × (map (λ (p : Parts). p.limits) ps ≡ limits) × All (λ (p : Parts). IsKept p.weighing p.limits p.tracked p.store) ps × P ps

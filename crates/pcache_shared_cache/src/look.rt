@@ -11,7 +11,7 @@ use pcache_evict::eviction::EvictionManager;
 use pcache_meta::meta::CacheMeta;
 use pcache_request::cache::LockName;
 use pcache_request::phase::HitStatus;
-use pcache_store::memory::MemHitHandler;
+use pcache_store::memory::{FoundBody, MemHitHandler};
 use std::sync::Wait;
 use std::thread::yield_now;
 
@@ -24,7 +24,7 @@ impl<M: EvictionManager, K: Mark, const N: usize> SharedCache<M, K, N> {
     ghost use Rattle.pcache_request.specs.Reports.{name_of};
     ghost use Rattle.pcache_request.specs.Requests.{HoldsNothing, asks_for_hit, length_by, whole_by, without_reader};
     ghost use Rattle.pcache_store.specs.Readers.{reader_of};
-    ghost use Rattle.pcache_shared_cache.specs.Calls.{Disables, EndsHit, EndsRequest, LetsGo, LooksUp, Reads, TakesFound};
+    ghost use Rattle.pcache_shared_cache.specs.Calls.{Disables, EndsHit, EndsRequest, FindsBody, LetsGo, LooksUp, Reads, TakesFound};
     ghost use Rattle.pcache_shared_cache.specs.Seen.{Begins, Goes, Sees};
 
     /// `Cache::cache_lookup` in the request's part: what its store has for the key; if nothing is handed on, the key's lock is
@@ -32,6 +32,53 @@ impl<M: EvictionManager, K: Mark, const N: usize> SharedCache<M, K, N> {
     /// be taken by `cache_found` or let go.
     /// Requires the phase CacheKey or Stale; ask `phase().may_look_up()` of `cache()`.
     pub fn cache_lookup<R: Wait>(
+        &self,
+        rt: &R,
+        request: &mut SharedRequest<K, N>,
+        now: Moment,
+    ) -> Result<Option<(CacheMeta, MemHitHandler)>>
+        requires { MayLookUp request.old.cache.phase }
+        ensures goes { Goes self.now K.names request.old.place request.old.seen request.new.seen
+            (LooksUp result now request.old.cache request.new.cache) }
+        ensures same { OnErr result (request.new.cache ≡ request.old.cache) }
+        ensures phase { request.new.cache.phase ≡ request.old.cache.phase }
+        ensures uses { request.new.cache.uses ≡ request.old.cache.uses }
+        ensures place { request.new.place ≡ request.old.place }
+    {
+        let Some(found) = self.complete_body(rt, request) else {
+            return self.look_up(rt, request, now);
+        };
+        // The part is not locked while the meta is read: most of a look-up's time goes there.
+        let (meta, hit) = found.read(self.alloc())?;
+        if request.request.cache.hides(&meta) {
+            hit.let_go_alone();
+            return self.look_up(rt, request, now);
+        }
+        Ok(Some((meta, hit)))
+    }
+
+    // What the request's look-up finds, if that is a complete body. The part stays as it is.
+    fn complete_body<R: Wait>(
+        &self,
+        rt: &R,
+        request: &mut SharedRequest<K, N>,
+    ) -> Option<FoundBody>
+        ensures goes { Goes self.now K.names request.old.place request.old.seen request.new.seen
+            (FindsBody result request.old.cache) }
+        ensures rest { request.new ≡ record request.old { seen = request.new.seen } }
+    {
+        let mut guard = self.part(request.place()).lock(rt);
+        let part = &mut *guard;
+        let found = part.cache.complete_body(&request.request);
+        part.log.adds(&part.cache, &mut request.sight);
+        match found {
+            Ok(found) => found,
+            Err(_refused) => None,
+        }
+    }
+
+    // `cache_lookup`, all of it under the part's lock.
+    fn look_up<R: Wait>(
         &self,
         rt: &R,
         request: &mut SharedRequest<K, N>,

@@ -3,7 +3,7 @@ use Rattle.pcache_shared_cache.specs.Calls.{LooksUp}
 use Rattle.pcache_shared_cache.specs.Shared.{Seated}
 use Rattle.pcache_shared_cache.proofs.Led.{looked}
 use Rattle.pcache_shared_cache.proofs.Logs.{goes_by, lent}
-use Rattle.pcache_shared_cache.proofs.shared.SharedCache.cache_lookup.Goals as goal
+use Rattle.pcache_shared_cache.proofs.shared.SharedCache.look_up.Goals as goal
 
 pub adds-requires-clause-leads : goal.adds-requires-clause-leads
 adds-requires-clause-leads g c =

@@ -1,0 +1,88 @@
+-- A complete body that a look-up finds, read after the lock: the look-up was made when it was found.
+use Rattle.std.proofs.Common.{◌≡◌, ◌×◌, inl, ℕ, Bool, true, false, List, Option, Some, None, Ok, Err, ◌++◌, append_assoc, cond, refl, sym, ap, subst, ◌∙◌}
+use Rattle.pcache_base.specs.declared.error.ErrorType.{ErrorType}
+use Rattle.pcache_base.specs.declared.error.ErrorType.TheVariants.{OutOfMemory}
+use Rattle.pcache_cache.specs.Parts.{Parts}
+use Rattle.pcache_cache.proofs.Growing.{grew_same}
+use Rattle.pcache_evict.specs.Tracked.{Limits}
+use Rattle.pcache_meta.specs.Meta.{Meta}
+use Rattle.pcache_request.specs.LockPasts.{key_locked_deeds}
+use Rattle.pcache_request.specs.Requests.{Request, found_for}
+use Rattle.pcache_request.specs.StorePasts.{hidden_past, searched_past}
+use Rattle.pcache_request.specs.Variants.{is_hidden, is_unseen, is_unseen_for, searched, table_key_locked, visible, with_key_lock, without_hidden}
+use Rattle.pcache_store.specs.Readers.{if_complete, needs_no_store, reader_of}
+use Rattle.pcache_store.specs.Notes.{joined_by, leave_noted, look_noted, noted}
+use Rattle.pcache_store.specs.Past.{Note}
+use Rattle.pcache_store.specs.Store.{Part, Reader, Store, Whole, followed, followed_by, left}
+use Rattle.pcache_store.specs.declared.memory.hit.MemHitHandler.{MemHitHandler}
+use Rattle.pcache_shared_cache.specs.Calls.{LooksUp}
+use Rattle.pcache_shared_cache.specs.Seen.{Begins, Goes, Leads}
+use Rattle.pcache_shared_cache.proofs.Logs.{begins_more}
+
+-- what was found is a complete body, and the look-up finds it
+pub found_is : (x : Option (Meta × Reader)) (f : Meta × Reader) → if_complete x ≡ Some f → (x ≡ Some f) × (needs_no_store f.1 ≡ true)
+found_is None f is = absurd is
+found_is (Some (m, Whole id body start stop done)) f is = (is, sym (ap whole is))
+  where
+    whole : Option (Meta × Reader) → Bool
+    whole None = true
+    whole (Some p) = needs_no_store p.1
+found_is (Some (m, Part n place)) f is = absurd is
+
+followed_alone : (s : Store) (h : Reader) → needs_no_store h ≡ true → followed_by s h ≡ s
+followed_alone s (Whole id body start stop done) is = refl
+followed_alone s (Part n place) is = absurd is
+
+noted_alone : (past : List Note) (h : Reader) → needs_no_store h ≡ true → noted (joined_by h) (Some past) ≡ Some past
+noted_alone past (Whole id body start stop done) is = refl
+noted_alone past (Part n place) is = absurd is
+
+module _ (now : ℕ) (r : Request) (p : Parts) (m : Meta) (h : MemHitHandler) (found : found_for p.store r.key ≡ Some (m, reader_of h)) (alone : needs_no_store (reader_of h) ≡ true) (shown : is_hidden r.valid_after m.created ≡ false) where
+  seen : is_unseen_for p.store r ≡ false
+  seen = ap (λ (x : Option (Meta × Reader)). is_unseen r.valid_after x) found ∙ shown
+
+  store : searched p.store r ≡ p.store
+  store =
+      ap (λ (x : Option (Meta × Reader)). without_hidden r.valid_after x (followed p.store x)) found
+      ∙ ap (λ (b : Bool). cond b (left (followed_by p.store (reader_of h)) (reader_of h)) (followed_by p.store (reader_of h))) shown
+      ∙ followed_alone p.store (reader_of h) alone
+
+  past : searched_past p.store r (Some p.past) ≡ Some p.past
+  past =
+      ap (λ (x : Option (Meta × Reader)). hidden_past r.valid_after x (noted (look_noted x) (Some p.past))) found
+      ∙ ap (λ (b : Bool). cond b (noted (leave_noted (reader_of h)) (noted (joined_by (reader_of h)) (Some p.past))) (noted (joined_by (reader_of h)) (Some p.past))) shown
+      ∙ noted_alone p.past (reader_of h) alone
+
+  -- a complete body that no variant hides is handed on, and nothing else is done
+  pub found_alone : (q : Parts) → q ≡ p → LooksUp (Ok (Some (m, h))) now r r p q
+  found_alone q same = subst (λ (x : Parts). LooksUp (Ok (Some (m, h))) now r r p x) (sym same) (record {
+    found = sym (ap (λ (x : Option (Meta × Reader)). visible r.valid_after x) found ∙ ap (λ (b : Bool). cond b None (Some (m, reader_of h))) shown);
+    request = sym (ap (λ (b : Bool). cond b (with_key_lock p.locks r) r) seen);
+    store = sym store;
+    past = sym past;
+    locks = sym (ap (λ (b : Bool). cond b (table_key_locked now r p.locks) p.locks) seen);
+    deeds = sym (ap (λ (b : Bool). cond b (key_locked_deeds now p.locks r (Some p.deeds)) (Some p.deeds)) seen);
+    left = tt;
+    same_locks = tt;
+    same_deeds = tt;
+    kind = tt;
+    rest = refl;
+  })
+
+-- its meta was not read for want of memory, and nothing was done
+pub read_not : (now : ℕ) (r : Request) (p q : Parts) (e : ErrorType) → e ≡ OutOfMemory → q ≡ p → LooksUp (Err e) now r r p q
+read_not now r p q e why same = subst (λ (x : ErrorType). LooksUp (Err x) now r r p q) (sym why) (subst (λ (x : Parts). LooksUp (Err OutOfMemory) now r r p x) (sym same) (record { found = tt; request = tt; store = tt; past = tt; locks = tt; deeds = tt; left = inl (refl, refl); same_locks = refl; same_deeds = refl; kind = tt; rest = refl }))
+
+-- the part is as it was, and so nothing is forgotten
+pub leads_nowhere : (p q : Parts) → q ≡ p → Leads p q
+leads_nowhere p q same = subst (λ (x : Parts). Leads p x) (sym same) (record { limits = refl; weighing = refl; past = grew_same p.past p.past refl; deeds = grew_same p.deeds p.deeds refl })
+
+begins_then : (named : Option ℕ) (a b c : List Parts) → Begins named a b → Begins named b c → Begins named a c
+begins_then None a b c ab bc = tt
+begins_then (Some n) a b c ab bc = (ab.0 ++ bc.0, sym (append_assoc a ab.0 bc.0) ∙ ap (λ (l : List Parts). l ++ bc.0) ab.1 ∙ bc.1)
+
+-- a call that looked at the part, and then was made, was made after all that had been seen
+pub goes_then : {P Q : Parts → Parts → Type 0} (limits : List Limits) (names : ℕ → Option ℕ) (place : ℕ) (old mid new : List Parts) → Goes limits names place old mid P → Goes limits names place mid new Q → Goes limits names place old new Q
+goes_then limits names place old mid new (p, q, at, (before, begins, ends, is), so) (p2, q2, at2, (before2, begins2, ends2, is2), so2) =
+    let first = subst (λ (l : List Parts). Begins (names place) old l) (sym is) (begins_more (names place) old before q begins) in
+    (p2, q2, at2, (before2, begins_then (names place) old mid before2 first begins2, ends2, is2), so2)
