@@ -1,5 +1,5 @@
 -- A cache in parts, and what is known of a part while a thread has it (own).
-use Rattle.std.specs.Prelude.{◌≡◌, ℕ, List, All, Some, map, slice_get}
+use Rattle.std.specs.Prelude.{◌≡◌, ℕ, List, All, map}
 use Rattle.pcache_cache.specs.Parts.{Parts, IsKept}
 use Rattle.pcache_evict.specs.Tracked.{Limits}
 use Rattle.pcache_lock.specs.declared.lock.permit.WritePermit.{WritePermit}
