@@ -1,5 +1,5 @@
 -- A complete body that a look-up finds, read after the lock: the look-up was made when it was found.
-use Rattle.std.proofs.Common.{◌≡◌, ◌×◌, inl, ℕ, Bool, true, false, List, Option, Some, None, Ok, Err, ◌++◌, append_assoc, cond, refl, sym, ap, subst, ◌∙◌}
+use Rattle.std.proofs.Common.{◌≡◌, inl, ℕ, Bool, true, false, List, Option, Some, None, Ok, Err, ◌++◌, append_assoc, cond, refl, sym, ap, subst, ◌∙◌}
 use Rattle.pcache_base.specs.declared.error.ErrorType.{ErrorType}
 use Rattle.pcache_base.specs.declared.error.ErrorType.TheVariants.{OutOfMemory}
 use Rattle.pcache_cache.specs.Parts.{Parts}

@@ -58,11 +58,7 @@ impl<M: EvictionManager, K: Mark, const N: usize> SharedCache<M, K, N> {
     }
 
     // What the request's look-up finds, if that is a complete body. The part stays as it is.
-    fn complete_body<R: Wait>(
-        &self,
-        rt: &R,
-        request: &mut SharedRequest<K, N>,
-    ) -> Option<FoundBody>
+    fn complete_body<R: Wait>(&self, rt: &R, request: &mut SharedRequest<K, N>) -> Option<FoundBody>
         ensures goes { Goes self.now K.names request.old.place request.old.seen request.new.seen
             (FindsBody result request.old.cache) }
         ensures rest { request.new ≡ record request.old { seen = request.new.seen } }

@@ -1,6 +1,6 @@
 -- The meaning of the readers and handlers of the store in memory, and what that store promises of all its calls
 -- (own).
-use Rattle.std.specs.Prelude.{ℕ, ◌×◌, Bool, true, false, Option, None, Some, cond}
+use Rattle.std.specs.Prelude.{ℕ, Bool, true, false, Option, None, Some, cond}
 use Rattle.pcache_meta.specs.Meta.{Meta}
 use Rattle.pcache_store.specs.Store.{Reader, Whole, Part, Guarantees}
 use Rattle.pcache_store.specs.declared.memory.hit.MemHitHandler.{MemHitHandler}

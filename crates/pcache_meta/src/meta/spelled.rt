@@ -31,6 +31,7 @@ pub struct SpelledMeta {
 }
 
 impl Model for SpelledMeta {
+    ghost use Rattle.std.specs.Prelude.{◌≡◌};
     ghost use Rattle.pcache_meta.specs.Meta.{Meta};
     ghost use Rattle.pcache_meta.specs.MetaKept.{IsKept, kept_at};
 
@@ -74,7 +75,7 @@ impl SpelledMeta {
                 text,
                 split,
                 names: meta.header.headers.keys_len(),
-                entry_id,
+                entry_id: said.entry_id,
             }),
             Err(_) => Err(Error::new(ErrorType::OutOfMemory)),
         }

@@ -25,7 +25,7 @@ pub struct FoundBody {
 }
 
 impl Model for FoundBody {
-    ghost use Rattle.std.specs.Prelude.{◌×◌, length, false};
+    ghost use Rattle.std.specs.Prelude.{length, false};
     ghost use Rattle.pcache_meta.specs.Meta.{Meta};
     ghost use Rattle.pcache_store.specs.Store.{Reader, Whole};
 
