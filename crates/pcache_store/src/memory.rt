@@ -207,13 +207,13 @@ impl MemCache {
 
     /// The meta of what a look-up of the key finds, as it is kept: a copy of its bytes, which are not read. Fails only when
     /// memory runs out, and then something is there.
-    pub fn spelled_meta(&self, alloc: Global, key: &CacheKey) -> Result<Option<SpelledMeta>>
+    pub fn spelled_meta(&self, key: &CacheKey) -> Result<Option<SpelledMeta>>
         ensures found { IfOk result (λ m.
             m ≡ option_map (λ p. p.0) (find self.now.state (slot key.now))) }
         ensures something { OnErr result (IsSome (find self.now.state (slot key.now))) }
         ensures kind { IfErr result (λ e. e ≡ OutOfMemory) }
     {
-        self.bare.spelled_meta(alloc, key)
+        self.bare.spelled_meta(key)
     }
 
     /// What a look-up of the key finds, if that is its complete body: the meta is not read yet. Such a look-up leaves the store

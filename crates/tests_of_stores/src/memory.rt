@@ -467,9 +467,8 @@ fn number_found(parts: &mut Parts, name: &str) -> Result<Option<CacheEntryId>> {
 
 // The number in the meta that the store keeps of what it finds.
 fn number_kept(parts: &mut Parts, name: &str) -> Result<Option<CacheEntryId>> {
-    let alloc = parts.alloc;
     let (store, named) = parts.with(name);
-    match store.spelled_meta(alloc, &named.key)? {
+    match store.spelled_meta(&named.key)? {
         Some(meta) => Ok(meta.entry_id()),
         None => Ok(None),
     }

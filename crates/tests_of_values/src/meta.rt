@@ -131,7 +131,9 @@ fn add_fields(alloc: Global, meta: &mut CacheMeta, count: u64) -> bool {
     let mut name = String::new(alloc);
     for number in 0..count {
         name.clear();
-        if write!(name, "x{number}").is_err() || !add_field(alloc, meta, name.as_str(), name.as_str()) {
+        if write!(name, "x{number}").is_err()
+            || !add_field(alloc, meta, name.as_str(), name.as_str())
+        {
             return false;
         }
     }
@@ -254,7 +256,7 @@ fn tell_again(read: Result<CacheMeta>, meta: &CacheMeta, told: &mut Told) {
 }
 
 fn copy_kept(alloc: Global, meta: &CacheMeta) -> Result<SpelledMeta> {
-    SpelledMeta::new(alloc, meta)?.copied(alloc)
+    SpelledMeta::new(alloc, meta)?.copied()
 }
 
 fn kept_and_read(alloc: Global, meta: &CacheMeta) -> Result<CacheMeta> {

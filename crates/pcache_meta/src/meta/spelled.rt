@@ -18,7 +18,7 @@ use std::alloc::Global;
 use std::marker::Model;
 
 /// A meta kept as the two byte strings that `CacheMeta::serialize` gives of it, one behind the other in
-/// one shared text: a copy copies no byte, and of a meta that is read back the values are parts of it.
+/// one shared text, so a copy copies no byte.
 ///
 /// A contract sees the meta that they spell.
 #[derive(Drop)]
@@ -97,24 +97,23 @@ impl SpelledMeta {
         parts_of(&self.text, self.split)
     }
 
-    /// The meta, read back. Its values are parts of the kept text and no copies, so the text stays in
-    /// memory as long as one of them does. Fails only when memory runs out.
+    /// The meta, read back. Its values are parts of one copy of the head's text, which is its own: so many
+    /// who read a meta at once do not meet at one count of owners. Fails only when memory runs out.
     pub fn meta(&self, alloc: Global) -> Result<CacheMeta>
         ensures ok { IfOk result (λ m. m ≡ self.now) }
         ensures kind { IfErr result (λ e. e ≡ OutOfMemory) }
     {
-        let Ok(internal) = deserialize_internal(self.strings().0) else {
+        let (internal, head) = self.strings();
+        let Ok(internal) = deserialize_internal(internal) else {
             unreachable!();
         };
-        let mut head = self.text.clone()?;
-        head.advance(self.split);
-        let header = header_kept(alloc, head, self.names)?;
+        let header = header_kept(alloc, Bytes::copy_from_slice(alloc, head)?, self.names)?;
         Ok(CacheMeta { internal, header })
     }
 
     /// A copy of the same meta, which shares its text. Fails only when the text has as many owners as
     /// can be counted.
-    pub fn copied(&self, _alloc: Global) -> Result<SpelledMeta>
+    pub fn copied(&self) -> Result<SpelledMeta>
         ensures ok { IfOk result (λ copy. copy ≡ self.now) }
         ensures kind { IfErr result (λ e. e ≡ OutOfMemory) }
     {

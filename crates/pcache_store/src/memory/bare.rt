@@ -159,7 +159,7 @@ impl BareStore {
 
     /// The meta of what a look-up of the key finds, as it is kept: a copy of its bytes, which are not read. Fails only when
     /// memory runs out, and then something is there.
-    pub fn spelled_meta(&self, alloc: Global, key: &CacheKey) -> Result<Option<SpelledMeta>>
+    pub fn spelled_meta(&self, key: &CacheKey) -> Result<Option<SpelledMeta>>
         ensures found { IfOk result (λ m.
             m ≡ option_map (λ p. p.0) (find self.now (slot key.now))) }
         ensures something { OnErr result (IsSome (find self.now (slot key.now))) }
@@ -170,12 +170,12 @@ impl BareStore {
             return Ok(None);
         };
         if let Some(number) = there.least() {
-            return self.spelled_of(alloc, slot, number);
+            return self.spelled_of(slot, number);
         }
         let Some(body) = there.body() else {
             return Ok(None);
         };
-        Ok(Some(body.spelled(alloc)?))
+        Ok(Some(body.spelled()?))
     }
 
     /// What a look-up of the key finds, if that is its complete body.
@@ -193,11 +193,11 @@ impl BareStore {
         let Some(body) = there.body() else {
             return Ok(None);
         };
-        Ok(Some(body.found(self.alloc)?))
+        Ok(Some(body.found()?))
     }
 
     // The meta of a write, as it is kept.
-    fn spelled_of(&self, alloc: Global, slot: u128, number: u64) -> Result<Option<SpelledMeta>>
+    fn spelled_of(&self, slot: u128, number: u64) -> Result<Option<SpelledMeta>>
         ensures found { IfOk result (λ m.
             m ≡ option_map (λ p. p.0) (found_part number (map.get self.now.writes number))) }
         ensures something { OnErr result (IsSome (map.get self.now.writes number)) }
@@ -206,7 +206,7 @@ impl BareStore {
         let Some(draft) = self.drafts.get(slot, number) else {
             return Ok(None);
         };
-        Ok(Some(draft.spelled(alloc)?))
+        Ok(Some(draft.spelled()?))
     }
 
     // The record of a write, which is in the shard of its key's slot.
@@ -382,7 +382,7 @@ impl BareStore {
         let Some(body) = held.body() else {
             return Ok(None);
         };
-        let (meta, hit) = body.found(alloc)?.read(alloc)?;
+        let (meta, hit) = body.found()?.read(alloc)?;
         Ok(Some((meta, hit)))
     }
 

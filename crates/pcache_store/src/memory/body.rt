@@ -50,11 +50,11 @@ impl Body {
     }
 
     // The meta as it is kept: a copy of its bytes, which are not read.
-    pub(crate) fn spelled(&self, alloc: Global) -> Result<SpelledMeta>
+    pub(crate) fn spelled(&self) -> Result<SpelledMeta>
         ensures ok { IfOk result (λ m. m ≡ self.now.meta) }
         ensures kind { IfErr result (λ e. e ≡ OutOfMemory) }
     {
-        self.meta.copied(alloc)
+        self.meta.copied()
     }
 
     // The length of the text of its head, as it is kept.
@@ -65,11 +65,11 @@ impl Body {
     }
 
     // Shares of the meta, which is not read, and of the bytes.
-    pub(crate) fn found(&self, alloc: Global) -> Result<FoundBody>
+    pub(crate) fn found(&self) -> Result<FoundBody>
         ensures ok { IfOk result (λ f. Some f ≡ found_body (Some self.now)) }
         ensures kind { IfErr result (λ e. e ≡ OutOfMemory) }
     {
-        let meta = self.meta.copied(alloc)?;
+        let meta = self.meta.copied()?;
         let bytes = self.bytes.clone()?;
         Ok(FoundBody::new(meta, self.entry_id(), bytes))
     }

@@ -58,11 +58,11 @@ impl Draft {
     }
 
     // The meta as it is kept: a copy of its bytes, which are not read.
-    pub(crate) fn spelled(&self, alloc: Global) -> Result<SpelledMeta>
+    pub(crate) fn spelled(&self) -> Result<SpelledMeta>
         ensures ok { IfOk result (λ m. m ≡ self.now.meta) }
         ensures kind { IfErr result (λ e. e ≡ OutOfMemory) }
     {
-        self.meta.copied(alloc)
+        self.meta.copied()
     }
 
     // The length of the text of its head, as it is kept.
@@ -173,7 +173,7 @@ impl Draft {
         ensures kind { IfErr result (λ e. e ≡ OutOfMemory) }
         ensures same { self.new ≡ self.old }
     {
-        let meta = self.meta.copied(alloc)?;
+        let meta = self.meta.copied()?;
         let bytes = self.text.share(alloc)?;
         Ok(Body::new(meta, bytes))
     }

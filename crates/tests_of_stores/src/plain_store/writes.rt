@@ -107,7 +107,7 @@ impl PlainWrite {
             b ≡ record { meta = self.now.meta; bytes = self.now.bytes }) }
         ensures kind { IfErr result (λ e. e ≡ OutOfMemory) }
     {
-        let meta = self.meta.copied(alloc)?;
+        let meta = self.meta.copied()?;
         let bytes = Bytes::copy_from_slice(alloc, self.text.as_slice())?;
         Ok(PlainBody { meta, bytes })
     }

@@ -1,6 +1,5 @@
-use Rattle.std.proofs.Common.{ℕ, List, drop, ap, ◌∙◌}
+use Rattle.std.proofs.Common.{ap, ◌∙◌}
 use Rattle.pcache_meta.specs.Header.{shown}
-use Rattle.pcache_meta.proofs.MetaKeeps.{kept_spelled}
 use Rattle.pcache_meta.proofs.MetaMade.{meta_made}
 use Rattle.pcache_meta.proofs.meta.spelled.SpelledMeta.meta.Goals as goal
 
@@ -9,7 +8,5 @@ unreachable-requires c = c.in_default.ensures.refused c.args.self.now.internal c
 
 pub returns-clause-ok : goal.returns-clause-ok
 returns-clause-ok c =
-    let kept = kept_spelled c.args.self.now c.self.inside.split c.self.inside.text c.self.view_is c.self.invariant.0 in
-    let head = c.advance.ensures ∙ ap (λ (x : List ℕ). drop c.self.inside.split x) c.in_ok-head.ensures.cases in
     meta_made c.in-Ok.internal (shown c.in_ok-header.header) c.args.self.now (c.in-Ok.ensures.same c.args.self.now.internal c.strings.ensures.spelled.0)
-    (c.in_ok-header.ensures.ok c.args.self.now.header (rw head kept.1))
+    (c.in_ok-header.ensures.ok c.args.self.now.header (rw c.in_ok-copy_from_slice.ensures c.strings.ensures.spelled.1))
