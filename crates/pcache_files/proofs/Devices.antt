@@ -4,9 +4,9 @@ use Rattle.std.specs.Prelude.{Result, Ok, Err, ◌≢◌}
 use Rattle.std_io.specs.declared.io.error.Error.{Error}
 use Rattle.std_io.specs.IoError.{error_kind}
 use Rattle.std_io.specs.declared.io.kind.ErrorKind.TheVariants as kinds
-use Rattle.pcache_files.specs.Device.{Interrupted, GaveUp}
+use Rattle.pcache_files.specs.Device.{Interrupted, GaveUp, LackedMemory}
 use Rattle.std.specs.Io.KnownBytes.{Appends, Consumes, Keeps, ReadConsumes}
-use Rattle.std.proofs.lemmas.List.{append-nil, length-drop, take-append-drop, take_all}
+use Rattle.std.proofs.lemmas.List.{length-drop, take-append-drop, take_all}
 
 -- ---- known bytes that stay
 
@@ -66,16 +66,20 @@ module _ {D : Type 0} (fails : D → Error → D → Type 0) where
       more n = omega arith
 
   -- a try failed
-  pub gave-up : (n : ℕ) (old now new left : D) (e : Error) → Interrupted fails n old now → fails now e new → error_kind e ≢ kinds.Interrupted → left ≡ new → (d : D) × GaveUp fails d left
-  gave-up n old now new left e so_far failed not_by is = (
+  pub gave-up : (n : ℕ) (old now new left : D) (e : Error) → Interrupted fails n old now → fails now e new → error_kind e ≢ kinds.Interrupted → error_kind e ≢ kinds.OutOfMemory → left ≡ new → (d : D) × GaveUp fails d left
+  gave-up n old now new left e so_far failed not_by not_memory is = (
     old,
     record {
       times = n;
       last = now;
       interrupted = so_far;
-      ended = inl (e, subst (λ d. fails now e d) (sym is) failed, not_by);
+      ended = inl (e, subst (λ d. fails now e d) (sym is) failed, not_by, not_memory);
     },
   )
+
+  -- a try failed for want of memory
+  pub lacked : (n : ℕ) (old now new : D) (e : Error) → Interrupted fails n old now → fails now e new → error_kind e ≡ kinds.OutOfMemory → (d : D) × LackedMemory fails d new
+  lacked n old now new e so_far failed memory = (old, record { times = n; last = now; interrupted = so_far; ended = (e, failed, memory) })
 
   -- all tries were interrupted
   pub gave-up-trying : (n : ℕ) (old now left : D) → Interrupted fails n old now → n ≡ 2 ^ 64 - 1 → left ≡ now → (d : D) × GaveUp fails d left

@@ -131,12 +131,12 @@ missing_none (Some m ∷ lists) = missing_none lists
 more_one : (n : ℕ) → suc n ≡ n + 1
 more_one n = omega arith
 
-module _ {F : Type 0} (opens : List ℕ → F → Type 0) (left : F → Option (List ℕ)) (refuses : List ℕ → Error → Type 0) (fails : F → Error → F → Type 0) (dir : List ℕ) where
+module _ {F : Type 0} (opens : List ℕ → F → Type 0) (left : F → Option (List ℕ)) (source : F → ℕ) (refuses : List ℕ → Error → Type 0) (fails : F → Error → F → Type 0) (dir : List ℕ) where
   abbrev pub Each : List (List ℕ) → List (Option Recency) → Type 0
-  Each = AreFiles opens left refuses fails dir
+  Each = AreFiles opens left source refuses fails dir
 
   abbrev pub One : List ℕ → Option Recency → Type 0
-  One name list = IsFile opens left refuses fails (path_join dir name) list
+  One name list = IsFile opens left source refuses fails (path_join dir name) list
 
   each_more : (names : List (List ℕ)) (lists : List (Option Recency)) (name : List ℕ) (o : Option Recency) → Each names lists → One name o → Each (names ++ name ∷ []) (lists ++ o ∷ [])
   each_more [] [] name o h one = (one, tt)
@@ -145,7 +145,7 @@ module _ {F : Type 0} (opens : List ℕ → F → Type 0) (left : F → Option (
   each_more (n ∷ names) (x ∷ lists) name o h one = (h.0, each_more names lists name o h.1 one)
 
   abbrev pub Loaded : List (List ℕ) → ℕ → Recency → Type 0
-  Loaded = Loads opens left refuses fails dir
+  Loaded = Loads opens left source refuses fails dir
 
   pub loads_none : Loaded [] 0 []
   loads_none = record { lists = []; each = tt; skips = refl; all = refl }

@@ -32,9 +32,13 @@ abbrev pub Interrupted : {D : Type 0} → (D → Error → D → Type 0) → ℕ
 Interrupted fails zero old new = old ≡ new
 Interrupted {D} fails (suc n) old new = (d : D) × (e : Error) × Interrupted fails n old d × fails d e new × (error_kind e ≡ kinds.Interrupted)
 
--- a call failed, and not since a signal interrupted it
+-- a call failed, and neither since a signal interrupted it nor for want of memory
 abbrev pub HasFailed : {D : Type 0} → (D → Error → D → Type 0) → D → D → Type 0
-HasFailed fails old new = (e : Error) × fails old e new × (error_kind e ≢ kinds.Interrupted)
+HasFailed fails old new = (e : Error) × fails old e new × (error_kind e ≢ kinds.Interrupted) × (error_kind e ≢ kinds.OutOfMemory)
+
+-- a call failed for want of memory
+abbrev pub HasLackedMemory : {D : Type 0} → (D → Error → D → Type 0) → D → D → Type 0
+HasLackedMemory fails old new = (e : Error) × fails old e new × (error_kind e ≡ kinds.OutOfMemory)
 
 -- a call that is made again after each interruption gave up: after so many of them it failed, or they were 2 ^ 64 - 1
 pub record GaveUp {D : Type 0} (fails : D → Error → D → Type 0) (old new : D) : Type 0 where
@@ -42,3 +46,10 @@ pub record GaveUp {D : Type 0} (fails : D → Error → D → Type 0) (old new :
   pub last : D
   pub interrupted : Interrupted fails times old last
   pub ended : HasFailed fails last new ⊎ ((times ≡ 2 ^ 64 - 1) × (new ≡ last))
+
+-- a call that is made again after each interruption failed for want of memory after so many of them
+pub record LackedMemory {D : Type 0} (fails : D → Error → D → Type 0) (old new : D) : Type 0 where
+  pub times : ℕ
+  pub last : D
+  pub interrupted : Interrupted fails times old last
+  pub ended : HasLackedMemory fails last new

@@ -2,6 +2,7 @@
 -- is a function of the file, `left`, where it is known. What a call on a path gave is a relation (`opens`, `makes`,
 -- `renames`, `refuses`), and so is how a call on a file fails (`fails`). Nothing is known of them, so only a call that was
 -- made shows one.
+-- An open file keeps its number (`source`), so what has its number is no other file.
 use Rattle.std.specs.Prelude.{◌≡◌, ◌≢◌, ◌⊎◌, ℕ, zero, suc, List, [], ◌∷◌, ◌++◌, Option, Some, None, codes, decimal}
 use Rattle.std.specs.FinMap.{insert}
 use Rattle.std.specs.Io.KnownBytes.{Appends}
@@ -57,12 +58,13 @@ pub record IsRefused (refuses : List ℕ → Error → Type 0) (path : List ℕ)
 abbrev pub HasRefused : (List ℕ → Error → Type 0) → List ℕ → Type 0
 HasRefused refuses path = (e : Error) × refuses path e
 
--- the file of this path was opened, and a read gave up
-pub record IsUnread {F : Type 0} (opens : List ℕ → F → Type 0) (fails : F → Error → F → Type 0) (path : List ℕ) : Type 0 where
+-- the file of this path was opened, and a read of it gave up
+pub record IsUnread {F : Type 0} (opens : List ℕ → F → Type 0) (source : F → ℕ) (fails : F → Error → F → Type 0) (path : List ℕ) : Type 0 where
   pub opened : F
   pub found : opens path opened
   pub before : F
   pub after : F
+  pub same : source after ≡ source opened
   pub cause : GaveUp fails before after
 
 -- the file of this path was opened, and what it gives spells no list
@@ -72,19 +74,19 @@ pub record IsForeign {F : Type 0} (opens : List ℕ → F → Type 0) (left : F 
   pub no_list : (bytes : List ℕ) → left opened ≡ Some bytes → (l : Recency) → ¬ (SpellsFile bytes l)
 
 -- the file of this path could not be opened, or a read of it gave up
-abbrev pub IsUnavailable : {F : Type 0} → (List ℕ → F → Type 0) → (List ℕ → Error → Type 0) → (F → Error → F → Type 0) → List ℕ → Type 0
-IsUnavailable opens refuses fails path = IsRefused refuses path ⊎ IsUnread opens fails path
+abbrev pub IsUnavailable : {F : Type 0} → (List ℕ → F → Type 0) → (F → ℕ) → (List ℕ → Error → Type 0) → (F → Error → F → Type 0) → List ℕ → Type 0
+IsUnavailable opens source refuses fails path = IsRefused refuses path ⊎ IsUnread opens source fails path
 
 -- what one file gave: its list; or nothing, if it was skipped since it is unavailable or spells none
-abbrev pub IsFile : {F : Type 0} → (List ℕ → F → Type 0) → (F → Option (List ℕ)) → (List ℕ → Error → Type 0) → (F → Error → F → Type 0) → List ℕ → Option Recency → Type 0
-IsFile opens left refuses fails path (Some l) = IsRead opens left path l
-IsFile opens left refuses fails path None = IsUnavailable opens refuses fails path ⊎ IsForeign opens left path
+abbrev pub IsFile : {F : Type 0} → (List ℕ → F → Type 0) → (F → Option (List ℕ)) → (F → ℕ) → (List ℕ → Error → Type 0) → (F → Error → F → Type 0) → List ℕ → Option Recency → Type 0
+IsFile opens left source refuses fails path (Some l) = IsRead opens left path l
+IsFile opens left source refuses fails path None = IsUnavailable opens source refuses fails path ⊎ IsForeign opens left path
 
 -- what the files of these names in a folder gave, one after the other
-abbrev pub AreFiles : {F : Type 0} → (List ℕ → F → Type 0) → (F → Option (List ℕ)) → (List ℕ → Error → Type 0) → (F → Error → F → Type 0) → List ℕ → List (List ℕ) → List (Option Recency) → Type 0
-AreFiles opens left refuses fails dir [] [] = Unit {0}
-AreFiles opens left refuses fails dir (name ∷ names) (list ∷ lists) = IsFile opens left refuses fails (path_join dir name) list × AreFiles opens left refuses fails dir names lists
-AreFiles opens left refuses fails dir names lists = ⊥
+abbrev pub AreFiles : {F : Type 0} → (List ℕ → F → Type 0) → (F → Option (List ℕ)) → (F → ℕ) → (List ℕ → Error → Type 0) → (F → Error → F → Type 0) → List ℕ → List (List ℕ) → List (Option Recency) → Type 0
+AreFiles opens left source refuses fails dir [] [] = Unit {0}
+AreFiles opens left source refuses fails dir (name ∷ names) (list ∷ lists) = IsFile opens left source refuses fails (path_join dir name) list × AreFiles opens left source refuses fails dir names lists
+AreFiles opens left source refuses fails dir names lists = ⊥
 
 -- the lists that were found, one after the other
 abbrev pub found : List (Option Recency) → Recency
@@ -99,9 +101,9 @@ missing (None ∷ lists) = suc (missing lists)
 missing (Some l ∷ lists) = missing lists
 
 -- of the files of these names in a folder so many were skipped, and the others gave these entries, one file after the other
-pub record Loads {F : Type 0} (opens : List ℕ → F → Type 0) (left : F → Option (List ℕ)) (refuses : List ℕ → Error → Type 0) (fails : F → Error → F → Type 0) (dir : List ℕ) (names : List (List ℕ)) (skipped : ℕ) (entries : Recency) : Type 0 where
+pub record Loads {F : Type 0} (opens : List ℕ → F → Type 0) (left : F → Option (List ℕ)) (source : F → ℕ) (refuses : List ℕ → Error → Type 0) (fails : F → Error → F → Type 0) (dir : List ℕ) (names : List (List ℕ)) (skipped : ℕ) (entries : Recency) : Type 0 where
   pub lists : List (Option Recency)
-  pub each : AreFiles opens left refuses fails dir names lists
+  pub each : AreFiles opens left source refuses fails dir names lists
   pub skips : skipped ≡ missing lists
   pub all : entries ≡ found lists
 

@@ -1,11 +1,11 @@
 //! Readers and writers that count the calls that failed, so that a contract can say that a call
 //! fails with `Io` exactly when the device failed.
-ghost use Rattle.std.specs.Prelude.{◌≡◌, ◌≢◌, false, IsTrue, ◌+◌, ◌%◌, ◌^◌, ◌<◌, ◌≤◌, ◌⊎◌, ℕ, List, Option, None, length, IfErr, IfOk, OnErr, OnOk};
+ghost use Rattle.std.specs.Prelude.{◌≡◌, ◌≢◌, false, IsTrue, ◌+◌, ◌%◌, ◌^◌, ◌<◌, ◌≤◌, ◌⊎◌, ℕ, List, Option, None, length, IfErr, IfOk, IsErrOf, OnErr, OnOk};
 ghost use Rattle.std_io.specs.declared.io.error.Error.{Error};
 ghost use Rattle.std_io.specs.IoError.{error_kind};
 ghost use Rattle.std_io.specs.declared.io.kind.ErrorKind.TheVariants as short;
 ghost use Rattle.std.specs.Io.KnownBytes.{Appends, Keeps, ReadConsumes, WriteAppends};
-ghost use Rattle.pcache_files.specs.Device.{Counts, Gave, GaveUp, TookBeginning};
+ghost use Rattle.pcache_files.specs.Device.{Counts, Gave, GaveUp, LackedMemory, TookBeginning};
 ghost use Rattle.pcache_base.specs.declared.error.ErrorType.TheVariants.{Io, OutOfMemory};
 
 use pcache_base::error::{Error, ErrorType, Result};
@@ -21,6 +21,9 @@ pub trait TriedRead {
     /// The bytes that reads will give from now on, if they are known.
     ghost remaining: { Self → Option (List ℕ) } = { λ _. None };
 
+    /// The number of what is read. Nothing is known of it but that a read keeps it.
+    ghost source: { Self → ℕ };
+
     /// A read of the first fails with this error, and leaves the second.
     ghost read_fails: { Self → Error → Self → Type 0 };
 
@@ -28,6 +31,7 @@ pub trait TriedRead {
     fn try_read(&mut self, buf: &mut [u8]) -> io::Result<usize>
         ensures within { IfOk result (λ n. n ≤ length buf.new) }
         ensures bytes { ReadConsumes (remaining self.old) (remaining self.new) result buf.new }
+        ensures same { source self.new ≡ source self.old }
         ensures cause { IfErr result (λ e. read_fails self.old e self.new) };
 }
 
@@ -60,6 +64,8 @@ impl<T: Read> TriedRead for T {
     ghost use Rattle.std.specs.Prelude.{⊤};
 
     ghost remaining = { T.remaining };
+
+    ghost source = { λ _. 0 };
 
     ghost read_fails = { λ _ _ _. ⊤ };
 
@@ -95,20 +101,29 @@ pub trait CountedRead {
     /// The bytes that reads will give from now on, if they are known.
     ghost remaining: { Self → Option (List ℕ) } = { λ _. None };
 
+    /// The number of what is read, if the reader states it.
+    ghost source: { Self → ℕ } = { λ _. 0 };
+
     /// How many reads failed so far, modulo 2^64.
     ghost failed: { Self → ℕ };
 
     /// The last read gave up, and why, if the reader states it.
     ghost gave_up: { Self → Type 0 } = { λ _. Unit {0} };
 
+    /// The last read failed for want of memory, if the reader states it.
+    ghost lacked: { Self → Type 0 } = { λ _. Unit {0} };
+
     /// Writes the next bytes to the front of the buffer, and returns how many they are: none only at
-    /// the end, or if the buffer is empty. A read that fails gives no bytes and is counted.
+    /// the end, or if the buffer is empty. A read that fails gives no bytes. It is counted, unless
+    /// memory was wanting.
     fn read(&mut self, buf: &mut [u8]) -> Result<usize>
         ensures within { IfOk result (λ n. n ≤ length buf.new) }
         ensures bytes { ReadConsumes (remaining self.old) (remaining self.new) result buf.new }
+        ensures same { source self.new ≡ source self.old }
         ensures counted { Counts (failed self.old) (failed self.new) result }
-        ensures cause { OnErr result (gave_up self.new) }
-        ensures kind { IfErr result (λ e. e ≡ Io) };
+        ensures cause { IsErrOf result Io → gave_up self.new }
+        ensures memory { IsErrOf result OutOfMemory → lacked self.new }
+        ensures kinds { IfErr result (λ e. (e ≡ OutOfMemory) ⊎ (e ≡ Io)) };
 
     /// How many reads failed so far, modulo 2^64.
     fn failures(&self) -> u64
@@ -129,24 +144,29 @@ pub trait CountedWrite {
     /// The last write or flush gave up, and why, if the writer states it.
     ghost gave_up: { Self → Type 0 } = { λ _. Unit {0} };
 
+    /// The last write or flush failed for want of memory, if the writer states it.
+    ghost lacked: { Self → Type 0 } = { λ _. Unit {0} };
+
     /// Takes bytes from the front of the buffer, and returns how many: at least one, unless the
-    /// buffer is empty. A write that takes none of them fails; one that fails took none and is
-    /// counted.
+    /// buffer is empty. A write that takes none of them fails; one that fails took none. It is
+    /// counted, unless memory was wanting.
     fn write(&mut self, buf: &[u8]) -> Result<usize>
         ensures within { IfOk result (λ n. n ≤ length buf.now) }
         ensures some { IfOk result (λ n. 0 < length buf.now → 0 < n) }
         ensures bytes { WriteAppends (contents self.old) (contents self.new) result buf.now }
         ensures counted { Counts (failed self.old) (failed self.new) result }
-        ensures cause { OnErr result (gave_up self.new) }
-        ensures kind { IfErr result (λ e. e ≡ Io) };
+        ensures cause { IsErrOf result Io → gave_up self.new }
+        ensures memory { IsErrOf result OutOfMemory → lacked self.new }
+        ensures kinds { IfErr result (λ e. (e ≡ OutOfMemory) ⊎ (e ≡ Io)) };
 
     /// Passes on the bytes that were taken.
     fn flush(&mut self) -> Result<()>
         ensures bytes { Keeps (contents self.old) (contents self.new) }
         ensures flushed { OnOk result (is_flushed self.new) }
         ensures counted { Counts (failed self.old) (failed self.new) result }
-        ensures cause { OnErr result (gave_up self.new) }
-        ensures kind { IfErr result (λ e. e ≡ Io) };
+        ensures cause { IsErrOf result Io → gave_up self.new }
+        ensures memory { IsErrOf result OutOfMemory → lacked self.new }
+        ensures kinds { IfErr result (λ e. (e ≡ OutOfMemory) ⊎ (e ≡ Io)) };
 
     /// How many writes and flushes failed so far, modulo 2^64.
     fn failures(&self) -> u64
@@ -154,7 +174,7 @@ pub trait CountedWrite {
 }
 
 /// A reader or a writer of std's, with a count of the calls that failed. A call that a signal
-/// interrupted is repeated and does not count.
+/// interrupted is repeated and does not count, and one that failed for want of memory does not count.
 #[derive(Drop)]
 pub struct Counted<T> {
     device: T,
@@ -194,18 +214,48 @@ fn is_interrupted(error: &io::Error) -> bool
     }
 }
 
+// Whether a call failed so for want of memory.
+fn is_lack_of_memory(error: &io::Error) -> bool
+    ensures yes { IsTrue result → error_kind error.now ≡ short.OutOfMemory }
+    ensures no { result ≡ false → error_kind error.now ≢ short.OutOfMemory }
+{
+    match error.kind() {
+        ErrorKind::OutOfMemory => true,
+        _ => false,
+    }
+}
+
+/// The error for a failed call: std reports a lack of memory in the same way.
+pub(crate) fn refusal(error: &io::Error) -> Error
+    ensures kinds { (result ≡ OutOfMemory) ⊎ (result ≡ Io) }
+    ensures device { result ≡ Io → error_kind error.now ≢ short.OutOfMemory }
+    ensures memory { result ≡ OutOfMemory → error_kind error.now ≡ short.OutOfMemory }
+{
+    match error.kind() {
+        ErrorKind::OutOfMemory => Error::new(ErrorType::OutOfMemory),
+        _ => Error::new(ErrorType::Io),
+    }
+}
+
 impl<T: TriedRead> CountedRead for Counted<T> {
     ghost remaining = { λ counted. T.remaining counted.device };
+
+    ghost source = { λ counted. T.source counted.device };
 
     ghost failed = { λ counted. counted.failures };
 
     ghost gave_up = { λ counted. (before : T) × GaveUp T.read_fails before counted.device };
+
+    ghost lacked = { λ counted. (before : T) × LackedMemory T.read_fails before counted.device };
 
     fn read(&mut self, buf: &mut [u8]) -> Result<usize> {
         'tries: for tried in 0..TRIES {
             match self.device.try_read(buf) {
                 Ok(count) => return Ok(count),
                 Err(error) => {
+                    if is_lack_of_memory(&error) {
+                        return Err(Error::new(ErrorType::OutOfMemory));
+                    }
                     if !is_interrupted(&error) {
                         return Err(self.fail());
                     }
@@ -229,11 +279,16 @@ impl<T: TriedWrite> CountedWrite for Counted<T> {
 
     ghost gave_up = { λ counted. (before : T) × GaveUp T.write_fails before counted.device };
 
+    ghost lacked = { λ counted. (before : T) × LackedMemory T.write_fails before counted.device };
+
     fn write(&mut self, buf: &[u8]) -> Result<usize> {
         'tries: for tried in 0..TRIES {
             match self.device.try_write(buf) {
                 Ok(count) => return Ok(count),
                 Err(error) => {
+                    if is_lack_of_memory(&error) {
+                        return Err(Error::new(ErrorType::OutOfMemory));
+                    }
                     if !is_interrupted(&error) {
                         return Err(self.fail());
                     }
@@ -248,6 +303,9 @@ impl<T: TriedWrite> CountedWrite for Counted<T> {
             match self.device.try_flush() {
                 Ok(()) => return Ok(()),
                 Err(error) => {
+                    if is_lack_of_memory(&error) {
+                        return Err(Error::new(ErrorType::OutOfMemory));
+                    }
                     if !is_interrupted(&error) {
                         return Err(self.fail());
                     }
@@ -269,8 +327,9 @@ pub fn write_whole<W: CountedWrite>(to: &mut W, bytes: &[u8]) -> Result<()>
     ensures flushed { OnOk result (W.is_flushed to.new) }
     ensures torn { OnErr result (TookBeginning (W.contents to.old) (W.contents to.new) bytes.now) }
     ensures counted { Counts (W.failed to.old) (W.failed to.new) result }
-    ensures cause { OnErr result (W.gave_up to.new) }
-    ensures kind { IfErr result (λ e. e ≡ Io) }
+    ensures cause { IsErrOf result Io → W.gave_up to.new }
+    ensures memory { IsErrOf result OutOfMemory → W.lacked to.new }
+    ensures kinds { IfErr result (λ e. (e ≡ OutOfMemory) ⊎ (e ≡ Io)) }
 {
     let mut rest = bytes;
     'pieces: while !rest.is_empty() {

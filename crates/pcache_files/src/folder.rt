@@ -8,7 +8,7 @@ ghost use Rattle.pcache_base.specs.declared.error.ErrorType.TheVariants.{Interna
 ghost use Rattle.pcache_files.specs.Device.{GaveUp};
 ghost use Rattle.pcache_files.specs.Folder.{HasRefused, IsForeign, IsRead, IsRefused, IsSaved, IsUnavailable, IsUnsaved, IsWritten};
 
-use crate::device::{Counted, TriedWrite, write_whole};
+use crate::device::{Counted, TriedWrite, refusal, write_whole};
 use crate::named::NamedFiles;
 use crate::pieces::read_list_from;
 use pcache_base::error::{Error, ErrorType, Result};
@@ -49,7 +49,8 @@ fn read_path<R: NamedFiles>(
     ensures found { IfOk result (λ v.
         IsRead (R.opens files.now) R.File.remaining path.now v.items) }
     ensures unavailable { IsErrOf result Io
-        → IsUnavailable (R.opens files.now) (R.refuses files.now) R.File.read_fails path.now }
+        → IsUnavailable (R.opens files.now) R.File.source (R.refuses files.now) R.File.read_fails
+        path.now }
     ensures foreign { IsErrOf result InternalError
         → IsForeign (R.opens files.now) R.File.remaining path.now }
     ensures kinds { IfErr result (λ e. (e ≡ OutOfMemory) ⊎ (e ≡ InternalError) ⊎ (e ≡ Io)) }
@@ -68,7 +69,7 @@ pub(crate) fn read_entries<R: NamedFiles>(
     ensures found { IfOk result (λ v.
         IsRead (R.opens files.now) R.File.remaining (path_join dir.now name.now) v.items) }
     ensures unavailable { IsErrOf result Io
-        → IsUnavailable (R.opens files.now) (R.refuses files.now) R.File.read_fails
+        → IsUnavailable (R.opens files.now) R.File.source (R.refuses files.now) R.File.read_fails
         (path_join dir.now name.now) }
     ensures foreign { IsErrOf result InternalError
         → IsForeign (R.opens files.now) R.File.remaining (path_join dir.now name.now) }
@@ -189,9 +190,9 @@ fn rename<R: NamedFiles>(files: &R, from: &str, path: &str) -> Result<()>
 // Writes all of a new file, and closes it.
 fn write_new<W: TriedWrite + Drop>(file: W, bytes: &[u8]) -> Result<()>
     ensures written { OnOk result (IsWritten W.contents W.is_flushed file bytes.now) }
-    ensures unwritten { OnErr result ((before : W) × (after : W)
-        × GaveUp W.write_fails before after) }
-    ensures kind { IfErr result (λ e. e ≡ Io) }
+    ensures unwritten { IsErrOf result Io
+        → (before : W) × (after : W) × GaveUp W.write_fails before after }
+    ensures kinds { IfErr result (λ e. (e ≡ OutOfMemory) ⊎ (e ≡ Io)) }
 {
     let mut file = Counted::new(file);
     write_whole(&mut file, bytes)
@@ -204,16 +205,5 @@ fn is_taken(error: &io::Error) -> bool
     match error.kind() {
         io::ErrorKind::AlreadyExists => true,
         _ => false,
-    }
-}
-
-// The error for a failed call: std reports a lack of memory in the same way.
-fn refusal(error: &io::Error) -> Error
-    ensures kinds { (result ≡ OutOfMemory) ⊎ (result ≡ Io) }
-    ensures device { result ≡ Io → error_kind error.now ≢ short.OutOfMemory }
-{
-    match error.kind() {
-        io::ErrorKind::OutOfMemory => Error::new(ErrorType::OutOfMemory),
-        _ => Error::new(ErrorType::Io),
     }
 }

@@ -108,6 +108,7 @@ fn fill<D: CountedRead>(
         × Consumes (D.remaining from.old) (D.remaining from.new) piece
         × (ahead.new ≡ ahead.old ++ piece)) }
     ensures enough { OnOk result ((wanted ≤ length ahead.new) ⊎ IsAtEnd (D.remaining from.new)) }
+    ensures same { D.source from.new ≡ D.source from.old }
     ensures counted { Counts (D.failed from.old) (D.failed from.new) result }
     ensures cause { IsErrOf result Io → D.gave_up from.new }
     ensures kinds { IfErr result (λ e. (e ≡ OutOfMemory) ⊎ (e ≡ Io)) }
@@ -139,6 +140,7 @@ fn read_count<D: CountedRead>(from: &mut D, ahead: &mut Ahead, ended: &mut bool)
         → D.remaining from.old ≡ Some rest
         → (n : ℕ) (later : List ℕ)
         → ¬ (ArrayThen (ahead.old ++ rest) n later) }
+    ensures same { D.source from.new ≡ D.source from.old }
     ensures counted { Counts (D.failed from.old) (D.failed from.new) result }
     ensures cause { IsErrOf result Io → D.gave_up from.new }
     ensures kinds { IfErr result (λ e. (e ≡ OutOfMemory) ⊎ (e ≡ InternalError) ⊎ (e ≡ Io)) }
@@ -166,6 +168,7 @@ fn read_next<D: CountedRead>(
         → D.remaining from.old ≡ Some rest
         → (node : CacheEntryKey × ℕ) (later : List ℕ)
         → ¬ (NodeThen (ahead.old ++ rest) node later) }
+    ensures same { D.source from.new ≡ D.source from.old }
     ensures counted { Counts (D.failed from.old) (D.failed from.new) result }
     ensures cause { IsErrOf result Io → D.gave_up from.new }
     ensures kinds { IfErr result (λ e. (e ≡ OutOfMemory) ⊎ (e ≡ InternalError) ⊎ (e ≡ Io)) }
@@ -198,6 +201,7 @@ fn read_nodes<D: CountedRead>(
         → (l : Recency) (later : List ℕ)
         → length l ≡ count
         → ¬ (NodesThen (ahead.old ++ rest) l later) }
+    ensures same { D.source from.new ≡ D.source from.old }
     ensures counted { Counts (D.failed from.old) (D.failed from.new) result }
     ensures cause { IsErrOf result Io → D.gave_up from.new }
     ensures kinds { IfErr result (λ e. (e ≡ OutOfMemory) ⊎ (e ≡ InternalError) ⊎ (e ≡ Io)) }
@@ -224,6 +228,7 @@ pub(crate) fn read_list_from<D: CountedRead>(
         → D.remaining from.old ≡ Some rest
         → (l : Recency)
         → ¬ (SpellsFile rest l) }
+    ensures same { D.source from.new ≡ D.source from.old }
     ensures counted { Counts (D.failed from.old) (D.failed from.new) result }
     ensures cause { IsErrOf result Io → D.gave_up from.new }
     ensures kinds { IfErr result (λ e. (e ≡ OutOfMemory) ⊎ (e ≡ InternalError) ⊎ (e ≡ Io)) }

@@ -45,16 +45,16 @@ pub trait SavedManager: EvictionManager {
     /// the manager that could not be opened or read (`Io`), or one that spells no list.
     fn load<R: NamedFiles>(&mut self, alloc: Global, files: &R, dir: &str) -> Result<usize>
         ensures ok { IfOk result (λ skipped. (entries : Recency)
-            × Loads (R.opens files.now) R.File.remaining (R.refuses files.now) R.File.read_fails
-            dir.now file_names skipped entries
+            × Loads (R.opens files.now) R.File.remaining R.File.source (R.refuses files.now)
+            R.File.read_fails dir.now file_names skipped entries
             × (Self.tracked self.new ≡ put_in entries (Self.tracked self.old))) }
         ensures limits { Self.limits self.new ≡ Self.limits self.old }
         ensures evicted { Self.evicted self.new ≡ Self.evicted self.old }
         ensures unavailable { IsErrOf result Io
             → (name : List ℕ)
             × IsListed name file_names
-            × IsUnavailable (R.opens files.now) (R.refuses files.now) R.File.read_fails
-            (path_join dir.now name) }
+            × IsUnavailable (R.opens files.now) R.File.source (R.refuses files.now)
+            R.File.read_fails (path_join dir.now name) }
         ensures foreign { IsErrOf result InternalError
             → (name : List ℕ)
             × IsListed name file_names

@@ -108,8 +108,8 @@ pub fn load<R: NamedFiles, const N: usize>(
     dir: &str,
 ) -> Result<usize>
     ensures ok { IfOk result (λ skipped. (l : Recency)
-        × Loads (R.opens files.now) R.File.remaining (R.refuses files.now) R.File.read_fails dir.now
-        (shard_names N) skipped l
+        × Loads (R.opens files.now) R.File.remaining R.File.source (R.refuses files.now)
+        R.File.read_fails dir.now (shard_names N) skipped l
         × (manager.new ≡ record manager.old { shards = added_last_all N l manager.old.shards })) }
     ensures skipped { IfOk result (λ n. n ≤ N) }
     ensures placed { ArePlaced N manager.old.shards }
@@ -154,7 +154,7 @@ fn read_shard<R: NamedFiles>(
     dir: &str,
     shard: usize,
 ) -> Result<Option<Vec<(CacheEntryKey, usize)>>>
-    ensures read { IfOk result (λ o. IsFile (R.opens files.now) R.File.remaining
+    ensures read { IfOk result (λ o. IsFile (R.opens files.now) R.File.remaining R.File.source
         (R.refuses files.now) R.File.read_fails (path_join dir.now (shard_name shard))
         (option_map (λ v. v.items) o)) }
     ensures kind { IfErr result (λ e. e ≡ OutOfMemory) }

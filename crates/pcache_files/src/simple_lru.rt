@@ -48,7 +48,7 @@ pub fn deserialize(alloc: Global, manager: &mut Manager, bytes: &[u8]) -> Result
 }
 
 /// Writes the manager's file, and flushes. If the writer fails, it has taken a prefix of the file;
-/// if memory ran out, or the list has no file, it has taken nothing.
+/// if memory ran out before it was called, or the list has no file, it has taken nothing.
 pub fn save_to<W: CountedWrite>(alloc: Global, manager: &Manager, to: &mut W) -> Result<()>
     ensures ok { OnOk result
         (Appends (W.contents to.old) (W.contents to.new) (file_written manager.now.entries)) }
@@ -57,7 +57,8 @@ pub fn save_to<W: CountedWrite>(alloc: Global, manager: &Manager, to: &mut W) ->
     ensures flushed { OnOk result (W.is_flushed to.new) }
     ensures torn { OnErr result
         (TookBeginning (W.contents to.old) (W.contents to.new) (file_written manager.now.entries)) }
-    ensures unwritten { IfErr result (λ e. e ≢ Io → Keeps (W.contents to.old) (W.contents to.new)) }
+    ensures unwritten { IfErr result (λ e. e ≢ Io
+        → Keeps (W.contents to.old) (W.contents to.new) ⊎ ((e ≡ OutOfMemory) × W.lacked to.new)) }
     ensures counted { Counts (W.failed to.old) (W.failed to.new) result }
     ensures cause { IsErrOf result Io → W.gave_up to.new }
     ensures too_long { IsErrOf result InternalError → IsTooLong manager.now.entries }
@@ -118,7 +119,7 @@ pub fn load<R: NamedFiles>(alloc: Global, manager: &mut Manager, files: &R, dir:
         × IsRead (R.opens files.now) R.File.remaining (path_join dir.now list_name) l
         × (manager.new ≡ record manager.old { entries = loaded_all l manager.old.entries })) }
     ensures unavailable { IsErrOf result Io
-        → IsUnavailable (R.opens files.now) (R.refuses files.now) R.File.read_fails
+        → IsUnavailable (R.opens files.now) R.File.source (R.refuses files.now) R.File.read_fails
         (path_join dir.now list_name) }
     ensures foreign { IsErrOf result InternalError
         → IsForeign (R.opens files.now) R.File.remaining (path_join dir.now list_name) }

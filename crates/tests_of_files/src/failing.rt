@@ -10,12 +10,18 @@ use std::sync::atomic::{AtomicU64, Ordering};
 pub struct Failing<'a, R: Files> {
     files: &'a R,
     left: &'a AtomicU64,
+    kind: ErrorKind,
 }
 
 impl<'a, R: Files> Failing<'a, R> {
     /// The call after so many good ones fails.
     pub fn new(files: &'a R, left: &'a AtomicU64) -> Failing<'a, R> {
-        Failing { files, left }
+        Failing::with(files, left, ErrorKind::Other)
+    }
+
+    /// The call after so many good ones fails with an error of this kind.
+    pub fn with(files: &'a R, left: &'a AtomicU64, kind: ErrorKind) -> Failing<'a, R> {
+        Failing { files, left, kind }
     }
 }
 
@@ -24,31 +30,32 @@ impl<'a, R: Files> Failing<'a, R> {
 pub struct FailingFile<'a, F> {
     file: F,
     left: &'a AtomicU64,
+    kind: ErrorKind,
 }
 
 // Counts a call, which fails if no good one was left.
-fn count(left: &AtomicU64) -> io::Result<()> {
+fn count(left: &AtomicU64, kind: ErrorKind) -> io::Result<()> {
     if left.fetch_sub(1, Ordering::SeqCst) == 0 {
-        return Err(io::Error::from(ErrorKind::Other));
+        return Err(io::Error::from(kind));
     }
     Ok(())
 }
 
 impl<'a, F: Read> Read for FailingFile<'a, F> {
     fn read(&mut self, buf: &mut [u8]) -> io::Result<usize> {
-        count(self.left)?;
+        count(self.left, self.kind)?;
         self.file.read(buf)
     }
 }
 
 impl<'a, F: Write> Write for FailingFile<'a, F> {
     fn write(&mut self, buf: &[u8]) -> io::Result<usize> {
-        count(self.left)?;
+        count(self.left, self.kind)?;
         self.file.write(buf)
     }
 
     fn flush(&mut self) -> io::Result<()> {
-        count(self.left)?;
+        count(self.left, self.kind)?;
         self.file.flush()
     }
 }
@@ -83,11 +90,12 @@ impl<'a, R: Files> Files for Failing<'a, R> {
     type Dir = R::Dir;
 
     fn open_file(&self, how: &OpenOptions, path: &str) -> io::Result<FailingFile<'a, R::File>> {
-        count(self.left)?;
+        count(self.left, self.kind)?;
         let file = self.files.open_file(how, path)?;
         Ok(FailingFile {
             file,
             left: self.left,
+            kind: self.kind,
         })
     }
 
@@ -108,7 +116,7 @@ impl<'a, R: Files> Files for Failing<'a, R> {
     }
 
     fn rename(&self, from: &str, to: &str) -> io::Result<()> {
-        count(self.left)?;
+        count(self.left, self.kind)?;
         self.files.rename(from, to)
     }
 

@@ -1,5 +1,5 @@
 use crate::failing::Failing;
-use crate::parts::{AA, holds, letter, with_aa, with_z};
+use crate::parts::{AA, answered, holds, letter, with_aa, with_z};
 use pcache_base::error::{ErrorType, Result};
 use pcache_base::seed::Seed;
 use pcache_evict::eviction::{sharded_lru, simple_lru};
@@ -7,6 +7,7 @@ use pcache_files::saved::SavedManager;
 use std::alloc::Global;
 use std::fs;
 use std::fs::Files;
+use std::io::ErrorKind;
 use std::sync::atomic::AtomicU64;
 use std::test::*;
 
@@ -197,9 +198,14 @@ fn each_call_on_files_fails_in_turn(rt: HostRuntime) -> std::result::Result<(), 
     Ok(())
 }
 
+// Two shards that hold nothing.
+fn no_entries(alloc: Global) -> Result<sharded_lru::Manager<2>> {
+    sharded_lru::Manager::<2>::with_capacity(alloc, Seed::fixed(), 9, 1)
+}
+
 // Two shards that hold `a`, in the second, and `b`, in the first.
 fn two_shards(alloc: Global) -> Result<sharded_lru::Manager<2>> {
-    let mut manager = sharded_lru::Manager::<2>::with_capacity(alloc, Seed::fixed(), 9, 1)?;
+    let mut manager = no_entries(alloc)?;
     let mut entries = Vec::new(alloc);
     entries.push((letter(alloc, b'a', None)?, 1))?;
     entries.push((letter(alloc, b'b', None)?, 2))?;
@@ -215,7 +221,7 @@ fn shards_load<R: Files>(
     answer: &str,
     wanted: &str,
 ) -> Result<bool> {
-    let mut manager = sharded_lru::Manager::<2>::with_capacity(alloc, Seed::fixed(), 9, 1)?;
+    let mut manager = no_entries(alloc)?;
     Ok(load_tells(alloc, files, &mut manager, dir, answer)? && holds(alloc, &manager, wanted)?)
 }
 
@@ -246,6 +252,53 @@ fn shards_that_are_not_there(rt: HostRuntime) -> std::result::Result<(), Fail> {
     fs::remove_dir_all(&rt, "missing_shards")?;
     let are_skipped = shards_load(alloc, &rt, "missing_shards", "2", "")?;
     assert!(rt; are_skipped);
+    Ok(())
+}
+
+// What a shard held is gone once it is saved empty.
+#[test]
+fn shards_that_became_empty(rt: HostRuntime) -> std::result::Result<(), Fail> {
+    let alloc = rt.alloc();
+    let _ = fs::remove_dir_all(&rt, "empty_shards");
+    two_shards(alloc)?.save(alloc, &rt, "empty_shards", 7)?;
+    no_entries(alloc)?.save(alloc, &rt, "empty_shards", 7)?;
+    let is_loaded = shards_load(alloc, &rt, "empty_shards", "0", "")?;
+    assert!(rt; is_loaded);
+    fs::remove_dir_all(&rt, "empty_shards")?;
+    Ok(())
+}
+
+// Whether a load of shards fails for want of memory, and leaves them empty, if the call on files after so many good
+// ones fails so.
+fn shards_lack_memory<R: Files>(alloc: Global, files: &R, good_calls: u64) -> Result<bool> {
+    let left = AtomicU64::new(good_calls);
+    let failing = Failing::with(files, &left, ErrorKind::OutOfMemory);
+    shards_load(alloc, &failing, "memory_shards", "OutOfMemory", "")
+}
+
+// Whether a save of shards fails for want of memory, if the call on files after so many good ones fails so.
+fn no_memory_to_save<R: Files>(alloc: Global, files: &R, good_calls: u64) -> Result<bool> {
+    let left = AtomicU64::new(good_calls);
+    let failing = Failing::with(files, &left, ErrorKind::OutOfMemory);
+    let saved = two_shards(alloc)?.save(alloc, &failing, "memory_shards", 8);
+    Ok(answered(&saved) == "OutOfMemory")
+}
+
+// A lack of memory in a call on files is no file that is missing, and no device that failed.
+#[test]
+fn shards_lack_memory_in_turn(rt: HostRuntime) -> std::result::Result<(), Fail> {
+    let alloc = rt.alloc();
+    let _ = fs::remove_dir_all(&rt, "memory_shards");
+    two_shards(alloc)?.save(alloc, &rt, "memory_shards", 7)?;
+    for good_calls in 0..6 {
+        let is_told = shards_lack_memory(alloc, &rt, good_calls)?;
+        assert!(rt; is_told, "{good_calls}");
+    }
+    for good_calls in 0..8 {
+        let is_told = no_memory_to_save(alloc, &rt, good_calls)?;
+        assert!(rt; is_told, "{good_calls}");
+    }
+    fs::remove_dir_all(&rt, "memory_shards")?;
     Ok(())
 }
 

@@ -374,8 +374,9 @@ impl<M: SavedManager, P: PutPolicy> World<M, P> {
             ++ record { call = files_call Load; reply = reply; events = [] }
             ∷ []) }
         ensures loaded { IfOk result (λ reply. IsLoaded
-            (Loads (R.opens files.now) R.File.remaining (R.refuses files.now) R.File.read_fails
-            dir.now M.file_names) M.put_in self.old.start self.new.start reply) }
+            (Loads (R.opens files.now) R.File.remaining R.File.source (R.refuses files.now)
+            R.File.read_fails dir.now M.file_names) M.put_in self.old.start self.new.start
+            reply) }
         ensures limits { self.new.limits ≡ self.old.limits }
         ensures evicted { self.new.evicted ≡ self.old.evicted }
         ensures age { self.new.age ≡ self.old.age }
@@ -488,8 +489,9 @@ fn load_if<M: SavedManager, R: NamedFiles>(
 ) -> Reply
     ensures reply { AnswersFiles is_early Load result }
     ensures loaded { IsLoaded
-        (Loads (R.opens files.now) R.File.remaining (R.refuses files.now) R.File.read_fails dir.now
-        M.file_names) M.put_in parts.old.tracked parts.new.tracked result }
+        (Loads (R.opens files.now) R.File.remaining R.File.source (R.refuses files.now)
+        R.File.read_fails dir.now M.file_names) M.put_in parts.old.tracked parts.new.tracked
+        result }
     ensures late { is_early ≡ false → parts.new.tracked ≡ parts.old.tracked }
     ensures store { parts.new.store ≡ parts.old.store }
     ensures limits { parts.new.limits ≡ parts.old.limits }

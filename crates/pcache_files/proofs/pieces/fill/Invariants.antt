@@ -6,6 +6,7 @@ abbrev pub invariant-pieces : goal.invariant-pieces
 invariant-pieces g l =
     record {
       more : (piece : List ℕ) × Consumes (g.D.CountedRead.remaining l.fn.from) (g.D.CountedRead.remaining l.from) piece × (l.ahead ≡ l.fn.ahead ++ piece);
+      same : g.D.CountedRead.source l.from ≡ g.D.CountedRead.source l.fn.from;
       count : g.D.CountedRead.failed l.from ≡ g.D.CountedRead.failed l.fn.from;
       goes_on : l.ended ≡ false;
       size : length l.piece ≡ 8192;

@@ -21,5 +21,6 @@ each-preserved g c =
           (reading_more (g.D.CountedRead.remaining c.args.from.now) (g.D.CountedRead.remaining c.each.from) (g.D.CountedRead.remaining c.read_next.new.from) c.args.ahead.now c.each.ahead c.read_next.new.ahead c.each.nodes.items c.in_ok-node.node c.each.invariant.so_far c.in_ok-node.ensures.found);
       end = c.in_ok-node.ensures.end;
       many = omega (arith, size, same, c.each.invariant.many);
+      same = c.in_ok-node.ensures.same ∙ c.each.invariant.same;
       count = c.in_ok-node.ensures.counted ∙ c.each.invariant.count;
     }
