@@ -86,3 +86,6 @@ pub goes_then : {P Q : Parts → Parts → Type 0} (limits : List Limits) (names
 goes_then limits names place old mid new (p, q, at, (before, begins, ends, is), so) (p2, q2, at2, (before2, begins2, ends2, is2), so2) =
     let first = subst (λ (l : List Parts). Begins (names place) old l) (sym is) (begins_more (names place) old before q begins) in
     (p2, q2, at2, (before2, begins_then (names place) old mid before2 first begins2, ends2, is2), so2)
+
+pub goes_as : {P Q : Parts → Parts → Type 0} (limits : List Limits) (names : ℕ → Option ℕ) (place : ℕ) (old new : List Parts) → ((p q : Parts) → P p q → Q p q) → Goes limits names place old new P → Goes limits names place old new Q
+goes_as limits names place old new so (p, q, at, moves, is) = (p, q, at, moves, so p q is)
