@@ -1,5 +1,6 @@
 -- A complete body that a look-up finds, read after the lock: the look-up was made when it was found.
-use Rattle.std.proofs.Common.{◌≡◌, inl, ℕ, Bool, true, false, List, Option, Some, None, Ok, Err, ◌++◌, append_assoc, cond, refl, sym, ap, subst, ◌∙◌}
+use Rattle.std.proofs.Common.{◌≡◌, inl, ℕ, Bool, true, false, List, Option, Some, None, Result, Ok, Err, ◌++◌, append_assoc, cond, refl, sym, ap, subst, ◌∙◌}
+use Rattle.std.specs.Prelude.{IfSome}
 use Rattle.pcache_base.specs.declared.error.ErrorType.{ErrorType}
 use Rattle.pcache_base.specs.declared.error.ErrorType.TheVariants.{OutOfMemory}
 use Rattle.pcache_cache.specs.Parts.{Parts}
@@ -17,25 +18,26 @@ use Rattle.pcache_store.specs.Store.{Part, Reader, Store, Whole, followed, follo
 use Rattle.pcache_store.specs.declared.memory.hit.MemHitHandler.{MemHitHandler}
 use Rattle.pcache_shared_cache.specs.Calls.{LooksUp}
 use Rattle.pcache_shared_cache.specs.Seen.{Begins, Goes, Leads}
+use Rattle.pcache_shared_cache.specs.Shared.{Seated}
 use Rattle.pcache_shared_cache.proofs.Logs.{begins_more}
 
 -- what was found is a complete body, and the look-up finds it
 pub found_is : (x : Option (Meta × Reader)) (f : Meta × Reader) → if_complete x ≡ Some f → (x ≡ Some f) × (needs_no_store f.1 ≡ true)
-found_is None f is = absurd is
+found_is None f is = absurd (cc)
 found_is (Some (m, Whole id body start stop done)) f is = (is, sym (ap whole is))
   where
     whole : Option (Meta × Reader) → Bool
     whole None = true
     whole (Some p) = needs_no_store p.1
-found_is (Some (m, Part n place)) f is = absurd is
+found_is (Some (m, Part n place)) f is = absurd (cc)
 
 followed_alone : (s : Store) (h : Reader) → needs_no_store h ≡ true → followed_by s h ≡ s
 followed_alone s (Whole id body start stop done) is = refl
-followed_alone s (Part n place) is = absurd is
+followed_alone s (Part n place) is = absurd (cc)
 
 noted_alone : (past : List Note) (h : Reader) → needs_no_store h ≡ true → noted (joined_by h) (Some past) ≡ Some past
 noted_alone past (Whole id body start stop done) is = refl
-noted_alone past (Part n place) is = absurd is
+noted_alone past (Part n place) is = absurd (cc)
 
 module _ (now : ℕ) (r : Request) (p : Parts) (m : Meta) (h : MemHitHandler) (found : found_for p.store r.key ≡ Some (m, reader_of h)) (alone : needs_no_store (reader_of h) ≡ true) (shown : is_hidden r.valid_after m.created ≡ false) where
   seen : is_unseen_for p.store r ≡ false
@@ -70,8 +72,10 @@ module _ (now : ℕ) (r : Request) (p : Parts) (m : Meta) (h : MemHitHandler) (f
   })
 
 -- its meta was not read for want of memory, and nothing was done
-pub read_not : (now : ℕ) (r : Request) (p q : Parts) (e : ErrorType) → e ≡ OutOfMemory → q ≡ p → LooksUp (Err e) now r r p q
-read_not now r p q e why same = subst (λ (x : ErrorType). LooksUp (Err x) now r r p q) (sym why) (subst (λ (x : Parts). LooksUp (Err OutOfMemory) now r r p x) (sym same) (record { found = tt; request = tt; store = tt; past = tt; locks = tt; deeds = tt; left = inl (refl, refl); same_locks = refl; same_deeds = refl; kind = tt; rest = refl }))
+pub read_not : (now : ℕ) (r : Request) (p q : Parts) (result : Result (Option (Meta × MemHitHandler)) ErrorType) (e : ErrorType) → result ≡ Err e → e ≡ OutOfMemory → q ≡ p → LooksUp result now r r p q
+read_not now r p q result e is why same =
+    subst (λ (x : Result (Option (Meta × MemHitHandler)) ErrorType). LooksUp x now r r p q) (sym (is ∙ ap Err why))
+    (subst (λ (x : Parts). LooksUp (Err OutOfMemory) now r r p x) (sym same) (record { found = tt; request = tt; store = tt; past = tt; locks = tt; deeds = tt; left = inl (refl, refl); same_locks = refl; same_deeds = refl; kind = tt; rest = refl }))
 
 -- the part is as it was, and so nothing is forgotten
 pub leads_nowhere : (p q : Parts) → q ≡ p → Leads p q
@@ -89,3 +93,12 @@ goes_then limits names place old mid new (p, q, at, (before, begins, ends, is), 
 
 pub goes_as : {P Q : Parts → Parts → Type 0} (limits : List Limits) (names : ℕ → Option ℕ) (place : ℕ) (old new : List Parts) → ((p q : Parts) → P p q → Q p q) → Goes limits names place old new P → Goes limits names place old new Q
 goes_as limits names place old new so (p, q, at, moves, is) = (p, q, at, moves, so p q is)
+
+-- the same for a request that stays as it is but for what it has seen
+pub looks_then : {P : Parts → Parts → Type 0} (Q : Request → Parts → Parts → Type 0) (limits : List Limits) (names : ℕ → Option ℕ) (r s : Seated) (new : List Parts) → s ≡ record r { seen = s.seen } → Goes limits names r.place r.seen s.seen P → Goes limits names s.place s.seen new (Q s.cache) → Goes limits names r.place r.seen new (Q r.cache)
+looks_then {P} Q limits names r s new is first second = goes_then limits names r.place r.seen s.seen new first (subst (λ (x : Seated). Goes limits names x.place s.seen new (Q x.cache)) is second)
+
+-- what is told of a result that is what was found
+pub some_found : (f x : Option (Meta × Reader)) → f ≡ x → IfSome f (λ y. x ≡ Some y)
+some_found None x is = tt
+some_found (Some y) x is = sym is

@@ -103,8 +103,8 @@ pub record LooksUp (result : Result (Option (Meta × MemHitHandler)) ErrorType) 
   pub rest : q ≡ record p { store = q.store; past = q.past; locks = q.locks; deeds = q.deeds }
 
 -- the look-up of the key finds this complete body, and the part stays as it is
-pub record FindsBody (found : Option (Meta × Reader)) (r : Request) (p q : Parts) : Type 0 where
-  pub found : IfSome found (λ f. if_complete (found_for p.store r.key) ≡ Some f)
+pub record FindsBody (f : Option (Meta × Reader)) (r : Request) (p q : Parts) : Type 0 where
+  pub found : IfSome f (λ x. if_complete (found_for p.store r.key) ≡ Some x)
   pub same : q ≡ p
 
 -- the pair that a look-up found is taken

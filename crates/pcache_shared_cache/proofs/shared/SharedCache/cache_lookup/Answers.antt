@@ -1,0 +1,46 @@
+use Rattle.std.proofs.Common.{◌≡◌, false, Ok, Some, ap, subst, sym, ◌∙◌}
+use Rattle.std.proofs.lemmas.Result.{err_from_is_err_and}
+use Rattle.pcache_request.specs.Requests.{Request, found_for}
+use Rattle.pcache_request.specs.Variants.{is_hidden}
+use Rattle.pcache_store.specs.Readers.{needs_no_store, reader_of}
+use Rattle.pcache_shared_cache.specs.Calls.{LooksUp}
+use Rattle.pcache_shared_cache.specs.Seen.{Goes}
+use Rattle.pcache_shared_cache.specs.Shared.{Seated}
+use Rattle.pcache_shared_cache.proofs.FoundAlone.{found_alone, found_is, goes_as, looks_then, read_not}
+use Rattle.pcache_shared_cache.proofs.shared.SharedCache.cache_lookup.Goals as goal
+
+pub returns-in_default-clause-goes : goal.returns-in_default-clause-goes
+returns-in_default-clause-goes g c =
+    looks_then (λ (x : Request). LooksUp c.look_up.result c.args.now x c.look_up.new.request.cache) c.args.self.now g.K.Mark.names c.args.request.now c.complete_body.new.request c.look_up.new.request.seen
+    c.complete_body.ensures.rest c.complete_body.ensures.goes c.look_up.ensures.goes
+
+pub returns-in_err-meta-clause-goes : goal.returns-in_err-meta-clause-goes
+returns-in_err-meta-clause-goes g c =
+    let r = c.args.request.now.cache in
+    let mid = c.complete_body.new.request in
+    let why = err_from_is_err_and c.from_residual.result c.from_residual.ensures.1 in
+    subst (λ (x : Seated). Goes c.args.self.now g.K.Mark.names c.args.request.now.place c.args.request.now.seen mid.seen (LooksUp c.from_residual.result c.args.now r x.cache)) (sym c.complete_body.ensures.rest)
+    (goes_as c.args.self.now g.K.Mark.names c.args.request.now.place c.args.request.now.seen mid.seen
+    (λ p q found. read_not c.args.now r p q c.from_residual.result why.0 why.1 (why.2 ∙ c.in_err-meta.ensures.kind) found.same)
+    c.complete_body.ensures.goes)
+
+pub returns-then-hides-clause-goes : goal.returns-then-hides-clause-goes
+returns-then-hides-clause-goes g c =
+    looks_then (λ (x : Request). LooksUp c.look_up-then-hides.result c.args.now x c.look_up-then-hides.new.request.cache) c.args.self.now g.K.Mark.names c.args.request.now c.complete_body.new.request c.look_up-then-hides.new.request.seen
+    c.complete_body.ensures.rest c.complete_body.ensures.goes c.look_up-then-hides.ensures.goes
+
+pub returns-clause-goes : goal.returns-clause-goes
+returns-clause-goes g c =
+    let r = c.args.request.now.cache in
+    let mid = c.complete_body.new.request in
+    let m = c.in_ok-meta.meta in
+    let h = c.in_ok-meta.hit in
+    let same = c.request.view_is ∙ c.complete_body.ensures.rest in
+    let shown : is_hidden r.valid_after m.created ≡ false =
+    sym (ap (λ (x : Seated). is_hidden x.cache.valid_after m.created) same) ∙ sym c.hides.ensures ∙ c.if-hides.false in
+    subst (λ (x : Seated). Goes c.args.self.now g.K.Mark.names c.args.request.now.place c.args.request.now.seen mid.seen (LooksUp (Ok (Some (m, h))) c.args.now r x.cache)) (sym c.complete_body.ensures.rest)
+    (goes_as c.args.self.now g.K.Mark.names c.args.request.now.place c.args.request.now.seen mid.seen
+    (λ p q found.
+    let is = found_is (found_for p.store r.key) c.in-Some.found found.found in
+    found_alone c.args.now r p m h (is.0 ∙ ap Some (sym c.in_ok-meta.ensures.read)) (ap (λ x. needs_no_store x.1) c.in_ok-meta.ensures.read ∙ is.1) shown q found.same)
+    c.in-Some.ensures.goes)
