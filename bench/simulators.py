@@ -307,15 +307,16 @@ class TwoQueues:
             self.used -= self.a1in.pop(key)
 
 
-def most_hits(keys, limit):
-    """Belady (1966): of one body too many, the one goes that is asked for last; what is not asked for again is not kept."""
+def most_hits(keys, limit, uncounted=0):
+    """Belady (1966): of one body too many, the one goes that is asked for last; what is not asked for again is not kept. The hits of
+    the first requests are not counted."""
     places = collections.defaultdict(collections.deque)
     for place, key in enumerate(keys):
         places[key].append(place)
     kept, last, hits = {}, [], 0
-    for key in keys:
+    for place, key in enumerate(keys):
         places[key].popleft()
-        hits += kept.pop(key, None) is not None
+        hits += kept.pop(key, None) is not None and place >= uncounted
         if places[key]:
             kept[key] = places[key][0]
             heapq.heappush(last, (-kept[key], key))

@@ -8,6 +8,8 @@ mod bounds;
 #[cfg(test)]
 mod key_limit;
 #[cfg(test)]
+mod long;
+#[cfg(test)]
 mod managers;
 #[cfg(test)]
 mod nodes;

@@ -36,7 +36,7 @@ const USUAL: Words<'static> = Words {
 };
 
 // The usual words with those that are given, each with its value.
-fn with(call: &'static str) -> Words<'static> {
+pub fn with(call: &'static str) -> Words<'static> {
     let mut words = USUAL;
     for given in call.split("; ") {
         let (name, value) = given.split_once(' ').unwrap_or((given, ""));
