@@ -20,6 +20,8 @@ mod rows;
 #[cfg(test)]
 mod runs;
 #[cfg(test)]
+mod seeds;
+#[cfg(test)]
 mod simulations;
 #[cfg(test)]
 mod traces;
