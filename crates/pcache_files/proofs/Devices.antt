@@ -1,10 +1,12 @@
 -- What readers gave and writers took, call after call.
 use Rattle.std.proofs.Common.{◌≡◌, ℕ, suc, ◌+◌, ◌-◌, ◌^◌, List, ◌++◌, Option, Some, None, length, take, drop, sym, ap, subst, ◌∙◌, append_assoc, arith, inl, inr}
-use Rattle.std.specs.Prelude.{Result, Ok, Err, ◌≢◌}
+use Rattle.std.specs.Prelude.{Result, Ok, Err, IsErrOf, ◌≢◌, ◌⊎◌, ◌%◌}
+use Rattle.pcache_base.specs.declared.error.ErrorType.{ErrorType}
+use Rattle.pcache_base.specs.declared.error.ErrorType.TheVariants.{Io, OutOfMemory}
 use Rattle.std_io.specs.declared.io.error.Error.{Error}
 use Rattle.std_io.specs.IoError.{error_kind}
 use Rattle.std_io.specs.declared.io.kind.ErrorKind.TheVariants as kinds
-use Rattle.pcache_files.specs.Device.{Interrupted, GaveUp, LackedMemory}
+use Rattle.pcache_files.specs.Device.{Counts, Interrupted, GaveUp, LackedMemory}
 use Rattle.std.specs.Io.KnownBytes.{Appends, Consumes, Keeps, ReadConsumes}
 use Rattle.std.proofs.lemmas.List.{length-drop, take-append-drop, take_all}
 
@@ -55,6 +57,13 @@ taken-more old now new bytes rest n h more = rw (take_all (length rest - n) (dro
   appends = appends-more old now new h.front (take n rest) h.appends more;
 })
 
+-- one more call failed if the error says so
+pub counts : (T : Type 0) (told : ErrorType) (old new : ℕ) → (told ≡ OutOfMemory) ⊎ (told ≡ Io) → (told ≡ Io → new ≡ (old + 1) % 2 ^ 64) → (told ≡ OutOfMemory → new ≡ old) → Counts {T = T} old new (Err told)
+counts T told old new kinds counted uncounted = elim kinds [
+  | inl memory ↦ subst (λ k. Counts {T = T} old new (Err k)) (sym memory) (uncounted memory)
+  | inr io ↦ subst (λ k. Counts {T = T} old new (Err k)) (sym io) (counted io)
+]
+
 -- ---- calls that are made again
 
 module _ {D : Type 0} (fails : D → Error → D → Type 0) where
@@ -66,8 +75,8 @@ module _ {D : Type 0} (fails : D → Error → D → Type 0) where
       more n = omega arith
 
   -- a try failed
-  pub gave-up : (n : ℕ) (old now new left : D) (e : Error) → Interrupted fails n old now → fails now e new → error_kind e ≢ kinds.Interrupted → error_kind e ≢ kinds.OutOfMemory → left ≡ new → (d : D) × GaveUp fails d left
-  gave-up n old now new left e so_far failed not_by not_memory is = (
+  gave-up-by : (n : ℕ) (old now new left : D) (e : Error) → Interrupted fails n old now → fails now e new → error_kind e ≢ kinds.Interrupted → error_kind e ≢ kinds.OutOfMemory → left ≡ new → (d : D) × GaveUp fails d left
+  gave-up-by n old now new left e so_far failed not_by not_memory is = (
     old,
     record {
       times = n;
@@ -77,9 +86,18 @@ module _ {D : Type 0} (fails : D → Error → D → Type 0) where
     },
   )
 
+  lacked-by : (n : ℕ) (old now new left : D) (e : Error) → Interrupted fails n old now → fails now e new → error_kind e ≡ kinds.OutOfMemory → left ≡ new → (d : D) × LackedMemory fails d left
+  lacked-by n old now new left e so_far failed memory is = (old, record { times = n; last = now; interrupted = so_far; ended = (e, subst (λ d. fails now e d) (sym is) failed, memory) })
+
+  -- the same of the error that is told
+  pub gave-up : (told : ErrorType) (n : ℕ) (old now new left : D) (e : Error) → Interrupted fails n old now → fails now e new → error_kind e ≢ kinds.Interrupted → (told ≡ Io → error_kind e ≢ kinds.OutOfMemory) → left ≡ new
+      → {T : Type 0} → IsErrOf {T = T} (Err told) Io → (d : D) × GaveUp fails d left
+  gave-up told n old now new left e so_far failed not_by not_memory is told_io = gave-up-by n old now new left e so_far failed not_by (not_memory (cc told_io)) is
+
   -- a try failed for want of memory
-  pub lacked : (n : ℕ) (old now new : D) (e : Error) → Interrupted fails n old now → fails now e new → error_kind e ≡ kinds.OutOfMemory → (d : D) × LackedMemory fails d new
-  lacked n old now new e so_far failed memory = (old, record { times = n; last = now; interrupted = so_far; ended = (e, failed, memory) })
+  pub lacked : (told : ErrorType) (n : ℕ) (old now new left : D) (e : Error) → Interrupted fails n old now → fails now e new → (told ≡ OutOfMemory → error_kind e ≡ kinds.OutOfMemory) → left ≡ new
+      → {T : Type 0} → IsErrOf {T = T} (Err told) OutOfMemory → (d : D) × LackedMemory fails d left
+  lacked told n old now new left e so_far failed memory is told_so = lacked-by n old now new left e so_far failed (memory (cc told_so)) is
 
   -- all tries were interrupted
   pub gave-up-trying : (n : ℕ) (old now left : D) → Interrupted fails n old now → n ≡ 2 ^ 64 - 1 → left ≡ now → (d : D) × GaveUp fails d left

@@ -201,6 +201,21 @@ impl<T> Counted<T> {
         self.failures = self.failures.wrapping_add(1);
         Error::new(ErrorType::Io)
     }
+
+    // The error for a call that failed so. It counts, unless memory was wanting.
+    fn refuse(&mut self, error: &io::Error) -> Error
+        ensures kinds { (result ≡ OutOfMemory) ⊎ (result ≡ Io) }
+        ensures failed { result ≡ Io → error_kind error.now ≢ short.OutOfMemory }
+        ensures memory { result ≡ OutOfMemory → error_kind error.now ≡ short.OutOfMemory }
+        ensures device { self.new.device ≡ self.old.device }
+        ensures counted { result ≡ Io → self.new.failures ≡ (self.old.failures + 1) % 2 ^ 64 }
+        ensures uncounted { result ≡ OutOfMemory → self.new.failures ≡ self.old.failures }
+    {
+        if is_lack_of_memory(error) {
+            return Error::new(ErrorType::OutOfMemory);
+        }
+        self.fail()
+    }
 }
 
 // Whether a signal interrupted the call that failed so.
@@ -253,11 +268,8 @@ impl<T: TriedRead> CountedRead for Counted<T> {
             match self.device.try_read(buf) {
                 Ok(count) => return Ok(count),
                 Err(error) => {
-                    if is_lack_of_memory(&error) {
-                        return Err(Error::new(ErrorType::OutOfMemory));
-                    }
                     if !is_interrupted(&error) {
-                        return Err(self.fail());
+                        return Err(self.refuse(&error));
                     }
                 }
             }
@@ -286,11 +298,8 @@ impl<T: TriedWrite> CountedWrite for Counted<T> {
             match self.device.try_write(buf) {
                 Ok(count) => return Ok(count),
                 Err(error) => {
-                    if is_lack_of_memory(&error) {
-                        return Err(Error::new(ErrorType::OutOfMemory));
-                    }
                     if !is_interrupted(&error) {
-                        return Err(self.fail());
+                        return Err(self.refuse(&error));
                     }
                 }
             }
@@ -303,11 +312,8 @@ impl<T: TriedWrite> CountedWrite for Counted<T> {
             match self.device.try_flush() {
                 Ok(()) => return Ok(()),
                 Err(error) => {
-                    if is_lack_of_memory(&error) {
-                        return Err(Error::new(ErrorType::OutOfMemory));
-                    }
                     if !is_interrupted(&error) {
-                        return Err(self.fail());
+                        return Err(self.refuse(&error));
                     }
                 }
             }

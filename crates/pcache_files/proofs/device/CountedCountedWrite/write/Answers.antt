@@ -1,15 +1,18 @@
-use Rattle.std.proofs.Common.{arith, refl}
-use Rattle.pcache_files.proofs.Devices.{gave-up, gave-up-trying, lacked}
+use Rattle.std.proofs.Common.{◌∙◌, ◌+◌, ◌%◌, ◌^◌, ℕ, ap, arith, refl}
+use Rattle.pcache_files.proofs.Devices.{counts, gave-up, gave-up-trying, lacked}
 use Rattle.pcache_files.proofs.device.CountedCountedWrite.write.Goals as goal
 
 pub returns-then-not-is_interrupted-clause-cause : goal.returns-then-not-is_interrupted-clause-cause
 returns-then-not-is_interrupted-clause-cause g c = λ failed.
-    gave-up g.T.TriedWrite.write_fails c.tries.tried c.args.self.now.device c.tries.self.device c.try_write.new.self c.fail.new.self.device c.in-Err.error c.tries.invariant.tries c.in-Err.ensures.cause (c.if-not-is_interrupted.ensures.no refl) (c.if-is_lack_of_memory.ensures.no refl) c.fail.ensures.device
+    gave-up g.T.TriedWrite.write_fails c.refuse.result c.tries.tried c.args.self.now.device c.tries.self.device c.try_write.new.self c.refuse.new.self.device c.in-Err.error c.tries.invariant.tries c.in-Err.ensures.cause (c.if-not-is_interrupted.ensures.no refl) c.refuse.ensures.failed c.refuse.ensures.device failed
+
+pub returns-then-not-is_interrupted-clause-memory : goal.returns-then-not-is_interrupted-clause-memory
+returns-then-not-is_interrupted-clause-memory g c = λ failed.
+    lacked g.T.TriedWrite.write_fails c.refuse.result c.tries.tried c.args.self.now.device c.tries.self.device c.try_write.new.self c.refuse.new.self.device c.in-Err.error c.tries.invariant.tries c.in-Err.ensures.cause c.refuse.ensures.memory c.refuse.ensures.device failed
+
+pub returns-then-not-is_interrupted-clause-counted : goal.returns-then-not-is_interrupted-clause-counted
+returns-then-not-is_interrupted-clause-counted g c = counts ℕ c.refuse.result c.args.self.now.failures c.refuse.new.self.failures c.refuse.ensures.kinds (λ io. c.refuse.ensures.counted io ∙ ap (λ n. (n + 1) % 2 ^ 64) c.tries.invariant.count) (λ m. c.refuse.ensures.uncounted m ∙ c.tries.invariant.count)
 
 pub returns-clause-cause : goal.returns-clause-cause
 returns-clause-cause g c = λ failed.
-    gave-up-trying g.T.TriedWrite.write_fails c.tries.tried c.args.self.now.device c.tries.self.device c.fail-2.new.self.device c.tries.invariant.tries (omega (arith, c.tries.auto.tried-end, c.tries-test.false)) c.fail-2.ensures.device
-
-pub returns-then-is_lack_of_memory-clause-memory : goal.returns-then-is_lack_of_memory-clause-memory
-returns-then-is_lack_of_memory-clause-memory g c = λ failed.
-    lacked g.T.TriedWrite.write_fails c.tries.tried c.args.self.now.device c.tries.self.device c.try_write.new.self c.in-Err.error c.tries.invariant.tries c.in-Err.ensures.cause (c.if-is_lack_of_memory.ensures.yes refl)
+    gave-up-trying g.T.TriedWrite.write_fails c.tries.tried c.args.self.now.device c.tries.self.device c.fail.new.self.device c.tries.invariant.tries (omega (arith, c.tries.auto.tried-end, c.tries-test.false)) c.fail.ensures.device
