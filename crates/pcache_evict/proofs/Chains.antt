@@ -575,6 +575,12 @@ steps limits k shards from to place a b low high v sum count =
     let count_v = v.count in let room_v = v.room in
     record { sum = fit.0; count = fit.1; fits = omega arith }
 
+-- before the first shard nothing was passed
+pub walk-starts : (limits : Limits) (k : CacheEntryKey) (shards : List Recency) (from : ℕ) (w : Walk) → Walks limits k (span shards from (from - from)) w w
+walk-starts limits k shards from w =
+    let none : from - from ≡ 0 = omega arith in
+    subst (λ n. Walks limits k (span shards from n) w w) (sym none) (record { left = []; passed = []; split = refl; sum = omega arith; count = omega arith; room = omega arith; ends = inl refl })
+
 pub walk-next : (limits : Limits) (k : CacheEntryKey) (shards : List Recency) (from place : ℕ) (a b c : Walk) → from ≤ place → Walks limits k (span shards from (place - from)) a b → (IsWithinTotals limits b.sum b.count → ⊥) → Walks limits k (list_at shards place) b c → Walks limits k (span shards from (place + 1 - from)) a c
 walk-next limits k shards from place a b c low v over w = subst (λ l. Walks limits k l a c) (sym (span-next shards from place low)) (walks-on limits k (list_at shards place) (span shards from (place - from)) a b c v over w)
 

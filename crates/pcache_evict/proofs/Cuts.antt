@@ -1,10 +1,10 @@
 -- Entries put at the back of lists, and taken off again; a list copied from its end.
 use Rattle.std.proofs.Common.{◌≡◌, ℕ, zero, suc, ◌+◌, ◌-◌, ◌<◌, ◌≤◌, ◌^◌, true, false, cond, None, Some, is_some, List, [], ◌∷◌, ◌++◌, refl, ap, sym, subst, ◌∙◌, arith, length, take, All, append_assoc, length-append, inl, inr}
-use Rattle.std.specs.Prelude.{slice_set, slice_index_or}
+use Rattle.std.specs.Prelude.{Err, Ok, OnErr, Result, slice_set, slice_index_or}
 use Rattle.std.specs.List.{IsDistinct, AllByRecursion}
 use Rattle.std.specs.Map.{keys_of}
 use Rattle.std.proofs.lemmas.Bool.{cases_eq}
-use Rattle.std.proofs.lemmas.List.{append-nil, get_or-set_same, get_or-set_other, length-set, length-take, take_all, take_at, take-take, same_lists, get_or_default, get_or_append_left}
+use Rattle.std.proofs.lemmas.List.{append-nil, get_or-set_same, get_or-set_other, length-set, length-take, take_all, take_at, take-take, same_lists, get_or_default, get_or_append_left, set-get_or}
 use Rattle.std.proofs.Math.Seq.{get_or-append_seam}
 use Rattle.std.proofs.lemmas.List.Elements.{All-append, All-nil, All-cons}
 use Rattle.std.proofs.lemmas.List.Sums.{sum_by-cons, sum_by-append}
@@ -204,6 +204,11 @@ shard-pushed n k w l s none = record {
   own = both (λ e. shard_of n e.0 ≡ shard_of n k) l ((k, w) ∷ []) s.own (refl, tt);
   once = once-append l ((k, w) ∷ []) s.once (once-one k w) (apart-none k w l none);
 }
+
+-- a failed call put a list back as it was
+pub put-back : {T E : Type 0} (r : Result T E) (inside now : List Recency) (place : ℕ) (l x : Recency) → inside ≡ now → l ≡ slice_index_or inside place l → x ≡ l → OnErr r (slice_set inside place x ≡ now)
+put-back (Ok y) inside now place l x view at same = tt
+put-back (Err e) inside now place l x view at same = ap (slice_set inside place) (same ∙ at) ∙ set-get_or inside place l ∙ view
 
 pub kept-pushed : (n : ℕ) (inside now : List Recency) (total items : ℕ) (k : CacheEntryKey) (w place : ℕ) (l x : Recency) → AreKept n inside total items → inside ≡ now → place ≡ shard_of n k → l ≡ slice_index_or inside place l → x ≡ l ++ (k, w) ∷ [] → w ≤ 2 ^ 64 - 1
     → weight_of k (list_at now (shard_of n k)) ≡ None → items + 1 < 2 ^ 63 → AreKept n (slice_set inside place x) (total + w) (items + 1)

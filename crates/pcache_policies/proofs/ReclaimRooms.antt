@@ -89,62 +89,67 @@ failed-back old mid new k v n found is limits evicted h =
 abbrev pub state : TwoQueues → Limits → ℕ → ℕ → Queued
 state q limits w c = record { queues = q; limits = limits; evicted = record { weight = w; count = c } }
 
-abbrev pub kept : Ring → Ghosts → Kept
-kept r g = record { ring = r; ghosts = g }
+-- what these parts show, whatever the parameters of the code
+abbrev pub parts_shown : Ring → Ghosts → TwoQueues
+parts_shown r g = queues r.ahead (r.leaving ++ r.passed) g
 
-pub admits-in : (limits : Limits) (w c w2 c2 : ℕ) (before r s : Kept) (u : Ring) (k : CacheEntryKey) (n : ℕ) (out : List CacheEntryKey)
-    → IsOnce (all before.ring) → IsOnce (all r.ring) → MakesRoom limits n 1 (shown before) (chosen r.ring) (left_of r) → SameEntries before.ring r.ring → HasRoom limits n 1 (entries (left_of r))
-    → left_of s ≡ entered (is_ghost k before.ghosts) k n (left_of r) → s.ring.leaving ≡ r.ring.leaving → u ≡ ring s.ring.ahead [] s.ring.passed → out ≡ chosen s.ring → length out ≡ length s.ring.leaving
-    → w2 ≡ min (w + weight (plain s.ring.leaving)) (2 ^ 64 - 1) → c2 ≡ min (c + length s.ring.leaving) (2 ^ 64 - 1)
-    → Admits (state (shown before) limits w c) k n (state (shown (kept u s.ghosts)) limits w2 c2) out
-admits-in limits w c w2 c2 before r s u k n out once apart made same room enters leaves is keys long heavy many =
-    let at : shown (kept u s.ghosts) ≡ entered (is_ghost k before.ghosts) k n (left_of r) = ap (λ u. shown (kept u s.ghosts)) is ∙ enters in
-    let parts = whole_weight before.ring r.ring once apart same in
-    let gone : weight (plain s.ring.leaving) ≡ weight (plain r.ring.leaving) = ap (λ q. weight (plain q)) leaves in
-    let left : weight (entries (shown (kept u s.ghosts))) ≡ n + weight (entries (left_of r)) = ap (λ s. weight (entries s)) at ∙ weight-entered (is_ghost k before.ghosts) k n (left_of r) in
-    record {
-      comes = record { left = left_of r; gone = chosen r.ring; room = made; ends = inl (room, at, keys ∙ ap (λ (q : Queue). chosen (ring [] q [])) leaves) };
-      counted = (refl, omega (arith, heavy, parts, gone, left), omega (arith, many, long));
-    }
+module _ {S H : Type 0} where
+  abbrev pub kept : Ring → Ghosts → Kept S H
+  kept r g = record { ring = r; ghosts = g }
 
-pub admits-out : (limits : Limits) (w c w1 c1 w2 c2 : ℕ) (before r : Kept) (u : Ring) (k : CacheEntryKey) (n : ℕ) (out all_out : List CacheEntryKey)
-    → IsOnce (all before.ring) → IsOnce (all r.ring) → MakesRoom limits n 1 (shown before) (chosen r.ring) (left_of r) → SameEntries before.ring r.ring → ¬ HasRoom limits n 1 (entries (left_of r))
-    → u ≡ ring r.ring.ahead [] r.ring.passed → out ≡ chosen r.ring → length out ≡ length r.ring.leaving → all_out ≡ out ++ k ∷ []
-    → w1 ≡ min (w + weight (plain r.ring.leaving)) (2 ^ 64 - 1) → c1 ≡ min (c + length r.ring.leaving) (2 ^ 64 - 1) → w2 ≡ min (w1 + n) (2 ^ 64 - 1) → c2 ≡ min (c1 + 1) (2 ^ 64 - 1)
-    → Admits (state (shown before) limits w c) k n (state (shown (kept u r.ghosts)) limits w2 c2) all_out
-admits-out limits w c w1 c1 w2 c2 before r u k n out all_out once apart made same none is keys long last heavy many more one =
-    let at : shown (kept u r.ghosts) ≡ left_of r = ap (λ u. shown (kept u r.ghosts)) is in
-    let parts = whole_weight before.ring r.ring once apart same in
-    let left : weight (entries (shown (kept u r.ghosts))) ≡ weight (entries (left_of r)) = ap (λ s. weight (entries s)) at in
-    let longer : length all_out ≡ length (out ++ k ∷ []) = ap (λ (l : List CacheEntryKey). length l) last in
-    let sum = length-append out (k ∷ []) in
-    record {
-      comes = record { left = left_of r; gone = chosen r.ring; room = made; ends = inr (none, at, last ∙ ap (λ out. out ++ k ∷ []) keys) };
-      counted = (refl, omega (arith, heavy, more, parts, left), omega (arith, many, one, long, longer, sum));
-    }
+  pub admits-in : (limits : Limits) (w c w2 c2 : ℕ) (before r s : Kept S H) (u : Ring) (k : CacheEntryKey) (n : ℕ) (out : List CacheEntryKey)
+      → IsOnce (all before.ring) → IsOnce (all r.ring) → MakesRoom limits n 1 (shown before) (chosen r.ring) (left_of r) → SameEntries before.ring r.ring → HasRoom limits n 1 (entries (left_of r))
+      → left_of s ≡ entered (is_ghost k before.ghosts) k n (left_of r) → s.ring.leaving ≡ r.ring.leaving → u ≡ ring s.ring.ahead [] s.ring.passed → out ≡ chosen s.ring → length out ≡ length s.ring.leaving
+      → w2 ≡ min (w + weight (plain s.ring.leaving)) (2 ^ 64 - 1) → c2 ≡ min (c + length s.ring.leaving) (2 ^ 64 - 1)
+      → Admits (state (shown before) limits w c) k n (state (shown (kept u s.ghosts)) limits w2 c2) out
+  admits-in limits w c w2 c2 before r s u k n out once apart made same room enters leaves is keys long heavy many =
+      let at : shown (kept u s.ghosts) ≡ entered (is_ghost k before.ghosts) k n (left_of r) = ap (λ u. shown (kept u s.ghosts)) is ∙ enters in
+      let parts = whole_weight before.ring r.ring once apart same in
+      let gone : weight (plain s.ring.leaving) ≡ weight (plain r.ring.leaving) = ap (λ q. weight (plain q)) leaves in
+      let left : weight (entries (shown (kept u s.ghosts))) ≡ n + weight (entries (left_of r)) = ap (λ s. weight (entries s)) at ∙ weight-entered (is_ghost k before.ghosts) k n (left_of r) in
+      record {
+        comes = record { left = left_of r; gone = chosen r.ring; room = made; ends = inl (room, at, keys ∙ ap (λ (q : Queue). chosen (ring [] q [])) leaves) };
+        counted = (refl, omega (arith, heavy, parts, gone, left), omega (arith, many, long));
+      }
 
-pub keeps-in : (limits : Limits) (w c w2 c2 : ℕ) (before r : Kept) (u : Ring) (out : List CacheEntryKey)
-    → IsOnce (all before.ring) → IsOnce (all r.ring) → MakesRoom limits 0 0 (shown before) (chosen r.ring) (left_of r) → SameEntries before.ring r.ring
-    → u ≡ ring r.ring.ahead [] r.ring.passed → out ≡ chosen r.ring → length out ≡ length r.ring.leaving
-    → w2 ≡ min (w + weight (plain r.ring.leaving)) (2 ^ 64 - 1) → c2 ≡ min (c + length r.ring.leaving) (2 ^ 64 - 1)
-    → KeepsLimits (state (shown before) limits w c) (shown before) (state (shown (kept u r.ghosts)) limits w2 c2) out
-keeps-in limits w c w2 c2 before r u out once apart made same is keys long heavy many =
-    let at : shown (kept u r.ghosts) ≡ left_of r = ap (λ u. shown (kept u r.ghosts)) is in
-    let parts = whole_weight before.ring r.ring once apart same in
-    let left : weight (entries (shown (kept u r.ghosts))) ≡ weight (entries (left_of r)) = ap (λ s. weight (entries s)) at in
-    record {
-      room = subst (λ s. MakesRoom limits 0 0 (shown before) out s) (sym at) (subst (λ out. MakesRoom limits 0 0 (shown before) out (left_of r)) (sym keys) made);
-      counted = (refl, omega (arith, heavy, parts, left), omega (arith, many, long));
-    }
+  pub admits-out : (limits : Limits) (w c w1 c1 w2 c2 : ℕ) (before r : Kept S H) (u : Ring) (k : CacheEntryKey) (n : ℕ) (out all_out : List CacheEntryKey)
+      → IsOnce (all before.ring) → IsOnce (all r.ring) → MakesRoom limits n 1 (shown before) (chosen r.ring) (left_of r) → SameEntries before.ring r.ring → ¬ HasRoom limits n 1 (entries (left_of r))
+      → u ≡ ring r.ring.ahead [] r.ring.passed → out ≡ chosen r.ring → length out ≡ length r.ring.leaving → all_out ≡ out ++ k ∷ []
+      → w1 ≡ min (w + weight (plain r.ring.leaving)) (2 ^ 64 - 1) → c1 ≡ min (c + length r.ring.leaving) (2 ^ 64 - 1) → w2 ≡ min (w1 + n) (2 ^ 64 - 1) → c2 ≡ min (c1 + 1) (2 ^ 64 - 1)
+      → Admits (state (shown before) limits w c) k n (state (shown (kept u r.ghosts)) limits w2 c2) all_out
+  admits-out limits w c w1 c1 w2 c2 before r u k n out all_out once apart made same none is keys long last heavy many more one =
+      let at : shown (kept u r.ghosts) ≡ left_of r = ap (λ u. shown (kept u r.ghosts)) is in
+      let parts = whole_weight before.ring r.ring once apart same in
+      let left : weight (entries (shown (kept u r.ghosts))) ≡ weight (entries (left_of r)) = ap (λ s. weight (entries s)) at in
+      let longer : length all_out ≡ length (out ++ k ∷ []) = ap (λ (l : List CacheEntryKey). length l) last in
+      let sum = length-append out (k ∷ []) in
+      record {
+        comes = record { left = left_of r; gone = chosen r.ring; room = made; ends = inr (none, at, last ∙ ap (λ out. out ++ k ∷ []) keys) };
+        counted = (refl, omega (arith, heavy, more, parts, left), omega (arith, many, one, long, longer, sum));
+      }
 
-pub keeps-still : (limits : Limits) (w c w2 c2 : ℕ) (before : Kept) (out : List CacheEntryKey) → IsWithinAsList limits (entries (shown before)) → out ≡ [] → w2 ≡ min (w + 0) (2 ^ 64 - 1) → c2 ≡ min (c + 0) (2 ^ 64 - 1)
-    → KeepsLimits (state (shown before) limits w c) (shown before) (state (shown before) limits w2 c2) out
-keeps-still limits w c w2 c2 before out inside empty heavy many =
-    let long : length out ≡ 0 = ap (λ (l : List CacheEntryKey). length l) empty in
-    record {
-      room = subst (λ out. MakesRoom limits 0 0 (shown before) out (shown before)) (sym empty) (rests (shown before) (inl (room-within limits (entries (shown before)) inside)));
-      counted = (refl, omega (arith, heavy), omega (arith, many, long));
-    }
+  pub keeps-in : (limits : Limits) (w c w2 c2 : ℕ) (before r : Kept S H) (u : Ring) (out : List CacheEntryKey)
+      → IsOnce (all before.ring) → IsOnce (all r.ring) → MakesRoom limits 0 0 (shown before) (chosen r.ring) (left_of r) → SameEntries before.ring r.ring
+      → u ≡ ring r.ring.ahead [] r.ring.passed → out ≡ chosen r.ring → length out ≡ length r.ring.leaving
+      → w2 ≡ min (w + weight (plain r.ring.leaving)) (2 ^ 64 - 1) → c2 ≡ min (c + length r.ring.leaving) (2 ^ 64 - 1)
+      → KeepsLimits (state (shown before) limits w c) (shown before) (state (shown (kept u r.ghosts)) limits w2 c2) out
+  keeps-in limits w c w2 c2 before r u out once apart made same is keys long heavy many =
+      let at : shown (kept u r.ghosts) ≡ left_of r = ap (λ u. shown (kept u r.ghosts)) is in
+      let parts = whole_weight before.ring r.ring once apart same in
+      let left : weight (entries (shown (kept u r.ghosts))) ≡ weight (entries (left_of r)) = ap (λ s. weight (entries s)) at in
+      record {
+        room = subst (λ s. MakesRoom limits 0 0 (shown before) out s) (sym at) (subst (λ out. MakesRoom limits 0 0 (shown before) out (left_of r)) (sym keys) made);
+        counted = (refl, omega (arith, heavy, parts, left), omega (arith, many, long));
+      }
+
+  pub keeps-still : (limits : Limits) (w c w2 c2 : ℕ) (before : Kept S H) (out : List CacheEntryKey) → IsWithinAsList limits (entries (shown before)) → out ≡ [] → w2 ≡ min (w + 0) (2 ^ 64 - 1) → c2 ≡ min (c + 0) (2 ^ 64 - 1)
+      → KeepsLimits (state (shown before) limits w c) (shown before) (state (shown before) limits w2 c2) out
+  keeps-still limits w c w2 c2 before out inside empty heavy many =
+      let long : length out ≡ 0 = ap (λ (l : List CacheEntryKey). length l) empty in
+      record {
+        room = subst (λ out. MakesRoom limits 0 0 (shown before) out (shown before)) (sym empty) (rests (shown before) (inl (room-within limits (entries (shown before)) inside)));
+        counted = (refl, omega (arith, heavy), omega (arith, many, long));
+      }
 
 -- what was changed before the limits were looked at counts as from where it began
 pub keeps-from : (old mid new : Queued) (from : TwoQueues) (out : List CacheEntryKey) → mid ≡ record old { queues = from } → KeepsLimits mid mid.queues new out → KeepsLimits old from new out

@@ -3,6 +3,7 @@
 
 use crate::one_queue::{self, Uses};
 use crate::queue::Seen;
+use pcache_base::seed::Seed;
 
 /// A use sets an entry's bit.
 #[derive(Drop)]
@@ -22,4 +23,4 @@ impl Uses for Noticed {
 }
 
 /// A queue whose oldest entry goes; if it was used, its bit is cleared, and it becomes the newest.
-pub type Manager = one_queue::Manager<Noticed>;
+pub type Manager<S = Seed> = one_queue::Manager<Noticed, S>;

@@ -8,6 +8,7 @@ ghost use Rattle.pcache_policies.specs.Ring as ring_specs;
 
 use crate::ring::Ring;
 use pcache_evict::eviction::CacheEntryKey;
+use std::hash::BuildHasher;
 
 /// The weight and the number of all entries evicted so far; each stops at the largest `usize`.
 #[derive(Clone, Copy, Debug)]
@@ -39,8 +40,8 @@ impl Evictions {
 }
 
 /// Evicts what the hand chose into a vector that has room for it.
-pub(crate) fn let_go(
-    ring: &mut Ring,
+pub(crate) fn let_go<S: BuildHasher + Copy + Drop>(
+    ring: &mut Ring<S>,
     evicted: &mut Evictions,
     mut out: Vec<CacheEntryKey>,
 ) -> Vec<CacheEntryKey>

@@ -3,6 +3,7 @@
 
 use crate::one_queue::{self, Uses};
 use crate::queue::Seen;
+use pcache_base::seed::Seed;
 
 /// A use changes nothing.
 #[derive(Drop)]
@@ -21,4 +22,4 @@ impl Uses for Unnoticed {
 }
 
 /// A queue whose oldest entry goes, used or not.
-pub type Manager = one_queue::Manager<Unnoticed>;
+pub type Manager<S = Seed> = one_queue::Manager<Unnoticed, S>;

@@ -5,19 +5,19 @@ ghost use Rattle.pcache_policies.specs.S3Fifo.{is_ghost, forgotten, ghosted};
 
 use crate::queue::{Queue, Seen};
 use pcache_base::error::Result;
-use pcache_base::seed::Seed;
 use pcache_evict::eviction::CacheEntryKey;
 use std::alloc::Global;
+use std::hash::BuildHasher;
 use std::marker::Model;
 
 /// Keys, the newest first, each once. A contract sees the list. Each call takes at most one look-up,
 /// and one for each key that is dropped.
 #[derive(Drop)]
-pub(crate) struct Ghosts {
-    queue: Queue,
+pub(crate) struct Ghosts<S: BuildHasher> {
+    queue: Queue<S>,
 }
 
-impl Model for Ghosts {
+impl<S: BuildHasher> Model for Ghosts<S> {
     ghost use Rattle.std.specs.Map.{keys_of};
     ghost use Rattle.pcache_policies.specs.S3Fifo.{Ghosts};
 
@@ -26,9 +26,9 @@ impl Model for Ghosts {
     ghost view = { λ g. keys_of g.queue };
 }
 
-impl Ghosts {
+impl<S: BuildHasher + Copy + Drop> Ghosts<S> {
     /// No keys.
-    pub(crate) fn new(alloc: Global, seed: Seed) -> Result<Ghosts>
+    pub(crate) fn new(alloc: Global, seed: S) -> Result<Ghosts<S>>
         ensures ok { IfOk result (λ made. made ≡ []) }
         ensures kind { IfErr result (λ e. e ≡ OutOfMemory) }
     {

@@ -16,6 +16,7 @@ use pcache_base::moment::Moment;
 use pcache_base::seed::Seed;
 use pcache_evict::eviction::{CacheEntryKey, EvictionManager};
 use std::alloc::Global;
+use std::hash::BuildHasher;
 use std::marker::{Model, PhantomData};
 
 /// What a use of an entry makes of it.
@@ -41,16 +42,16 @@ pub trait Uses: Drop {
 /// the queue, the limits and the totals of evictions. Each call takes a constant number of look-ups,
 /// and some for each entry that is spared or evicted; one that is spared was used.
 #[derive(Drop)]
-pub struct Manager<U: Uses> {
+pub struct Manager<U: Uses, S: BuildHasher = Seed> {
     alloc: Global,
     limit: usize,
     watermark: Option<usize>,
-    ring: Ring,
+    ring: Ring<S>,
     evicted: Evictions,
     uses: PhantomData<U>,
 }
 
-impl<U: Uses> Model for Manager<U> {
+impl<U: Uses, S: BuildHasher> Model for Manager<U, S> {
     ghost use Rattle.pcache_policies.specs.Ring.{in_turn, shown};
     ghost use Rattle.pcache_policies.specs.OneQueue.{Queued};
 
@@ -63,10 +64,10 @@ impl<U: Uses> Model for Manager<U> {
     } };
 }
 
-impl<U: Uses> Manager<U> {
+impl<U: Uses, S: BuildHasher + Copy + Drop> Manager<U, S> {
     /// An empty manager whose entries weigh at most `limit` after each eviction. Its lists hash under the
     /// seed, on which no result depends.
-    pub fn new(alloc: Global, seed: Seed, limit: usize) -> Result<Manager<U>>
+    pub fn new(alloc: Global, seed: S, limit: usize) -> Result<Manager<U, S>>
         ensures ok { IfOk result (λ m. m ≡ empty_queue limit None) }
         ensures kind { IfErr result (λ e. e ≡ OutOfMemory) }
     {
@@ -77,10 +78,10 @@ impl<U: Uses> Manager<U> {
     /// `items_watermark` if that is given.
     pub fn new_with_watermark(
         alloc: Global,
-        seed: Seed,
+        seed: S,
         limit: usize,
         items_watermark: Option<usize>,
-    ) -> Result<Manager<U>>
+    ) -> Result<Manager<U, S>>
         ensures ok { IfOk result (λ m. m ≡ empty_queue limit items_watermark) }
         ensures kind { IfErr result (λ e. e ≡ OutOfMemory) }
     {
@@ -315,7 +316,7 @@ impl<U: Uses> Manager<U> {
     }
 }
 
-impl<U: Uses> EvictionManager for Manager<U> {
+impl<U: Uses, S: BuildHasher + Copy + Drop> EvictionManager for Manager<U, S> {
     ghost use Rattle.pcache_evict.specs.Listed.{map_of};
     ghost use Rattle.pcache_policies.specs.Queue.{plain};
 

@@ -6,8 +6,9 @@ use pcache_base::error::Result;
 use pcache_base::moment::Moment;
 use pcache_evict::eviction::CacheEntryKey;
 use pcache_evict::eviction::ordered::OrderedManager;
+use std::hash::BuildHasher;
 
-impl OrderedManager for sieve::Manager {
+impl<S: BuildHasher + Copy + Drop> OrderedManager for sieve::Manager<S> {
     ghost use Rattle.std.specs.Prelude.{refl};
     ghost use Rattle.pcache_policies.specs.Sieve.{Sieve, sieve_policy};
 
@@ -54,7 +55,7 @@ impl OrderedManager for sieve::Manager {
     }
 }
 
-impl OrderedManager for s3_fifo::Manager {
+impl<S: BuildHasher + Copy + Drop> OrderedManager for s3_fifo::Manager<S> {
     ghost use Rattle.std.specs.Prelude.{refl};
     ghost use Rattle.pcache_policies.specs.S3Fifo.{Fifos, s3_fifo_policy};
 
@@ -101,7 +102,7 @@ impl OrderedManager for s3_fifo::Manager {
     }
 }
 
-impl OrderedManager for two_queues::Manager {
+impl<S: BuildHasher + Copy + Drop> OrderedManager for two_queues::Manager<S> {
     ghost use Rattle.std.specs.Prelude.{refl};
     ghost use Rattle.pcache_policies.specs.TwoQueues.{TwoQueues, two_queues_policy};
 
@@ -148,7 +149,7 @@ impl OrderedManager for two_queues::Manager {
     }
 }
 
-impl<U: Uses> OrderedManager for one_queue::Manager<U> {
+impl<U: Uses, S: BuildHasher + Copy + Drop> OrderedManager for one_queue::Manager<U, S> {
     ghost use Rattle.std.specs.Prelude.{refl};
     ghost use Rattle.pcache_policies.specs.Queue.{Queue};
     ghost use Rattle.pcache_policies.specs.OneQueue.{queue_policy};

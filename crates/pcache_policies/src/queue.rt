@@ -9,9 +9,9 @@ ghost use Rattle.pcache_policies.specs.Queue.{Queue, IsOnce, plain, seen_of, res
 
 use lru::LruCache;
 use pcache_base::error::Result;
-use pcache_base::seed::Seed;
 use pcache_evict::eviction::CacheEntryKey;
 use std::alloc::Global;
+use std::hash::BuildHasher;
 use std::marker::Model;
 
 /// The most uses that are counted: what two bits hold.
@@ -56,12 +56,12 @@ impl Seen {
 ///
 /// A contract sees the list. Each call takes at most one look-up.
 #[derive(Drop)]
-pub(crate) struct Queue {
-    cache: LruCache<CacheEntryKey, Seen, Seed>,
+pub(crate) struct Queue<S: BuildHasher> {
+    cache: LruCache<CacheEntryKey, Seen, S>,
     weight: u128,
 }
 
-impl Model for Queue {
+impl<S: BuildHasher> Model for Queue<S> {
     ghost use Rattle.pcache_policies.specs.Queue.{Queue, IsKept};
 
     ghost Value = { Queue };
@@ -71,9 +71,9 @@ impl Model for Queue {
     ghost invariant = { λ q. IsKept q.cache q.weight };
 }
 
-impl Queue {
+impl<S: BuildHasher + Copy + Drop> Queue<S> {
     /// An empty queue. No result depends on the seed.
-    pub(crate) fn new(alloc: Global, seed: Seed) -> Result<Queue>
+    pub(crate) fn new(alloc: Global, seed: S) -> Result<Queue<S>>
         ensures ok { IfOk result (λ queue. queue ≡ []) }
         ensures kind { IfErr result (λ e. e ≡ OutOfMemory) }
     {
@@ -241,8 +241,8 @@ fn push_copy(all: &mut Vec<(CacheEntryKey, usize)>, key: &CacheEntryKey, size: u
 }
 
 /// Sets what is known of an entry in place. Returns what it weighed before, if the list has it.
-fn write_seen(
-    cache: &mut LruCache<CacheEntryKey, Seen, Seed>,
+fn write_seen<S: BuildHasher>(
+    cache: &mut LruCache<CacheEntryKey, Seen, S>,
     item: &CacheEntryKey,
     seen: Seen,
 ) -> Option<usize>

@@ -13,22 +13,22 @@ use crate::ghosts::Ghosts;
 use crate::queue::Seen;
 use crate::ring::Ring;
 use pcache_base::error::Result;
-use pcache_base::seed::Seed;
 use pcache_evict::eviction::CacheEntryKey;
 use std::alloc::Global;
+use std::hash::BuildHasher;
 
 /// The main queue (the entries ahead in the ring), the new entries (those that were passed), and the
 /// keys of entries that went from the new ones. An entry that is to go is first set aside, as in the
 /// ring.
 #[derive(Drop)]
-pub(crate) struct Queues {
-    pub(crate) ring: Ring,
-    pub(crate) ghosts: Ghosts,
+pub(crate) struct Queues<S: BuildHasher> {
+    pub(crate) ring: Ring<S>,
+    pub(crate) ghosts: Ghosts<S>,
 }
 
-impl Queues {
+impl<S: BuildHasher + Copy + Drop> Queues<S> {
     /// No entries and no ghosts.
-    pub(crate) fn new(alloc: Global, seed: Seed) -> Result<Queues>
+    pub(crate) fn new(alloc: Global, seed: S) -> Result<Queues<S>>
         ensures ok { IfOk result (λ made. (made.ring ≡ ring [] [] []) × (made.ghosts ≡ [])) }
         ensures kind { IfErr result (λ e. e ≡ OutOfMemory) }
     {

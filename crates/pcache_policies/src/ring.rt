@@ -7,16 +7,16 @@ ghost use Rattle.pcache_evict.specs.declared.eviction.entry_key.CacheEntryKey.{C
 ghost use Rattle.pcache_evict.specs.Tracked.{limits_of};
 ghost use Rattle.pcache_evict.specs.Recency.{weight};
 ghost use Rattle.pcache_policies.specs.declared.queue.Seen.{Seen};
-ghost use Rattle.pcache_policies.specs.Queue.{Queue, IsOnce, plain, seen_of, rest_of, reseen, unused};
+ghost use Rattle.pcache_policies.specs.Queue.{Queue as Entries, IsOnce, plain, seen_of, rest_of, reseen, unused};
 ghost use Rattle.pcache_policies.specs.Leaving.{HasRoom};
 ghost use Rattle.pcache_policies.specs.Sieve.{entered, entries, turned, MakesRoom};
 ghost use Rattle.pcache_policies.specs.Ring.{Ring, ring, all, shown, in_turn, left_of, Steps, Chooses, SameEntries, chosen};
 
 use crate::queue::{Queue, Seen};
 use pcache_base::error::{Error, ErrorType, Result};
-use pcache_base::seed::Seed;
 use pcache_evict::eviction::CacheEntryKey;
 use std::alloc::Global;
+use std::hash::BuildHasher;
 use std::marker::Model;
 use std::mem;
 
@@ -36,13 +36,13 @@ fn is_full(count: usize) -> bool
 /// An entry that the hand passes moves from one queue to another, which may take memory. So an
 /// entry that is to go is first set aside, and leaves once nothing can fail any more.
 #[derive(Drop)]
-pub(crate) struct Ring {
-    ahead: Queue,
-    leaving: Queue,
-    passed: Queue,
+pub(crate) struct Ring<S: BuildHasher> {
+    ahead: Queue<S>,
+    leaving: Queue<S>,
+    passed: Queue<S>,
 }
 
-impl Model for Ring {
+impl<S: BuildHasher> Model for Ring<S> {
     ghost use Rattle.pcache_policies.specs.Ring.{Ring, ring, IsRing};
 
     ghost Value = { Ring };
@@ -52,9 +52,9 @@ impl Model for Ring {
     ghost invariant = { λ r. IsRing r.ahead r.leaving r.passed };
 }
 
-impl Ring {
+impl<S: BuildHasher + Copy + Drop> Ring<S> {
     /// No entries.
-    pub(crate) fn new(alloc: Global, seed: Seed) -> Result<Ring>
+    pub(crate) fn new(alloc: Global, seed: S) -> Result<Ring<S>>
         ensures ok { IfOk result (λ made. made ≡ ring [] [] []) }
         ensures kind { IfErr result (λ e. e ≡ OutOfMemory) }
     {
@@ -318,7 +318,7 @@ impl Ring {
     pub(crate) fn pass_again(&mut self, key: &CacheEntryKey, before: Seen, after: Seen)
         requires last { last_entry self.old.passed ≡ Some (key.now, before) }
         requires weight { after.weight ≡ before.weight }
-        ensures passed { (rest : Queue)
+        ensures passed { (rest : Entries)
             × (self.old.passed ≡ rest ++ (key.now, before) ∷ [])
             × (self.new.passed ≡ (key.now, after) ∷ rest) }
         ensures others { (self.new.leaving ≡ self.old.leaving) × (self.new.ahead ≡ self.old.ahead) }

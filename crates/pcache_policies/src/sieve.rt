@@ -15,6 +15,7 @@ use pcache_base::moment::Moment;
 use pcache_base::seed::Seed;
 use pcache_evict::eviction::{CacheEntryKey, EvictionManager};
 use std::alloc::Global;
+use std::hash::BuildHasher;
 use std::marker::Model;
 
 /// Entries with weights from the newest to the oldest, a hand, and limits on the sum of the weights
@@ -26,15 +27,15 @@ use std::marker::Model;
 /// the totals of evictions. Each call takes a constant number of look-ups, and some for each entry
 /// that the hand passes or evicts; a bit that the hand clears was set by a use.
 #[derive(Drop)]
-pub struct Manager {
+pub struct Manager<S: BuildHasher = Seed> {
     alloc: Global,
     limit: usize,
     watermark: Option<usize>,
-    ring: Ring,
+    ring: Ring<S>,
     evicted: Evictions,
 }
 
-impl Model for Manager {
+impl<S: BuildHasher> Model for Manager<S> {
     ghost use Rattle.pcache_policies.specs.Ring.{shown};
     ghost use Rattle.pcache_policies.specs.Sieve.{Sieved};
 
@@ -47,10 +48,10 @@ impl Model for Manager {
     } };
 }
 
-impl Manager {
+impl<S: BuildHasher + Copy + Drop> Manager<S> {
     /// An empty manager whose entries weigh at most `limit` after each eviction. Its lists hash under the
     /// seed, on which no result depends.
-    pub fn new(alloc: Global, seed: Seed, limit: usize) -> Result<Manager>
+    pub fn new(alloc: Global, seed: S, limit: usize) -> Result<Manager<S>>
         ensures ok { IfOk result (λ m. m ≡ empty_sieve limit None) }
         ensures kind { IfErr result (λ e. e ≡ OutOfMemory) }
     {
@@ -61,10 +62,10 @@ impl Manager {
     /// `items_watermark` if that is given.
     pub fn new_with_watermark(
         alloc: Global,
-        seed: Seed,
+        seed: S,
         limit: usize,
         items_watermark: Option<usize>,
-    ) -> Result<Manager>
+    ) -> Result<Manager<S>>
         ensures ok { IfOk result (λ m. m ≡ empty_sieve limit items_watermark) }
         ensures kind { IfErr result (λ e. e ≡ OutOfMemory) }
     {
@@ -307,7 +308,7 @@ impl Manager {
     }
 }
 
-impl EvictionManager for Manager {
+impl<S: BuildHasher + Copy + Drop> EvictionManager for Manager<S> {
     ghost use Rattle.pcache_evict.specs.Listed.{map_of};
     ghost use Rattle.pcache_policies.specs.Sieve.{entries};
 

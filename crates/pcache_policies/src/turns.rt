@@ -16,9 +16,13 @@ use crate::ring::Ring;
 use pcache_base::error::Result;
 use pcache_evict::eviction::CacheEntryKey;
 use std::alloc::Global;
+use std::hash::BuildHasher;
 
 /// What is known of an entry; `None` if the queue does not have it.
-pub(crate) fn seen(ring: &Ring, item: &CacheEntryKey) -> Option<Seen>
+pub(crate) fn seen<S: BuildHasher + Copy + Drop>(
+    ring: &Ring<S>,
+    item: &CacheEntryKey,
+) -> Option<Seen>
     ensures value { result ≡ seen_of item.now (in_turn (shown ring.now)) }
     ensures once { IsOnce (in_turn (shown ring.now)) }
 {
@@ -26,21 +30,25 @@ pub(crate) fn seen(ring: &Ring, item: &CacheEntryKey) -> Option<Seen>
 }
 
 /// Sets what is known of an entry in place.
-pub(crate) fn set(ring: &mut Ring, item: &CacheEntryKey, seen: Seen)
+pub(crate) fn set<S: BuildHasher + Copy + Drop>(
+    ring: &mut Ring<S>,
+    item: &CacheEntryKey,
+    seen: Seen,
+)
     ensures { in_turn (shown ring.new) ≡ reseen item.now seen (in_turn (shown ring.old)) }
 {
     ring.set(item, seen);
 }
 
 /// Removes an entry.
-pub(crate) fn remove(ring: &mut Ring, item: &CacheEntryKey)
+pub(crate) fn remove<S: BuildHasher + Copy + Drop>(ring: &mut Ring<S>, item: &CacheEntryKey)
     ensures { in_turn (shown ring.new) ≡ rest_of item.now (in_turn (shown ring.old)) }
 {
     ring.remove(item);
 }
 
 /// The number of entries.
-pub(crate) fn count(ring: &Ring) -> usize
+pub(crate) fn count<S: BuildHasher + Copy + Drop>(ring: &Ring<S>) -> usize
     ensures value { result ≡ length (in_turn (shown ring.now)) }
     ensures once { IsOnce (in_turn (shown ring.now)) }
 {
@@ -48,7 +56,7 @@ pub(crate) fn count(ring: &Ring) -> usize
 }
 
 /// The sum of the entries' weights.
-pub(crate) fn total(ring: &Ring) -> u128
+pub(crate) fn total<S: BuildHasher + Copy + Drop>(ring: &Ring<S>) -> u128
     ensures value { result ≡ weight (plain (in_turn (shown ring.now))) }
     ensures once { IsOnce (in_turn (shown ring.now)) }
 {
@@ -56,7 +64,11 @@ pub(crate) fn total(ring: &Ring) -> u128
 }
 
 /// Whether the limits hold.
-pub(crate) fn is_within(ring: &Ring, limit: usize, watermark: Option<usize>) -> bool
+pub(crate) fn is_within<S: BuildHasher + Copy + Drop>(
+    ring: &Ring<S>,
+    limit: usize,
+    watermark: Option<usize>,
+) -> bool
     ensures yes { result ≡ true
         → IsWithinAsList (limits_of limit watermark) (plain (in_turn (shown ring.now))) }
     ensures not { result ≡ false
@@ -66,7 +78,12 @@ pub(crate) fn is_within(ring: &Ring, limit: usize, watermark: Option<usize>) -> 
 }
 
 /// Whether the limits hold for the entries that were not chosen, with one more of this weight.
-pub(crate) fn has_room(ring: &Ring, size: usize, limit: usize, watermark: Option<usize>) -> bool
+pub(crate) fn has_room<S: BuildHasher + Copy + Drop>(
+    ring: &Ring<S>,
+    size: usize,
+    limit: usize,
+    watermark: Option<usize>,
+) -> bool
     ensures room { result ≡ true
         → HasRoom (limits_of limit watermark) size 1 (plain (in_turn (left_of ring.now))) }
     ensures none { result ≡ false
@@ -77,8 +94,8 @@ pub(crate) fn has_room(ring: &Ring, size: usize, limit: usize, watermark: Option
 
 /// Chooses entries to evict until `count` more entries of this total weight fit or no entry is
 /// left, and makes a vector with room for the keys of all of them and of one more.
-pub(crate) fn choose(
-    ring: &mut Ring,
+pub(crate) fn choose<S: BuildHasher + Copy + Drop>(
+    ring: &mut Ring<S>,
     alloc: Global,
     size: usize,
     count: usize,
@@ -106,7 +123,11 @@ pub(crate) fn choose(
 }
 
 /// Adds a new entry as the newest.
-pub(crate) fn enter(ring: &mut Ring, item: CacheEntryKey, size: usize) -> Result<()>
+pub(crate) fn enter<S: BuildHasher + Copy + Drop>(
+    ring: &mut Ring<S>,
+    item: CacheEntryKey,
+    size: usize,
+) -> Result<()>
     requires { seen_of item (in_turn (shown ring.old)) ≡ None }
     ensures ok { OnOk result
         (in_turn (left_of ring.new) ≡ entered item size (in_turn (left_of ring.old))) }
@@ -120,7 +141,10 @@ pub(crate) fn enter(ring: &mut Ring, item: CacheEntryKey, size: usize) -> Result
 }
 
 /// Adds copies of the entries with their weights, the newest first.
-pub(crate) fn copy_into(ring: &Ring, list: &mut Vec<(CacheEntryKey, usize)>) -> Result<()>
+pub(crate) fn copy_into<S: BuildHasher + Copy + Drop>(
+    ring: &Ring<S>,
+    list: &mut Vec<(CacheEntryKey, usize)>,
+) -> Result<()>
     ensures ok { OnOk result
         (list.new.items ≡ list.old.items ++ plain (in_turn (shown ring.now))) }
     ensures kind { IfErr result (λ e. e ≡ OutOfMemory) }

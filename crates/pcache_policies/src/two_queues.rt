@@ -16,6 +16,7 @@ use pcache_base::moment::Moment;
 use pcache_base::seed::Seed;
 use pcache_evict::eviction::{CacheEntryKey, EvictionManager};
 use std::alloc::Global;
+use std::hash::BuildHasher;
 use std::marker::Model;
 
 /// Entries with weights in a main queue and one of new entries, the keys of those that went from the
@@ -28,15 +29,15 @@ use std::marker::Model;
 /// entries. A contract sees the queues with the ghosts, the limits and the totals of evictions. Each
 /// call takes a constant number of look-ups, and some for each entry that goes.
 #[derive(Drop)]
-pub struct Manager {
+pub struct Manager<S: BuildHasher = Seed> {
     alloc: Global,
     limit: usize,
     watermark: Option<usize>,
-    queues: Queues,
+    queues: Queues<S>,
     evicted: Evictions,
 }
 
-impl Model for Manager {
+impl<S: BuildHasher> Model for Manager<S> {
     ghost use Rattle.pcache_policies.specs.Reclaim.{shown};
     ghost use Rattle.pcache_policies.specs.TwoQueues.{Queued};
 
@@ -49,10 +50,10 @@ impl Model for Manager {
     } };
 }
 
-impl Manager {
+impl<S: BuildHasher + Copy + Drop> Manager<S> {
     /// An empty manager whose entries weigh at most `limit` after each eviction. Its lists hash under the
     /// seed, on which no result depends.
-    pub fn new(alloc: Global, seed: Seed, limit: usize) -> Result<Manager>
+    pub fn new(alloc: Global, seed: S, limit: usize) -> Result<Manager<S>>
         ensures ok { IfOk result (λ m. m ≡ empty_queues limit None) }
         ensures kind { IfErr result (λ e. e ≡ OutOfMemory) }
     {
@@ -63,10 +64,10 @@ impl Manager {
     /// `items_watermark` if that is given.
     pub fn new_with_watermark(
         alloc: Global,
-        seed: Seed,
+        seed: S,
         limit: usize,
         items_watermark: Option<usize>,
-    ) -> Result<Manager>
+    ) -> Result<Manager<S>>
         ensures ok { IfOk result (λ m. m ≡ empty_queues limit items_watermark) }
         ensures kind { IfErr result (λ e. e ≡ OutOfMemory) }
     {
@@ -369,7 +370,7 @@ impl Manager {
     }
 }
 
-impl EvictionManager for Manager {
+impl<S: BuildHasher + Copy + Drop> EvictionManager for Manager<S> {
     ghost use Rattle.pcache_evict.specs.Listed.{map_of};
     ghost use Rattle.pcache_policies.specs.TwoQueues.{entries};
 

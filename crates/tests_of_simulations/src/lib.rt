@@ -22,6 +22,8 @@ mod rows;
 #[cfg(test)]
 mod runs;
 #[cfg(test)]
+mod seeds;
+#[cfg(test)]
 mod simulations;
 #[cfg(test)]
 mod traces;

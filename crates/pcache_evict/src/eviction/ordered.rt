@@ -9,6 +9,7 @@ ghost use Rattle.pcache_evict.specs.Policy.{Policy};
 use super::{CacheEntryKey, EvictionManager, sharded_lru, simple_lru};
 use pcache_base::error::Result;
 use pcache_base::moment::Moment;
+use std::hash::BuildHasher;
 
 /// A manager that orders its entries by a policy.
 ///
@@ -101,7 +102,7 @@ pub trait OrderedManager: EvictionManager {
     ghost listed: { (m : Self) → Self.tracked m ≡ map_of (policy.entries (order m)) };
 }
 
-impl OrderedManager for simple_lru::Manager {
+impl<S: BuildHasher + Copy + Drop> OrderedManager for simple_lru::Manager<S> {
     ghost use Rattle.std.specs.Prelude.{refl};
     ghost use Rattle.pcache_evict.specs.Recency.{Recency};
     ghost use Rattle.pcache_evict.specs.Policy.{lru};
@@ -149,7 +150,7 @@ impl OrderedManager for simple_lru::Manager {
     }
 }
 
-impl<const N: usize> OrderedManager for sharded_lru::Manager<N> {
+impl<const N: usize, S: BuildHasher + Copy + Drop> OrderedManager for sharded_lru::Manager<N, S> {
     ghost use Rattle.std.specs.Prelude.{List, refl};
     ghost use Rattle.pcache_evict.specs.Recency.{Recency};
     ghost use Rattle.pcache_evict.specs.Policy.{sharded};

@@ -13,24 +13,24 @@ ghost use Rattle.pcache_evict.specs.Chain.{IsWithinTotals, Walks};
 use super::CacheEntryKey;
 use lru::{Iter, LruCache};
 use pcache_base::error::Result;
-use pcache_base::seed::Seed;
 use std::alloc::Global;
+use std::hash::BuildHasher;
 use std::marker::Model;
 
 /// Entries with their weights, most recent first. A contract sees the list.
 ///
 /// Each move takes one look-up. No entry occurs twice.
 #[derive(Drop)]
-pub(super) struct RecencyList {
-    cache: Weights,
+pub(super) struct RecencyList<S: BuildHasher> {
+    cache: Weights<S>,
     weight: u128,
-    seed: Seed,
+    seed: S,
 }
 
 /// The weights of entries, found by a hash of the entry under a seed.
-type Weights = LruCache<CacheEntryKey, usize, Seed>;
+type Weights<S> = LruCache<CacheEntryKey, usize, S>;
 
-impl Model for RecencyList {
+impl<S: BuildHasher> Model for RecencyList<S> {
     ghost use Rattle.pcache_evict.specs.Recency.{Recency};
     ghost use Rattle.pcache_evict.specs.Listed.{IsKept};
 
@@ -41,9 +41,9 @@ impl Model for RecencyList {
     ghost invariant = { λ a. IsKept a.cache a.weight };
 }
 
-impl RecencyList {
+impl<S: BuildHasher + Copy + Drop> RecencyList<S> {
     /// An empty list. No result depends on the seed.
-    pub(super) fn new(alloc: Global, seed: Seed) -> Result<RecencyList>
+    pub(super) fn new(alloc: Global, seed: S) -> Result<RecencyList<S>>
         ensures ok { IfOk result (λ list. list ≡ []) }
         ensures kind { IfErr result (λ e. e ≡ OutOfMemory) }
     {
@@ -220,7 +220,7 @@ impl RecencyList {
     }
 
     /// A copy of this list.
-    pub(super) fn copied(&self, alloc: Global) -> Result<RecencyList>
+    pub(super) fn copied(&self, alloc: Global) -> Result<RecencyList<S>>
         ensures ok { IfOk result (λ copy. copy ≡ self.now) }
         ensures kind { IfErr result (λ e. e ≡ OutOfMemory) }
     {
@@ -444,7 +444,7 @@ pub(super) struct Walk {
 }
 
 /// Sets the weight of an entry of the list, and moves it to the front.
-fn set_weight(cache: &mut Weights, item: &CacheEntryKey, size: usize)
+fn set_weight<S: BuildHasher>(cache: &mut Weights<S>, item: &CacheEntryKey, size: usize)
     requires { IsSome (weight_of item.now cache.old.entries) }
     ensures { cache.new ≡ lru_cache (put_entries entry_eq cache.old item.now size) cache.old.cap }
 {
@@ -457,8 +457,8 @@ fn set_weight(cache: &mut Weights, item: &CacheEntryKey, size: usize)
 /// Raises the weight of an entry, and moves it to the front. Returns its weight before and after, if the list has
 /// it. This is a function over the cache alone, since the weight is changed through a borrow of it: so one lemma
 /// suffices.
-fn raise_in(
-    cache: &mut Weights,
+fn raise_in<S: BuildHasher>(
+    cache: &mut Weights<S>,
     item: &CacheEntryKey,
     delta: usize,
     max_weight: Option<usize>,
@@ -490,7 +490,7 @@ fn push_copy(all: &mut Vec<(CacheEntryKey, usize)>, key: &CacheEntryKey, size: u
 }
 
 /// Sets the weight of an entry of the list in place.
-fn write_weight(cache: &mut Weights, item: &CacheEntryKey, size: usize)
+fn write_weight<S: BuildHasher>(cache: &mut Weights<S>, item: &CacheEntryKey, size: usize)
     requires { IsSome (weight_of item.now cache.old.entries) }
     ensures { cache.new ≡ lru_cache (reweighed item.now size cache.old.entries) cache.old.cap }
 {

@@ -17,6 +17,7 @@ use pcache_base::error::Result;
 use pcache_base::moment::Moment;
 use pcache_base::seed::Seed;
 use std::alloc::Global;
+use std::hash::BuildHasher;
 use std::marker::Model;
 
 /// Entries with weights in `N` lists, each entry in the list of its key's shard, in the order of
@@ -27,16 +28,16 @@ use std::marker::Model;
 /// promised. Each call takes a constant number of look-ups, two steps for each entry that it
 /// evicts, and one for each empty list that it meets while evicting.
 #[derive(Drop)]
-pub struct Manager<const N: usize> {
+pub struct Manager<const N: usize, S: BuildHasher = Seed> {
     alloc: Global,
     limit: usize,
     watermark: Option<usize>,
-    shards: RecencyShards<N>,
+    shards: RecencyShards<S, N>,
     evicted_size: usize,
     evicted_items: usize,
 }
 
-impl<const N: usize> Model for Manager<N> {
+impl<const N: usize, S: BuildHasher> Model for Manager<N, S> {
     ghost use Rattle.pcache_evict.specs.Shards.{Sharded};
 
     ghost Value = { Sharded };
@@ -48,16 +49,16 @@ impl<const N: usize> Model for Manager<N> {
     } };
 }
 
-impl<const N: usize> Manager<N> {
+impl<const N: usize, S: BuildHasher + Copy + Drop> Manager<N, S> {
     /// An empty manager whose entries weigh at most `limit` after each eviction. The expected number
     /// of entries in a shard has no effect: the lists grow as they are filled. Their tables hash
     /// under the seed, on which no result depends.
     pub fn with_capacity(
         alloc: Global,
-        seed: Seed,
+        seed: S,
         limit: usize,
         capacity: usize,
-    ) -> Result<Manager<N>>
+    ) -> Result<Manager<N, S>>
         requires { 0 < N }
         ensures ok { IfOk result (λ m. m ≡ empty_shards N limit None) }
         ensures kind { IfErr result (λ e. e ≡ OutOfMemory) }
@@ -69,11 +70,11 @@ impl<const N: usize> Manager<N> {
     /// `watermark` if that is given.
     pub fn with_capacity_and_watermark(
         alloc: Global,
-        seed: Seed,
+        seed: S,
         limit: usize,
         _capacity: usize,
         watermark: Option<usize>,
-    ) -> Result<Manager<N>>
+    ) -> Result<Manager<N, S>>
         requires { 0 < N }
         ensures ok { IfOk result (λ m. m ≡ empty_shards N limit watermark) }
         ensures kind { IfErr result (λ e. e ≡ OutOfMemory) }
@@ -388,7 +389,7 @@ impl<const N: usize> Manager<N> {
     }
 }
 
-impl<const N: usize> EvictionManager for Manager<N> {
+impl<const N: usize, S: BuildHasher + Copy + Drop> EvictionManager for Manager<N, S> {
     ghost use Rattle.pcache_evict.specs.Listed.{map_of};
     ghost use Rattle.pcache_evict.specs.Shards.{all};
 

@@ -12,8 +12,8 @@ use super::CacheEntryKey;
 use super::recency::{RecencyList, Walk, exceeds};
 use pcache_base::error::{Error, ErrorType, Result};
 use pcache_base::key::CacheHashKey;
-use pcache_base::seed::Seed;
 use std::alloc::Global;
+use std::hash::BuildHasher;
 use std::marker::Model;
 
 /// The most entries that all shards may have together, which is the most that one list may have.
@@ -31,13 +31,13 @@ fn is_full(count: usize) -> bool
 ///
 /// Each move takes one look-up.
 #[derive(Drop)]
-pub(super) struct RecencyShards<const N: usize> {
-    lists: Vec<RecencyList>,
+pub(super) struct RecencyShards<S: BuildHasher, const N: usize> {
+    lists: Vec<RecencyList<S>>,
     weight: u128,
     items: usize,
 }
 
-impl<const N: usize> Model for RecencyShards<N> {
+impl<S: BuildHasher, const N: usize> Model for RecencyShards<S, N> {
     ghost use Rattle.std.specs.Prelude.{List};
     ghost use Rattle.pcache_evict.specs.Recency.{Recency};
     ghost use Rattle.pcache_evict.specs.Shards.{AreKept};
@@ -49,9 +49,9 @@ impl<const N: usize> Model for RecencyShards<N> {
     ghost invariant = { λ a. AreKept N a.lists.items a.weight a.items };
 }
 
-impl<const N: usize> RecencyShards<N> {
+impl<S: BuildHasher + Copy + Drop, const N: usize> RecencyShards<S, N> {
     /// `N` empty lists. No result depends on the seed.
-    pub(super) fn new(alloc: Global, seed: Seed) -> Result<RecencyShards<N>>
+    pub(super) fn new(alloc: Global, seed: S) -> Result<RecencyShards<S, N>>
         requires { 0 < N }
         ensures ok { IfOk result (λ shards. shards ≡ no_entries N) }
         ensures kind { IfErr result (λ e. e ≡ OutOfMemory) }
@@ -77,7 +77,7 @@ impl<const N: usize> RecencyShards<N> {
     }
 
     /// The list at a place.
-    pub(super) fn list(&self, place: usize) -> &RecencyList
+    pub(super) fn list(&self, place: usize) -> &RecencyList<S>
         requires { place < N }
         ensures { result.now ≡ list_at self.now place }
     {

@@ -12,6 +12,7 @@ use pcache_base::error::Result;
 use pcache_base::moment::Moment;
 use pcache_base::seed::Seed;
 use std::alloc::Global;
+use std::hash::BuildHasher;
 use std::marker::Model;
 
 /// Entries with weights in the order of their last use, and limits on the sum of the weights and
@@ -20,16 +21,16 @@ use std::marker::Model;
 /// A contract sees the list, most recent first, with the limits and the totals of evictions. Each
 /// call takes a constant number of look-ups, and two steps for each entry that it evicts.
 #[derive(Drop)]
-pub struct Manager {
+pub struct Manager<S: BuildHasher = Seed> {
     alloc: Global,
     limit: usize,
     watermark: Option<usize>,
-    list: RecencyList,
+    list: RecencyList<S>,
     evicted_size: usize,
     evicted_items: usize,
 }
 
-impl Model for Manager {
+impl<S: BuildHasher> Model for Manager<S> {
     ghost use Rattle.pcache_evict.specs.Listed.{Listed};
 
     ghost Value = { Listed };
@@ -41,10 +42,10 @@ impl Model for Manager {
     } };
 }
 
-impl Manager {
+impl<S: BuildHasher + Copy + Drop> Manager<S> {
     /// An empty manager whose entries weigh at most `limit` after each eviction. Its table of entries
     /// hashes under the seed, on which no result depends.
-    pub fn new(alloc: Global, seed: Seed, limit: usize) -> Result<Manager>
+    pub fn new(alloc: Global, seed: S, limit: usize) -> Result<Manager<S>>
         ensures ok { IfOk result (λ m. m ≡ empty_list limit None) }
         ensures kind { IfErr result (λ e. e ≡ OutOfMemory) }
     {
@@ -55,10 +56,10 @@ impl Manager {
     /// `items_watermark` if that is given.
     pub fn new_with_watermark(
         alloc: Global,
-        seed: Seed,
+        seed: S,
         limit: usize,
         items_watermark: Option<usize>,
-    ) -> Result<Manager>
+    ) -> Result<Manager<S>>
         ensures ok { IfOk result (λ m. m ≡ empty_list limit items_watermark) }
         ensures kind { IfErr result (λ e. e ≡ OutOfMemory) }
     {
@@ -293,7 +294,7 @@ impl Manager {
     }
 }
 
-impl EvictionManager for Manager {
+impl<S: BuildHasher + Copy + Drop> EvictionManager for Manager<S> {
     ghost use Rattle.pcache_evict.specs.Listed.{map_of};
 
     ghost tracked = { λ m. map_of m.entries };

@@ -10,17 +10,18 @@ ghost use Rattle.pcache_table.specs.contracts.hashtable.hashed_table.HashedTable
 use pcache_base::seed::Seed;
 use std::alloc::{AllocFailed, Global};
 use std::collections::HashMap;
+use std::hash::BuildHasher;
 use std::marker::Model;
 
 /// Values by number, found by a hash of the number. On average over the seeds each call takes a
 /// constant number of steps, provided that whoever chooses the numbers does not know the seed. Use a
 /// `Table` where an order is needed.
 #[derive(Drop)]
-pub struct HashedTable<V> {
-    entries: HashMap<u128, V, Seed>,
+pub struct HashedTable<V, H: BuildHasher = Seed> {
+    entries: HashMap<u128, V, H>,
 }
 
-impl<V> Model for HashedTable<V> {
+impl<V, H: BuildHasher> Model for HashedTable<V, H> {
     ghost use Rattle.std.specs.Ordering.{nat_cmp};
     ghost use Rattle.std.specs.FinMap as map;
     ghost use Rattle.std.specs.Coded.{coded_ℕ};
@@ -32,9 +33,9 @@ impl<V> Model for HashedTable<V> {
     ghost view = { λ a. map.from_entries a.entries.entries };
 }
 
-impl<V> HashedTable<V> {
+impl<V, H: BuildHasher + Copy + Drop> HashedTable<V, H> {
     /// A table with no entries. No result depends on the seed.
-    pub fn new(alloc: Global, seed: Seed) -> Self
+    pub fn new(alloc: Global, seed: H) -> Self
         ensures { result ≡ map.empty }
     {
         HashedTable {
@@ -85,7 +86,8 @@ impl<V> HashedTable<V> {
 
     /// The value of a number, mutably.
     pub fn get_mut(&mut self, number: u128) -> Option<&mut V>
-        ensures* writes_back { sem 𝓛 (LendsSo (the_row V.row) V.row self.entry result
+        ensures* writes_back { sem 𝓛 (LendsSo
+            (the_row V.row H.row H.Hasher.row H.BuildHasher H.Hasher.Hasher) V.row self.entry result
             (λ n w. OnSome result (n ≡ map.insert self.old number w)) (λ n. n ≡ self.old)) }
         ensures value { option_copied_mut result ≡ map.get self.old number }
     {

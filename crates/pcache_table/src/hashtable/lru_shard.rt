@@ -8,6 +8,7 @@ use lru::LruCache;
 use pcache_base::error::Result;
 use pcache_base::seed::Seed;
 use std::alloc::{AllocFailed, Global};
+use std::hash::BuildHasher;
 use std::marker::{Model, PhantomData};
 use std::num::NonZeroUsize;
 
@@ -16,12 +17,12 @@ use std::num::NonZeroUsize;
 ///
 /// Only its table (`LruShards`) makes and changes it, or the guard that its lock lends.
 #[derive(Drop)]
-pub struct LruShard<V, const N: usize> {
+pub struct LruShard<V, const N: usize, H: BuildHasher = Seed> {
     place: usize,
-    cache: LruCache<u128, V, Seed>,
+    cache: LruCache<u128, V, H>,
 }
 
-impl<V, const N: usize> Model for LruShard<V, N> {
+impl<V, const N: usize, H: BuildHasher> Model for LruShard<V, N, H> {
     ghost use Rattle.std.specs.Prelude.{◌<◌};
     ghost use Rattle.pcache_table.specs.Sharding.{LruPart, OwnKeys, lru_part_code};
 
@@ -34,17 +35,17 @@ impl<V, const N: usize> Model for LruShard<V, N> {
     ghost invariant = { λ s. (s.place < N) × OwnKeys N s.place s.cache.entries };
 }
 
-impl<V: Drop, const N: usize> LruShard<V, N> {
+impl<V: Drop, const N: usize, H: BuildHasher + Copy + Drop> LruShard<V, N, H> {
     // An empty shard at a place. A capacity of 0 counts as 1. Only this crate makes shards, so none
     // comes under the lock of another.
     //
     // Fails only when memory runs out.
     pub(crate) fn at(
         alloc: Global,
-        seed: Seed,
+        seed: H,
         place: usize,
         capacity: usize,
-    ) -> Result<LruShard<V, N>>
+    ) -> Result<LruShard<V, N, H>>
         requires { place < N }
         ensures made { IfOk result (λ s.
             s ≡ record { place = place; cap = max capacity 1; entries = [] }) }

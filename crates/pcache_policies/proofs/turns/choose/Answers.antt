@@ -7,16 +7,16 @@ use Rattle.pcache_policies.proofs.InTurn.{rooms, weight_turn, map_turn, absent_t
 use Rattle.pcache_policies.proofs.turns.choose.Goals as goal
 
 pub returns-clause-room : goal.returns-clause-room
-returns-clause-room c =
+returns-clause-room g c =
     IfOk-weaker c.prepare-out.result (λ _. hand.MakesRoom (limits_of c.args.limit c.args.watermark) c.args.size c.args.count (shown c.args.ring.now) (chosen c.prepare-out.new.self) (left_of c.prepare-out.new.self))
     (λ _. MakesRoom (limits_of c.args.limit c.args.watermark) c.args.size c.args.count (in_turn (shown c.args.ring.now)) (chosen c.prepare-out.new.self) (in_turn (left_of c.prepare-out.new.self)))
     (λ out made. rooms (limits_of c.args.limit c.args.watermark) c.args.size c.args.count (shown c.args.ring.now) (left_of c.prepare-out.new.self) (chosen c.prepare-out.new.self) made) c.prepare-out.ensures.room
 
 pub returns-clause-heavy : goal.returns-clause-heavy
-returns-clause-heavy c = weight_turn c.args.ring.now c.prepare-out.new.self c.len.ensures.once c.leaving_len.ensures.once c.prepare-out.ensures.same
+returns-clause-heavy g c = weight_turn c.args.ring.now c.prepare-out.new.self c.len.ensures.once c.leaving_len.ensures.once c.prepare-out.ensures.same
 
 pub returns-clause-same : goal.returns-clause-same
-returns-clause-same c = map_turn c.args.ring.now c.prepare-out.new.self c.len.ensures.once c.leaving_len.ensures.once c.prepare-out.ensures.same
+returns-clause-same g c = map_turn c.args.ring.now c.prepare-out.new.self c.len.ensures.once c.leaving_len.ensures.once c.prepare-out.ensures.same
 
 pub returns-clause-absent : goal.returns-clause-absent
-returns-clause-absent c = λ k none. absent_turn k c.args.ring.now c.prepare-out.new.self c.prepare-out.ensures.same none
+returns-clause-absent g c = λ k none. absent_turn k c.args.ring.now c.prepare-out.new.self c.prepare-out.ensures.same none

@@ -6,7 +6,7 @@ use Rattle.pcache_evict.proofs.Recency.{written-put}
 use Rattle.pcache_evict.proofs.eviction.recency.raise_in.Goals as goal
 
 pub returns-clause-there : goal.returns-clause-there
-returns-clause-there c =
+returns-clause-there g c =
     let found : weight_of c.args.item.now c.args.cache.now.entries ≡ Some c.in-Some.weight.now = sym c.in-Some.ensures.value in (
       found,
       c.raised_weight-after.ensures,

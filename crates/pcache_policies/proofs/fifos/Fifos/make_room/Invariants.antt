@@ -4,7 +4,7 @@ use Rattle.pcache_policies.proofs.FifoSteps.{Far}
 use Rattle.pcache_policies.proofs.fifos.Fifos.make_room.Given as goal
 
 abbrev pub invariant-loop-watermark : goal.invariant-loop-watermark
-invariant-loop-watermark l = Far (limits_of l.limit l.watermark) l.size l.count l.fn.self l.self
+invariant-loop-watermark g l = Far (limits_of l.limit l.watermark) l.size l.count l.fn.self l.self
 
 abbrev pub decreases-loop-watermark : goal.decreases-loop-watermark
-decreases-loop-watermark l = steps_of l.self.ring.ahead l.self.ring.passed
+decreases-loop-watermark g l = steps_of l.self.ring.ahead l.self.ring.passed

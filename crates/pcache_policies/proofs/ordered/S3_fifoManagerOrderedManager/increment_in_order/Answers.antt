@@ -6,22 +6,22 @@ use Rattle.pcache_policies.proofs.SieveMaps.{there-list, some_seen}
 use Rattle.pcache_policies.proofs.ordered.S3_fifoManagerOrderedManager.increment_in_order.Goals as goal
 
 pub returns-clause-fair : goal.returns-clause-fair
-returns-clause-fair c = (increment (seen_of c.args.item.now (whole c.args.self.now.fifos)) c.args.self.now c.increment_weight.new.self c.args.item.now c.args.delta c.args.max_weight c.in_ok-out.out.items refl c.in_ok-out.ensures.ok c.increment_weight.ensures.once).fair
+returns-clause-fair g c = (increment (seen_of c.args.item.now (whole c.args.self.now.fifos)) c.args.self.now c.increment_weight.new.self c.args.item.now c.args.delta c.args.max_weight c.in_ok-out.out.items refl c.in_ok-out.ensures.ok c.increment_weight.ensures.once).fair
 
 pub returns-clause-tracked : goal.returns-clause-tracked
-returns-clause-tracked c = (increment (seen_of c.args.item.now (whole c.args.self.now.fifos)) c.args.self.now c.increment_weight.new.self c.args.item.now c.args.delta c.args.max_weight c.in_ok-out.out.items refl c.in_ok-out.ensures.ok c.increment_weight.ensures.once).tracked
+returns-clause-tracked g c = (increment (seen_of c.args.item.now (whole c.args.self.now.fifos)) c.args.self.now c.increment_weight.new.self c.args.item.now c.args.delta c.args.max_weight c.in_ok-out.out.items refl c.in_ok-out.ensures.ok c.increment_weight.ensures.once).tracked
 
 pub returns-clause-evicted : goal.returns-clause-evicted
-returns-clause-evicted c = (increment (seen_of c.args.item.now (whole c.args.self.now.fifos)) c.args.self.now c.increment_weight.new.self c.args.item.now c.args.delta c.args.max_weight c.in_ok-out.out.items refl c.in_ok-out.ensures.ok c.increment_weight.ensures.once).evicted
+returns-clause-evicted g c = (increment (seen_of c.args.item.now (whole c.args.self.now.fifos)) c.args.self.now c.increment_weight.new.self c.args.item.now c.args.delta c.args.max_weight c.in_ok-out.out.items refl c.in_ok-out.ensures.ok c.increment_weight.ensures.once).evicted
 
 pub returns-clause-limits : goal.returns-clause-limits
-returns-clause-limits c = (increment (seen_of c.args.item.now (whole c.args.self.now.fifos)) c.args.self.now c.increment_weight.new.self c.args.item.now c.args.delta c.args.max_weight c.in_ok-out.out.items refl c.in_ok-out.ensures.ok c.increment_weight.ensures.once).limits
+returns-clause-limits g c = (increment (seen_of c.args.item.now (whole c.args.self.now.fifos)) c.args.self.now c.increment_weight.new.self c.args.item.now c.args.delta c.args.max_weight c.in_ok-out.out.items refl c.in_ok-out.ensures.ok c.increment_weight.ensures.once).limits
 
 pub returns-in_err-out-clause-within : goal.returns-in_err-out-clause-within
-returns-in_err-out-clause-within c = λ has fits.
+returns-in_err-out-clause-within g c = λ has fits.
     let (v, is) = some_seen (seen_of c.args.item.now (whole c.args.self.now.fifos)) (there-list c.args.item.now (whole c.args.self.now.fifos) ∙ has) in
     let given = c.in_err-out.ensures.within v is (within-raised c.args.self.now.limits c.args.self.now.fifos c.args.item.now c.args.delta c.args.max_weight v is c.increment_weight.ensures.once fits) in
     cc
 
 pub returns-clause-order : goal.returns-clause-order
-returns-clause-order c = incremented-in (seen_of c.args.item.now (whole c.args.self.now.fifos)) c.args.self.now c.increment_weight.new.self c.args.item.now c.args.delta c.args.max_weight c.in_ok-out.out.items c.in_ok-out.ensures.ok
+returns-clause-order g c = incremented-in (seen_of c.args.item.now (whole c.args.self.now.fifos)) c.args.self.now c.increment_weight.new.self c.args.item.now c.args.delta c.args.max_weight c.in_ok-out.out.items c.in_ok-out.ensures.ok

@@ -5,7 +5,7 @@ use Rattle.pcache_policies.proofs.FifoMaps.{map-rest-in}
 use Rattle.pcache_policies.proofs.ordered.S3_fifoManagerOrderedManager.remove_in_order.Goals as goal
 
 pub returns-clause-tracked : goal.returns-clause-tracked
-returns-clause-tracked c = ap (λ s. map_of (entries s.fifos)) c.remove.ensures ∙ map-rest-in c.args.item.now c.args.self.now.fifos
+returns-clause-tracked g c = ap (λ s. map_of (entries s.fifos)) c.remove.ensures ∙ map-rest-in c.args.item.now c.args.self.now.fifos
 
 pub returns-clause-order : goal.returns-clause-order
-returns-clause-order c = ap (λ s. s.fifos) c.remove.ensures
+returns-clause-order g c = ap (λ s. s.fifos) c.remove.ensures

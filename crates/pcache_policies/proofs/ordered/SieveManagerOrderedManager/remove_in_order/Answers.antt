@@ -5,7 +5,7 @@ use Rattle.pcache_policies.proofs.SieveMaps.{map-rest-in}
 use Rattle.pcache_policies.proofs.ordered.SieveManagerOrderedManager.remove_in_order.Goals as goal
 
 pub returns-clause-tracked : goal.returns-clause-tracked
-returns-clause-tracked c = ap (λ s. map_of (entries s.sieve)) c.remove.ensures ∙ map-rest-in c.args.item.now c.args.self.now.sieve
+returns-clause-tracked g c = ap (λ s. map_of (entries s.sieve)) c.remove.ensures ∙ map-rest-in c.args.item.now c.args.self.now.sieve
 
 pub returns-clause-order : goal.returns-clause-order
-returns-clause-order c = ap (λ s. s.sieve) c.remove.ensures
+returns-clause-order g c = ap (λ s. s.sieve) c.remove.ensures

@@ -5,16 +5,16 @@ use Rattle.pcache_policies.proofs.ReclaimMaps.{admission, admitted}
 use Rattle.pcache_policies.proofs.ordered.Two_queuesManagerOrderedManager.admit_in_order.Goals as goal
 
 pub returns-clause-fair : goal.returns-clause-fair
-returns-clause-fair c = (admission (seen_of c.args.item (whole c.args.self.now.queues)) c.args.self.now c.admit.new.self c.args.item c.args.size c.in_ok-out.out.items refl c.in_ok-out.ensures.ok c.admit.ensures.once).fair
+returns-clause-fair g c = (admission (seen_of c.args.item (whole c.args.self.now.queues)) c.args.self.now c.admit.new.self c.args.item c.args.size c.in_ok-out.out.items refl c.in_ok-out.ensures.ok c.admit.ensures.once).fair
 
 pub returns-clause-tracked : goal.returns-clause-tracked
-returns-clause-tracked c = (admission (seen_of c.args.item (whole c.args.self.now.queues)) c.args.self.now c.admit.new.self c.args.item c.args.size c.in_ok-out.out.items refl c.in_ok-out.ensures.ok c.admit.ensures.once).tracked
+returns-clause-tracked g c = (admission (seen_of c.args.item (whole c.args.self.now.queues)) c.args.self.now c.admit.new.self c.args.item c.args.size c.in_ok-out.out.items refl c.in_ok-out.ensures.ok c.admit.ensures.once).tracked
 
 pub returns-clause-evicted : goal.returns-clause-evicted
-returns-clause-evicted c = (admission (seen_of c.args.item (whole c.args.self.now.queues)) c.args.self.now c.admit.new.self c.args.item c.args.size c.in_ok-out.out.items refl c.in_ok-out.ensures.ok c.admit.ensures.once).evicted
+returns-clause-evicted g c = (admission (seen_of c.args.item (whole c.args.self.now.queues)) c.args.self.now c.admit.new.self c.args.item c.args.size c.in_ok-out.out.items refl c.in_ok-out.ensures.ok c.admit.ensures.once).evicted
 
 pub returns-clause-limits : goal.returns-clause-limits
-returns-clause-limits c = (admission (seen_of c.args.item (whole c.args.self.now.queues)) c.args.self.now c.admit.new.self c.args.item c.args.size c.in_ok-out.out.items refl c.in_ok-out.ensures.ok c.admit.ensures.once).limits
+returns-clause-limits g c = (admission (seen_of c.args.item (whole c.args.self.now.queues)) c.args.self.now c.admit.new.self c.args.item c.args.size c.in_ok-out.out.items refl c.in_ok-out.ensures.ok c.admit.ensures.once).limits
 
 pub returns-clause-order : goal.returns-clause-order
-returns-clause-order c = admitted (seen_of c.args.item (whole c.args.self.now.queues)) c.args.self.now c.admit.new.self c.args.item c.args.size c.in_ok-out.out.items c.in_ok-out.ensures.ok
+returns-clause-order g c = admitted (seen_of c.args.item (whole c.args.self.now.queues)) c.args.self.now c.admit.new.self c.args.item c.args.size c.in_ok-out.out.items c.in_ok-out.ensures.ok

@@ -6,10 +6,10 @@ use Rattle.pcache_policies.proofs.Rings.{none_of}
 use Rattle.pcache_policies.proofs.reclaim.Queues.choose_incoming.Goals as goal
 
 pub returns-in_default-clause-ok : goal.returns-in_default-clause-ok
-returns-in_default-clause-ok c = absurd (c.requires (last_none c.args.self.now.ring.passed (none_of c.in_ok-key.field-0 _ c.in_ok-key.ensures.ok c.in_default.not-Some)))
+returns-in_default-clause-ok g c = absurd (c.requires (last_none c.args.self.now.ring.passed (none_of c.in_ok-key.field-0 _ c.in_ok-key.ensures.ok c.in_default.not-Some)))
 
 pub returns-clause-ok : goal.returns-clause-ok
-returns-clause-ok c =
+returns-clause-ok g c =
     record {
       key = c.in-Some.key;
       seen = c.in-Some.seen;

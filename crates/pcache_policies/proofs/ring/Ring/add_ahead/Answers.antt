@@ -5,10 +5,10 @@ use Rattle.pcache_policies.proofs.Rings.{not-full, absent_ahead, ring-entered}
 use Rattle.pcache_policies.proofs.ring.Ring.add_ahead.Goals as goal
 
 pub push-requires : goal.push-requires
-push-requires c = absent_ahead c.self.inside.ahead (c.self.inside.leaving ++ c.self.inside.passed) c.args.item (ap (λ r. seen_of c.args.item (all r)) c.self.view_is ∙ c.requires)
+push-requires g c = absent_ahead c.self.inside.ahead (c.self.inside.leaving ++ c.self.inside.passed) c.args.item (ap (λ r. seen_of c.args.item (all r)) c.self.view_is ∙ c.requires)
 
 pub invariant_of-self-2 : goal.invariant_of-self-2
-invariant_of-self-2 c =
+invariant_of-self-2 g c =
     subst (λ a. IsRing a c.self.inside.leaving c.self.inside.passed) (sym c.in_ok-push.ensures.ok)
     (ring-entered c.self.inside.ahead c.self.inside.leaving c.self.inside.passed c.args.item c.unused.result c.self.invariant
     (ap (λ r. seen_of c.args.item (all r)) c.self.view_is ∙ c.requires)

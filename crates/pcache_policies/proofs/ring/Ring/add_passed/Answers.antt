@@ -5,10 +5,10 @@ use Rattle.pcache_policies.proofs.Rings.{not-full, absent_passed_in, ring-entere
 use Rattle.pcache_policies.proofs.ring.Ring.add_passed.Goals as goal
 
 pub push-requires : goal.push-requires
-push-requires c = absent_passed_in c.self.inside.ahead c.self.inside.leaving c.self.inside.passed c.args.item (ap (λ r. seen_of c.args.item (all r)) c.self.view_is ∙ c.requires)
+push-requires g c = absent_passed_in c.self.inside.ahead c.self.inside.leaving c.self.inside.passed c.args.item (ap (λ r. seen_of c.args.item (all r)) c.self.view_is ∙ c.requires)
 
 pub invariant_of-self-2 : goal.invariant_of-self-2
-invariant_of-self-2 c =
+invariant_of-self-2 g c =
     subst (λ p. IsRing c.self.inside.ahead c.self.inside.leaving p) (sym c.in_ok-push.ensures.ok)
     (ring-entered-passed c.self.inside.ahead c.self.inside.leaving c.self.inside.passed c.args.item c.unused.result c.self.invariant
     (ap (λ r. seen_of c.args.item (all r)) c.self.view_is ∙ c.requires)

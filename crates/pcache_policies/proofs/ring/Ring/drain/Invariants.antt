@@ -4,7 +4,7 @@ use Rattle.pcache_policies.specs.Ring.{chosen}
 use Rattle.pcache_policies.proofs.ring.Ring.drain.Given as goal
 
 abbrev pub invariant-loop-key : goal.invariant-loop-key
-invariant-loop-key l =
+invariant-loop-key g l =
     record {
       order : l.out.items ++ chosen l.self ≡ l.fn.out.items ++ chosen l.fn.self;
       room : length l.out.items + length l.self.leaving ≤ vec_capacity l.out;
@@ -14,4 +14,4 @@ invariant-loop-key l =
     }
 
 abbrev pub decreases-loop-key : goal.decreases-loop-key
-decreases-loop-key l = length l.self.leaving
+decreases-loop-key g l = length l.self.leaving

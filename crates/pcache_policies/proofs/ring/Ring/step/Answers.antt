@@ -4,4 +4,4 @@ use Rattle.pcache_policies.proofs.Rings.{none_of}
 use Rattle.pcache_policies.proofs.ring.Ring.step.Goals as goal
 
 pub turn-requires : goal.turn-requires
-turn-requires c = sym (ap (λ r. r.ahead) c.self.view_is) ∙ last_none c.self.inside.ahead (none_of c.in_ok-key.field-0 _ c.in_ok-key.ensures.ok c.in_default.not-Some)
+turn-requires g c = sym (ap (λ r. r.ahead) c.self.view_is) ∙ last_none c.self.inside.ahead (none_of c.in_ok-key.field-0 _ c.in_ok-key.ensures.ok c.in_default.not-Some)

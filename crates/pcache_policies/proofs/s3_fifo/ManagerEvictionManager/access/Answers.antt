@@ -8,12 +8,12 @@ use Rattle.pcache_policies.proofs.SieveMaps.{there-list}
 use Rattle.pcache_policies.proofs.s3_fifo.ManagerEvictionManager.access.Goals as goal
 
 pub returns-clause-was : goal.returns-clause-was
-returns-clause-was c = c.in_ok-was.ensures.was ∙ there-list c.args.item.now (whole c.args.self.now.fifos)
+returns-clause-was g c = c.in_ok-was.ensures.was ∙ there-list c.args.item.now (whole c.args.self.now.fifos)
 
 pub returns-clause-ok : goal.returns-clause-ok
-returns-clause-ok c = ap (λ s. map_of (entries s.fifos)) c.in_ok-was.ensures.ok ∙ map-accessed-in (seen_of c.args.item.now (whole c.args.self.now.fifos)) c.args.item.now c.args.size c.args.self.now.fifos refl
+returns-clause-ok g c = ap (λ s. map_of (entries s.fifos)) c.in_ok-was.ensures.ok ∙ map-accessed-in (seen_of c.args.item.now (whole c.args.self.now.fifos)) c.args.item.now c.args.size c.args.self.now.fifos refl
 
 pub returns-in_err-was-clause-there : goal.returns-in_err-was-clause-there
-returns-in_err-was-clause-there c = λ has.
+returns-in_err-was-clause-there g c = λ has.
     let given = c.in_err-was.ensures.there (there-list c.args.item.now (whole c.args.self.now.fifos) ∙ has) in
     cc

@@ -5,4 +5,4 @@ use Rattle.pcache_policies.proofs.FifoMaps.{map-rest-in}
 use Rattle.pcache_policies.proofs.s3_fifo.ManagerEvictionManager.remove.Goals as goal
 
 pub returns-clause-tracked : goal.returns-clause-tracked
-returns-clause-tracked c = ap (λ s. map_of (entries s.fifos)) c.remove.ensures ∙ map-rest-in c.args.item.now c.args.self.now.fifos
+returns-clause-tracked g c = ap (λ s. map_of (entries s.fifos)) c.remove.ensures ∙ map-rest-in c.args.item.now c.args.self.now.fifos

@@ -5,4 +5,4 @@ use Rattle.pcache_policies.proofs.Queues.{once-plain, length-plain}
 use Rattle.pcache_policies.proofs.s3_fifo.ManagerEvictionManager.total_items.Goals as goal
 
 pub returns : goal.returns
-returns c = c.total_items.ensures.value ∙ sym (length-plain (whole c.args.self.now.fifos)) ∙ sym (len-map_of (entries c.args.self.now.fifos) (once-plain (whole c.args.self.now.fifos) c.total_items.ensures.once))
+returns g c = c.total_items.ensures.value ∙ sym (length-plain (whole c.args.self.now.fifos)) ∙ sym (len-map_of (entries c.args.self.now.fifos) (once-plain (whole c.args.self.now.fifos) c.total_items.ensures.once))

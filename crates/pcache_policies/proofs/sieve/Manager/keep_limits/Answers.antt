@@ -7,13 +7,13 @@ use Rattle.pcache_policies.proofs.SieveRooms.{keeps-in, keeps-still, state}
 use Rattle.pcache_policies.proofs.sieve.Manager.keep_limits.Goals as goal
 
 pub returns-then-is_within-clause-ok : goal.returns-then-is_within-clause-ok
-returns-then-is_within-clause-ok c =
+returns-then-is_within-clause-ok g c =
     subst (λ (s : Sieved). KeepsLimits s s.sieve (state (shown c.self.inside.ring) (limits_of c.self.inside.limit c.self.inside.watermark) c.add.new.self.weight c.add.new.self.count) c.new.result.items) c.self.view_is
     (keeps-still (limits_of c.self.inside.limit c.self.inside.watermark) c.self.inside.evicted.weight c.self.inside.evicted.count c.add.new.self.weight c.add.new.self.count c.self.inside.ring c.new.result.items
     (subst (λ (s : Sieved). IsWithinAsList s.limits (entries s.sieve)) (sym c.self.view_is) (c.if-is_within.ensures.yes refl)) c.new.ensures.items c.add.ensures.weight c.add.ensures.count)
 
 pub returns-clause-ok : goal.returns-clause-ok
-returns-clause-ok c =
+returns-clause-ok g c =
     subst (λ (s : Sieved). KeepsLimits s s.sieve (state (shown c.let_go.new.ring) (limits_of c.self.inside.limit c.self.inside.watermark) c.let_go.new.evicted.weight c.let_go.new.evicted.count) c.let_go.result.items) c.self.view_is
     (keeps-in (limits_of c.self.inside.limit c.self.inside.watermark) c.self.inside.evicted.weight c.self.inside.evicted.count c.let_go.new.evicted.weight c.let_go.new.evicted.count c.self.inside.ring c.prepare.new.self c.let_go.new.ring c.let_go.result.items
     c.len.ensures.once c.in_ok-out.ensures.once c.in_ok-out.ensures.room c.prepare.ensures.same c.let_go.ensures.ring c.let_go.ensures.out c.let_go.ensures.long c.let_go.ensures.weight c.let_go.ensures.count)

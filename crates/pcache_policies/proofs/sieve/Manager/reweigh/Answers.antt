@@ -7,7 +7,7 @@ use Rattle.pcache_policies.proofs.SieveRooms.{refused-back, kept}
 use Rattle.pcache_policies.proofs.sieve.Manager.reweigh.Goals as goal
 
 pub returns-in-Err-clause-err : goal.returns-in-Err-clause-err
-returns-in-Err-clause-err c =
+returns-in-Err-clause-err g c =
     subst (λ (s : Sieved). HasFailed s (kept c.set-in-Err.new.self (limits_of c.self-2.inside.limit c.self-2.inside.watermark) (record { weight = c.self-2.inside.evicted.weight; count = c.self-2.inside.evicted.count }))) c.self.view_is
     (refused-back (limits_of c.self.inside.limit c.self.inside.watermark) (limits_of c.self-2.inside.limit c.self-2.inside.watermark) (record { weight = c.self.inside.evicted.weight; count = c.self.inside.evicted.count }) (record { weight = c.self-2.inside.evicted.weight; count = c.self-2.inside.evicted.count })
     c.self.inside.ring c.set.new.self c.self-2.inside.ring c.set-in-Err.new.self c.args.item.now c.args.before c.args.after

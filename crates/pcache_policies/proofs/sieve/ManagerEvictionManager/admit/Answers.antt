@@ -5,13 +5,13 @@ use Rattle.pcache_policies.proofs.SieveMaps.{admission}
 use Rattle.pcache_policies.proofs.sieve.ManagerEvictionManager.admit.Goals as goal
 
 pub returns-clause-fair : goal.returns-clause-fair
-returns-clause-fair c = (admission (seen_of c.args.item (whole c.args.self.now.sieve)) c.args.self.now c.admit.new.self c.args.item c.args.size c.in_ok-out.out.items refl c.in_ok-out.ensures.ok c.admit.ensures.once).fair
+returns-clause-fair g c = (admission (seen_of c.args.item (whole c.args.self.now.sieve)) c.args.self.now c.admit.new.self c.args.item c.args.size c.in_ok-out.out.items refl c.in_ok-out.ensures.ok c.admit.ensures.once).fair
 
 pub returns-clause-tracked : goal.returns-clause-tracked
-returns-clause-tracked c = (admission (seen_of c.args.item (whole c.args.self.now.sieve)) c.args.self.now c.admit.new.self c.args.item c.args.size c.in_ok-out.out.items refl c.in_ok-out.ensures.ok c.admit.ensures.once).tracked
+returns-clause-tracked g c = (admission (seen_of c.args.item (whole c.args.self.now.sieve)) c.args.self.now c.admit.new.self c.args.item c.args.size c.in_ok-out.out.items refl c.in_ok-out.ensures.ok c.admit.ensures.once).tracked
 
 pub returns-clause-evicted : goal.returns-clause-evicted
-returns-clause-evicted c = (admission (seen_of c.args.item (whole c.args.self.now.sieve)) c.args.self.now c.admit.new.self c.args.item c.args.size c.in_ok-out.out.items refl c.in_ok-out.ensures.ok c.admit.ensures.once).evicted
+returns-clause-evicted g c = (admission (seen_of c.args.item (whole c.args.self.now.sieve)) c.args.self.now c.admit.new.self c.args.item c.args.size c.in_ok-out.out.items refl c.in_ok-out.ensures.ok c.admit.ensures.once).evicted
 
 pub returns-clause-limits : goal.returns-clause-limits
-returns-clause-limits c = (admission (seen_of c.args.item (whole c.args.self.now.sieve)) c.args.self.now c.admit.new.self c.args.item c.args.size c.in_ok-out.out.items refl c.in_ok-out.ensures.ok c.admit.ensures.once).limits
+returns-clause-limits g c = (admission (seen_of c.args.item (whole c.args.self.now.sieve)) c.args.self.now c.admit.new.self c.args.item c.args.size c.in_ok-out.out.items refl c.in_ok-out.ensures.ok c.admit.ensures.once).limits

@@ -4,20 +4,20 @@ use Rattle.pcache_policies.specs.Queue.{seen_of}
 use Rattle.pcache_policies.specs.TwoQueues.{Admits, whole, entered, Queued}
 use Rattle.pcache_policies.specs.Reclaim.{shown, left_of}
 use Rattle.pcache_policies.proofs.SieveRooms.{absent_same}
-use Rattle.pcache_policies.proofs.ReclaimRooms.{admits-in, admits-out, state, kept}
+use Rattle.pcache_policies.proofs.ReclaimRooms.{admits-in, admits-out, state, parts_shown}
 use Rattle.pcache_policies.proofs.two_queues.Manager.admit_new.Goals as goal
 
 pub enter-requires : goal.enter-requires
-enter-requires c = absent_same c.args.item c.self.inside.queues.ring c.prepare.new.self.ring c.prepare.ensures.same (ap (λ (s : Queued). seen_of c.args.item (whole s.queues)) c.self.view_is ∙ c.requires)
+enter-requires g c = absent_same c.args.item c.self.inside.queues.ring c.prepare.new.self.ring c.prepare.ensures.same (ap (λ (s : Queued). seen_of c.args.item (whole s.queues)) c.self.view_is ∙ c.requires)
 
 pub returns-then-has_room-clause-ok : goal.returns-then-has_room-clause-ok
-returns-then-has_room-clause-ok c =
-    subst (λ (s : Queued). Admits s c.args.item c.args.size (state (shown (kept c.let_go.new.ring c.enter.new.self.ghosts)) (limits_of c.self.inside.limit c.self.inside.watermark) c.let_go.new.evicted.weight c.let_go.new.evicted.count) c.let_go.result.items) c.self.view_is
+returns-then-has_room-clause-ok g c =
+    subst (λ (s : Queued). Admits s c.args.item c.args.size (state (parts_shown c.let_go.new.ring c.enter.new.self.ghosts) (limits_of c.self.inside.limit c.self.inside.watermark) c.let_go.new.evicted.weight c.let_go.new.evicted.count) c.let_go.result.items) c.self.view_is
     (admits-in (limits_of c.self.inside.limit c.self.inside.watermark) c.self.inside.evicted.weight c.self.inside.evicted.count c.let_go.new.evicted.weight c.let_go.new.evicted.count c.self.inside.queues c.prepare.new.self c.enter.new.self c.let_go.new.ring c.args.item c.args.size c.let_go.result.items
     c.len.ensures.once c.in_ok-out.ensures.once c.in_ok-out.ensures.room c.prepare.ensures.same (c.if-has_room.ensures.room refl) (c.in_ok-enter.ensures.ok ∙ ap (λ b. entered b c.args.item c.args.size (left_of c.prepare.new.self)) c.comes_again-again.ensures) c.in_ok-enter.ensures.leaving c.let_go.ensures.ring c.let_go.ensures.out c.let_go.ensures.long c.let_go.ensures.weight c.let_go.ensures.count)
 
 pub returns-clause-ok : goal.returns-clause-ok
-returns-clause-ok c =
-    subst (λ (s : Queued). Admits s c.args.item c.args.size (state (shown (kept c.let_go-out.new.ring c.prepare.new.self.ghosts)) (limits_of c.self.inside.limit c.self.inside.watermark) c.add.new.self.weight c.add.new.self.count) c.push_reserved.new.self.items) c.self.view_is
+returns-clause-ok g c =
+    subst (λ (s : Queued). Admits s c.args.item c.args.size (state (parts_shown c.let_go-out.new.ring c.prepare.new.self.ghosts) (limits_of c.self.inside.limit c.self.inside.watermark) c.add.new.self.weight c.add.new.self.count) c.push_reserved.new.self.items) c.self.view_is
     (admits-out (limits_of c.self.inside.limit c.self.inside.watermark) c.self.inside.evicted.weight c.self.inside.evicted.count c.let_go-out.new.evicted.weight c.let_go-out.new.evicted.count c.add.new.self.weight c.add.new.self.count c.self.inside.queues c.prepare.new.self c.let_go-out.new.ring c.args.item c.args.size c.let_go-out.result.items c.push_reserved.new.self.items
     c.len.ensures.once c.in_ok-out.ensures.once c.in_ok-out.ensures.room c.prepare.ensures.same (c.if-has_room.ensures.none refl) c.let_go-out.ensures.ring c.let_go-out.ensures.out c.let_go-out.ensures.long c.push_reserved.ensures.items c.let_go-out.ensures.weight c.let_go-out.ensures.count c.add.ensures.weight c.add.ensures.count)

@@ -7,4 +7,4 @@ use Rattle.pcache_policies.proofs.Queues.{once-plain}
 use Rattle.pcache_policies.proofs.two_queues.ManagerEvictionManager.entries.Goals as goal
 
 pub returns-clause-once : goal.returns-clause-once
-returns-clause-once c = subst (λ l. IsDistinct entry_eq (keys_of l)) (sym c.in_ok-all.ensures.ok) (once-plain (whole c.args.self.now.queues) c.entries.ensures.once)
+returns-clause-once g c = subst (λ l. IsDistinct entry_eq (keys_of l)) (sym c.in_ok-all.ensures.ok) (once-plain (whole c.args.self.now.queues) c.entries.ensures.once)

@@ -5,4 +5,4 @@ use Rattle.pcache_policies.proofs.ReclaimMaps.{map-rest-in}
 use Rattle.pcache_policies.proofs.two_queues.ManagerEvictionManager.remove.Goals as goal
 
 pub returns-clause-tracked : goal.returns-clause-tracked
-returns-clause-tracked c = ap (λ s. map_of (entries s.queues)) c.remove.ensures ∙ map-rest-in c.args.item.now c.args.self.now.queues
+returns-clause-tracked g c = ap (λ s. map_of (entries s.queues)) c.remove.ensures ∙ map-rest-in c.args.item.now c.args.self.now.queues

@@ -2,10 +2,10 @@ use Rattle.pcache_evict.proofs.Maps.{moved-fair, moved-left, moved-evicted}
 use Rattle.pcache_evict.proofs.eviction.ordered.Simple_lruManagerOrderedManager.admit_in_order.Goals as goal
 
 pub returns-clause-fair : goal.returns-clause-fair
-returns-clause-fair c = moved-fair c.args.self.now c.admit.new.self c.args.item c.args.size c.in_ok-out.out.items c.in_ok-out.ensures.ok
+returns-clause-fair g c = moved-fair c.args.self.now c.admit.new.self c.args.item c.args.size c.in_ok-out.out.items c.in_ok-out.ensures.ok
 
 pub returns-clause-tracked : goal.returns-clause-tracked
-returns-clause-tracked c = moved-left c.args.self.now c.admit.new.self c.args.item c.args.size c.in_ok-out.out.items c.in_ok-out.ensures.ok
+returns-clause-tracked g c = moved-left c.args.self.now c.admit.new.self c.args.item c.args.size c.in_ok-out.out.items c.in_ok-out.ensures.ok
 
 pub returns-clause-evicted : goal.returns-clause-evicted
-returns-clause-evicted c = moved-evicted c.args.self.now c.admit.new.self c.args.item c.args.size c.in_ok-out.out.items c.in_ok-out.ensures.ok
+returns-clause-evicted g c = moved-evicted c.args.self.now c.admit.new.self c.args.item c.args.size c.in_ok-out.out.items c.in_ok-out.ensures.ok

@@ -9,22 +9,22 @@ use Rattle.pcache_evict.proofs.Recency.{distinct-moved}
 use Rattle.pcache_evict.proofs.eviction.ordered.Simple_lruManagerOrderedManager.increment_in_order.Goals as goal
 
 pub returns-clause-fair : goal.returns-clause-fair
-returns-clause-fair c =
+returns-clause-fair g c =
     subst (λ o. IsFair c.args.self.now.limits (fin.insert (map_of c.args.self.now.entries) c.args.item.now (raised c.args.delta c.args.max_weight o)) c.in_ok-out.out.items) (sym (get-map_of c.args.self.now.entries c.args.item.now))
     (moved-fair c.args.self.now c.increment_weight.new.self c.args.item.now _ c.in_ok-out.out.items c.in_ok-out.ensures.ok)
 
 pub returns-clause-tracked : goal.returns-clause-tracked
-returns-clause-tracked c =
+returns-clause-tracked g c =
     moved-left c.args.self.now c.increment_weight.new.self c.args.item.now _ c.in_ok-out.out.items c.in_ok-out.ensures.ok
     ∙ ap (λ o. without c.in_ok-out.out.items (fin.insert (map_of c.args.self.now.entries) c.args.item.now (raised c.args.delta c.args.max_weight o))) (sym (get-map_of c.args.self.now.entries c.args.item.now))
 
 pub returns-clause-evicted : goal.returns-clause-evicted
-returns-clause-evicted c =
+returns-clause-evicted g c =
     moved-evicted c.args.self.now c.increment_weight.new.self c.args.item.now _ c.in_ok-out.out.items c.in_ok-out.ensures.ok
     ∙ ap (λ o. evicted_with c.args.self.now.evicted (fin.insert (map_of c.args.self.now.entries) c.args.item.now (raised c.args.delta c.args.max_weight o)) c.in_ok-out.out.items) (sym (get-map_of c.args.self.now.entries c.args.item.now))
 
 pub returns-in_err-out-clause-within : goal.returns-in_err-out-clause-within
-returns-in_err-out-clause-within c = λ has fits.
+returns-in_err-out-clause-within g c = λ has fits.
     let weight = get-map_of c.args.self.now.entries c.args.item.now in
     let list = incremented c.args.item.now c.args.delta c.args.max_weight c.args.self.now.entries in
     let same = map-moved c.args.item.now (raised c.args.delta c.args.max_weight (fin.get (map_of c.args.self.now.entries) c.args.item.now)) c.args.self.now.entries in

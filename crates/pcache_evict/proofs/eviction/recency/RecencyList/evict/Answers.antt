@@ -3,13 +3,13 @@ use Rattle.pcache_evict.proofs.Walks.{Pops, pops-more, pops-room}
 use Rattle.pcache_evict.proofs.eviction.recency.RecencyList.evict.Goals as goal
 
 pub push_reserved-requires : goal.push_reserved-requires
-push_reserved-requires c =
+push_reserved-requires g c =
     let over = c.loop-watermark-test.ensures.over refl c.loop-watermark.self c.weight.ensures.value c.len.ensures.value in
     let room = pops-room _ _ _ _ _ c.loop-watermark.invariant.pops over c.requires.room in
     omega (arith, c.loop-watermark.invariant.room, c.loop-watermark.out.ok.0)
 
 pub loop-watermark-preserved : goal.loop-watermark-preserved
-loop-watermark-preserved c =
+loop-watermark-preserved g c =
     let i = c.loop-watermark.invariant in
     let over = c.loop-watermark-test.ensures.over refl c.loop-watermark.self c.weight.ensures.value c.len.ensures.value in
     record {

@@ -4,11 +4,11 @@ use Rattle.pcache_evict.proofs.Walks.{Pops}
 use Rattle.pcache_evict.proofs.eviction.recency.RecencyList.evict.Given as goal
 
 abbrev pub invariant-loop-watermark : goal.invariant-loop-watermark
-invariant-loop-watermark l =
+invariant-loop-watermark g l =
     record {
       pops : Pops (record { weight = l.limit; watermark = l.watermark }) l.fn.self l.self l.out.items;
       room : vec_capacity l.out ≡ vec_capacity l.fn.out;
     }
 
 abbrev pub decreases-loop-watermark : goal.decreases-loop-watermark
-decreases-loop-watermark l = length l.self
+decreases-loop-watermark g l = length l.self

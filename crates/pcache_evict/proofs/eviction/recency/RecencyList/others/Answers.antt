@@ -5,7 +5,7 @@ use Rattle.pcache_evict.proofs.Recency.{weight-others, length-others, weight_bou
 use Rattle.pcache_evict.proofs.eviction.recency.RecencyList.others.Goals as goal
 
 pub overflow_sub-result : goal.overflow_sub-result
-overflow_sub-result c =
+overflow_sub-result g c =
     let found : weight_of c.args.item.now c.args.self.now ≡ Some c.in-Some.size = cc in
     let parts = weight-others c.args.item.now c.args.self.now (subst IsOnce c.self.view_is c.self.invariant.distinct) in
     let present = ap (λ o. unwrap_or o 0) found in
@@ -13,7 +13,7 @@ overflow_sub-result c =
     omega arith
 
 pub returns-in-Some-clause-sum : goal.returns-in-Some-clause-sum
-returns-in-Some-clause-sum c =
+returns-in-Some-clause-sum g c =
     let found : weight_of c.args.item.now c.args.self.now ≡ Some c.in-Some.size = cc in
     let parts = weight-others c.args.item.now c.args.self.now (subst IsOnce c.self.view_is c.self.invariant.distinct) in
     let present = ap (λ o. unwrap_or o 0) found in
@@ -21,12 +21,12 @@ returns-in-Some-clause-sum c =
     omega arith
 
 pub returns-in-Some-clause-sum_fits : goal.returns-in-Some-clause-sum_fits
-returns-in-Some-clause-sum_fits c =
+returns-in-Some-clause-sum_fits g c =
     let bound = weight_bound c.self.inside.cache.entries c.self.invariant.small c.self.invariant.few in
     omega (arith, c.self.invariant.summed)
 
 pub returns-in-Some-clause-count : goal.returns-in-Some-clause-count
-returns-in-Some-clause-count c =
+returns-in-Some-clause-count g c =
     let found : weight_of c.args.item.now c.args.self.now ≡ Some c.in-Some.size = cc in
     let parts = length-others c.args.item.now c.args.self.now (subst IsOnce c.self.view_is c.self.invariant.distinct) in
     let present = ap (λ o. cond {A = ℕ} (is_some o) 1 0) found in
@@ -34,16 +34,16 @@ returns-in-Some-clause-count c =
     omega (arith, c.len.ensures.len)
 
 pub returns-in-None-clause-sum : goal.returns-in-None-clause-sum
-returns-in-None-clause-sum c =
+returns-in-None-clause-sum g c =
     let missing : weight_of c.args.item.now c.args.self.now ≡ None = cc in
     c.self.invariant.summed ∙ ap weight (c.self.view_is ∙ sym (others-none c.args.item.now c.args.self.now missing))
 
 pub returns-in-None-clause-sum_fits : goal.returns-in-None-clause-sum_fits
-returns-in-None-clause-sum_fits c =
+returns-in-None-clause-sum_fits g c =
     let bound = weight_bound c.self.inside.cache.entries c.self.invariant.small c.self.invariant.few in
     omega (arith, c.self.invariant.summed)
 
 pub returns-in-None-clause-count : goal.returns-in-None-clause-count
-returns-in-None-clause-count c =
+returns-in-None-clause-count g c =
     let missing : weight_of c.args.item.now c.args.self.now ≡ None = cc in
     c.len-in-None.ensures.len ∙ ap (λ (l : Recency). length l) (c.self.view_is ∙ sym (others-none c.args.item.now c.args.self.now missing))

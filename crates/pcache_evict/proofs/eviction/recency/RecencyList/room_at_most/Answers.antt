@@ -6,25 +6,25 @@ use Rattle.pcache_evict.proofs.Chains.{enough_above}
 use Rattle.pcache_evict.proofs.eviction.recency.RecencyList.room_at_most.Goals as goal
 
 pub overflow_add-start : goal.overflow_add-start
-overflow_add-start c =
+overflow_add-start g c =
     let bound = weight_bound c.self.inside.cache.entries c.self.invariant.small c.self.invariant.few in
     let fits = c.ranges.size in
     omega (arith, c.self.invariant.summed)
 
 pub walk-requires-clause-sum : goal.walk-requires-clause-sum
-walk-requires-clause-sum c =
+walk-requires-clause-sum g c =
     let whole : c.self.inside.weight ≡ weight c.args.self.now = c.self.invariant.summed ∙ ap weight c.self.view_is in
     let parts = weight-others c.args.item.now c.args.self.now (subst IsOnce c.self.view_is c.self.invariant.distinct) in
     omega (arith, whole, parts)
 
 pub walk-requires-clause-count : goal.walk-requires-clause-count
-walk-requires-clause-count c =
+walk-requires-clause-count g c =
     let many = ap (λ (l : Recency). length l) c.self.view_is in
     let parts = length-others c.args.item.now c.args.self.now (subst IsOnce c.self.view_is c.self.invariant.distinct) in
     omega (arith, c.len.ensures.len, many, parts)
 
 pub returns : goal.returns
-returns c =
+returns g c =
     let once = subst IsOnce c.self.view_is c.self.invariant.distinct in
     let whole : c.self.inside.weight ≡ weight c.args.self.now = c.self.invariant.summed ∙ ap weight c.self.view_is in
     let parts = weight-others c.args.item.now c.args.self.now once in

@@ -2,7 +2,7 @@ use Rattle.std.proofs.Common.{arith, sym, subst, length, ◌≤◌}
 use Rattle.pcache_evict.specs.Recency.{weight, others}
 use Rattle.pcache_evict.specs.Tracked.{limits_of}
 use Rattle.pcache_evict.specs.Chain.{Walks}
-use Rattle.pcache_evict.proofs.Chains.{steps, walk-stops, walk-next}
+use Rattle.pcache_evict.proofs.Chains.{steps, walk-starts, walk-stops, walk-next}
 use Rattle.pcache_evict.proofs.eviction.shards.RecencyShards.walk.Goals as goal
 
 pub returns-then-not-exceeds : goal.returns-then-not-exceeds
@@ -36,3 +36,9 @@ loop-place-preserved g c =
       walks = walk-next _ c.args.item.now c.args.self.now c.args.from c.loop-place.place c.args.start c.loop-place.walk c.walk-walk.result i.order i.walks (c.exceeds.ensures.above c.if-not-exceeds.false) (subst (λ l. Walks (limits_of c.args.limit c.args.watermark) c.args.item.now l c.loop-place.walk c.walk-walk.result) c.list-list.ensures c.walk-walk.ensures);
       order = let low = i.order in omega arith;
     }
+
+pub loop-place-init : goal.loop-place-init
+loop-place-init g c = record {
+  walks = walk-starts _ c.args.item.now c.args.self.now c.args.from c.args.start;
+  order = omega arith;
+}

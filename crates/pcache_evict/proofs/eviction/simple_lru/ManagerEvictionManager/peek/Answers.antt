@@ -3,4 +3,4 @@ use Rattle.pcache_evict.proofs.Maps.{get-map_of}
 use Rattle.pcache_evict.proofs.eviction.simple_lru.ManagerEvictionManager.peek.Goals as goal
 
 pub returns : goal.returns
-returns c = c.peek.ensures ∙ ap is_some (sym (get-map_of c.args.self.now.entries c.args.item.now))
+returns g c = c.peek.ensures ∙ ap is_some (sym (get-map_of c.args.self.now.entries c.args.item.now))

@@ -4,4 +4,4 @@ use Rattle.pcache_evict.proofs.Maps.{map-others}
 use Rattle.pcache_evict.proofs.eviction.simple_lru.ManagerEvictionManager.remove.Goals as goal
 
 pub returns-clause-tracked : goal.returns-clause-tracked
-returns-clause-tracked c = ap (λ s. map_of s.entries) c.remove.ensures ∙ map-others c.args.item.now c.args.self.now.entries
+returns-clause-tracked g c = ap (λ s. map_of s.entries) c.remove.ensures ∙ map-others c.args.item.now c.args.self.now.entries

@@ -3,4 +3,4 @@ use Rattle.pcache_evict.proofs.Maps.{len-map_of}
 use Rattle.pcache_evict.proofs.eviction.simple_lru.ManagerEvictionManager.total_items.Goals as goal
 
 pub returns : goal.returns
-returns c = c.total_items.ensures.value ∙ sym (len-map_of c.args.self.now.entries c.total_items.ensures.once)
+returns g c = c.total_items.ensures.value ∙ sym (len-map_of c.args.self.now.entries c.total_items.ensures.once)
