@@ -5,6 +5,7 @@ pub mod Evictions
 pub mod Maps
 pub mod Recency
 pub mod Reweighs
+pub mod Rules
 pub mod ShardMaps
 pub mod Sharded
 pub mod TrackedMaps

@@ -6,6 +6,7 @@ ghost use Rattle.std.specs.List.{IsDistinct};
 ghost use Rattle.std.specs.Map.{keys_of};
 ghost use Rattle.pcache_base.specs.declared.error.ErrorType.TheVariants.{OutOfMemory};
 ghost use Rattle.pcache_evict.specs.Entry.{entry_cmp, entry_eq};
+ghost use Rattle.pcache_evict.specs.Policy.{AllowAsMuch, Rules, Shown};
 ghost use Rattle.pcache_evict.specs.Tracked.{Tracked, Limits, Evicted, IsFair, IsWithin, weight, without, added, incremented, evicted_with};
 
 use pcache_base::error::Result;
@@ -23,7 +24,8 @@ pub use pcache_base::entry_id::CacheEntryId;
 
 /// Decides which entries leave a cache, by their weights and by how they are used.
 ///
-/// A contract sees the map from entries to weights, and the limits on their sum and number. Calls
+/// A contract sees the map from entries to weights, and the limits on their sum and number; and the
+/// order of the entries, as the manager shows it, with the rules by which calls change it. Calls
 /// fail only when memory runs out, and a failed call changes nothing.
 pub trait EvictionManager: Drop {
     /// The entries, with their weights.
@@ -34,6 +36,12 @@ pub trait EvictionManager: Drop {
 
     /// The weight and the number of all that was evicted.
     ghost evicted: { Self → Evicted };
+
+    /// What calls make of the order of the entries, which no call changes.
+    ghost rules: { Self → Rules };
+
+    /// The order of the entries.
+    ghost shown: { Self → Shown };
 
     /// The sum of the entries' weights; the largest `usize` if it is larger.
     fn total_size(&self) -> usize
@@ -72,9 +80,13 @@ pub trait EvictionManager: Drop {
             ≡ without out.items (map.insert (tracked self.old) item size)) }
         ensures evicted { IfOk result (λ out. evicted self.new
             ≡ evicted_with (evicted self.old) (map.insert (tracked self.old) item size) out.items) }
+        ensures rules { AllowAsMuch (rules self.new) (rules self.old) }
+        ensures order { IfOk result (λ out. (rules self.old).Admits (limits self.old)
+            (shown self.old) item size (shown self.new) out.items) }
         ensures kind { IfErr result (λ e. e ≡ OutOfMemory) }
         ensures err { OnErr result (tracked self.new ≡ tracked self.old) }
-        ensures err_evicted { OnErr result (evicted self.new ≡ evicted self.old) };
+        ensures err_evicted { OnErr result (evicted self.new ≡ evicted self.old) }
+        ensures err_order { OnErr result (shown self.new ≡ shown self.old) };
 
     /// Adds to the weight of an entry, up to `max_weight` (the largest `usize` if that is `None`),
     /// and evicts as `admit` does. A weight never decreases; an entry that is not tracked is added
@@ -96,14 +108,20 @@ pub trait EvictionManager: Drop {
         ensures within { IsTrue (map.contains_key (tracked self.old) item.now)
             → IsWithin (limits self.old) (incremented (tracked self.old) item.now delta max_weight)
             → IsOk result }
+        ensures rules { AllowAsMuch (rules self.new) (rules self.old) }
+        ensures order { IfOk result (λ out. (rules self.old).Increments (limits self.old)
+            (shown self.old) item.now delta max_weight (shown self.new) out.items) }
         ensures kind { IfErr result (λ e. e ≡ OutOfMemory) }
         ensures err { OnErr result (tracked self.new ≡ tracked self.old) }
-        ensures err_evicted { OnErr result (evicted self.new ≡ evicted self.old) };
+        ensures err_evicted { OnErr result (evicted self.new ≡ evicted self.old) }
+        ensures err_order { OnErr result (shown self.new ≡ shown self.old) };
 
     /// Removes an entry, if it is tracked. That is no eviction.
     fn remove(&mut self, item: &CacheEntryKey)
         ensures limits { limits self.new ≡ limits self.old }
         ensures tracked { tracked self.new ≡ map.remove (tracked self.old) item.now }
+        ensures rules { AllowAsMuch (rules self.new) (rules self.old) }
+        ensures order { (rules self.old).Removes (shown self.old) item.now (shown self.new) }
         ensures evicted { evicted self.new ≡ evicted self.old };
 
     /// Records a use of an entry and returns whether it was tracked. One that was not is added with
@@ -114,9 +132,13 @@ pub trait EvictionManager: Drop {
         ensures was { IfOk result (λ was. was ≡ map.contains_key (tracked self.old) item.now) }
         ensures ok { OnOk result (tracked self.new ≡ added (tracked self.old) item.now size) }
         ensures there { IsTrue (map.contains_key (tracked self.old) item.now) → IsOk result }
+        ensures rules { AllowAsMuch (rules self.new) (rules self.old) }
+        ensures order { OnOk result ((rules self.old).Accesses (shown self.old) item.now size
+            (shown self.new)) }
         ensures evicted { evicted self.new ≡ evicted self.old }
         ensures kind { IfErr result (λ e. e ≡ OutOfMemory) }
-        ensures err { OnErr result (tracked self.new ≡ tracked self.old) };
+        ensures err { OnErr result (tracked self.new ≡ tracked self.old) }
+        ensures err_order { OnErr result (shown self.new ≡ shown self.old) };
 
     /// Whether an entry is tracked. That does not count as a use.
     fn peek(&self, item: &CacheEntryKey) -> bool
@@ -130,6 +152,10 @@ impl EvictionManager for Box<dyn EvictionManager + Send> {
     ghost limits = { λ b. (EvictionManager-box b).limits b.value };
 
     ghost evicted = { λ b. (EvictionManager-box b).evicted b.value };
+
+    ghost rules = { λ b. (EvictionManager-box b).rules b.value };
+
+    ghost shown = { λ b. (EvictionManager-box b).shown b.value };
 
     fn total_size(&self) -> usize {
         (**self).total_size()

@@ -12,5 +12,6 @@ pub mod ReclaimRooms
 pub mod ReclaimSteps
 pub mod Renewed
 pub mod Rings
+pub mod Rules
 pub mod SieveMaps
 pub mod SieveRooms

@@ -5,9 +5,9 @@ use Rattle.pcache_evict.specs.declared.eviction.entry_key.CacheEntryKey.{CacheEn
 use Rattle.pcache_evict.specs.Tracked.{Limits, Evicted, limits_of, raised}
 use Rattle.pcache_evict.specs.Recency.{weight}
 use Rattle.pcache_evict.specs.Listed.{map_of}
-use Rattle.pcache_evict.specs.Policy.{Policy}
+use Rattle.pcache_evict.specs.Policy.{Policy, Shown}
 use Rattle.pcache_policies.specs.declared.queue.Seen.{Seen}
-use Rattle.pcache_policies.specs.Queue.{Queue, plain, rest_of, reseen, seen_of, unused, used}
+use Rattle.pcache_policies.specs.Queue.{Queue, plain, rest_of, reseen, seen_of, unused, used, queue_shown}
 use Rattle.pcache_policies.specs.Leaving.{HasRoom}
 
 -- room is made for `count` entries of this total weight: while there is none, the oldest entry is looked at. If it was used, its bit
@@ -44,6 +44,10 @@ Admitted after_use (Some v) limits q k n t out = MakesRoom limits 0 0 (reseen k 
 abbrev pub Incremented : Option Seen → Limits → Queue → CacheEntryKey → ℕ → Option ℕ → Queue → List CacheEntryKey → Type 0
 Incremented None limits q k delta cap t out = Comes limits q k (raised delta cap None) t out
 Incremented (Some v) limits q k delta cap t out = MakesRoom limits 0 0 (reseen k (record v { weight = raised delta cap (Some v.weight) }) q) out t
+
+-- the order as a manager shows it
+abbrev pub one_queue_shown : Queue → Shown
+one_queue_shown q = queue_shown q ∷ []
 
 -- a queue whose entries have this record after a use, as a policy
 abbrev pub queue_policy : (Seen → Seen) → Policy Queue

@@ -16,6 +16,10 @@ Queue = List (CacheEntryKey × Seen)
 abbrev pub plain : Queue → Recency
 plain q = map (λ (e : CacheEntryKey × Seen). (e.0, e.1.weight)) q
 
+-- the entries as a manager shows them: each with its weight and how often it was used, as far as the policy counts
+abbrev pub queue_shown : Queue → List (CacheEntryKey × ℕ × ℕ)
+queue_shown q = map (λ (e : CacheEntryKey × Seen). (e.0, e.1.weight, e.1.uses)) q
+
 -- no entry occurs twice
 abbrev pub IsOnce : Queue → Type 0
 IsOnce q = IsDistinct entry_eq (keys_of q)

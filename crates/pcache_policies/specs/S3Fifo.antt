@@ -1,15 +1,15 @@
 -- S3-FIFO: a small queue for new entries, a main queue for those that were used there or come in again soon, and ghosts,
 -- which are the keys of entries evicted from the small one (Yang, Zhang, Qiu, Yue, Vigfusson, SOSP 2023).
-use Rattle.std.specs.Prelude.{◌≡◌, ℕ, ◌+◌, ◌-◌, ◌*◌, ◌/◌, ◌^◌, ◌<◌, ◌≤◌, ◌⊎◌, ◌==◌, Bool, not, Option, None, Some, List, [], ◌∷◌, ◌++◌, length, min, take, if◌then◌else◌}
+use Rattle.std.specs.Prelude.{◌≡◌, ℕ, ◌+◌, ◌-◌, ◌*◌, ◌/◌, ◌^◌, ◌<◌, ◌≤◌, ◌⊎◌, ◌==◌, Bool, not, Option, None, Some, List, [], ◌∷◌, ◌++◌, length, min, take, if◌then◌else◌, map}
 use Rattle.std.specs.List.{list_any, filter}
 use Rattle.pcache_evict.specs.declared.eviction.entry_key.CacheEntryKey.{CacheEntryKey}
 use Rattle.pcache_evict.specs.Entry.{entry_eq}
 use Rattle.pcache_evict.specs.Tracked.{Limits, Evicted, limits_of, raised}
 use Rattle.pcache_evict.specs.Recency.{Recency, weight}
 use Rattle.pcache_evict.specs.Listed.{map_of}
-use Rattle.pcache_evict.specs.Policy.{Policy}
+use Rattle.pcache_evict.specs.Policy.{Policy, Shown}
 use Rattle.pcache_policies.specs.declared.queue.Seen.{Seen}
-use Rattle.pcache_policies.specs.Queue.{Queue, plain, rest_of, reseen, seen_of, unused, reused, spent}
+use Rattle.pcache_policies.specs.Queue.{Queue, plain, rest_of, reseen, seen_of, unused, reused, spent, queue_shown}
 use Rattle.pcache_policies.specs.Leaving.{HasRoom}
 
 -- keys, the newest first
@@ -141,6 +141,14 @@ Admitted (Some v) limits f k n t out = MakesRoom limits 0 0 (reseen_in k (record
 abbrev pub Incremented : Option Seen → Limits → Fifos → CacheEntryKey → ℕ → Option ℕ → Fifos → List CacheEntryKey → Type 0
 Incremented None limits f k delta cap t out = Comes limits f k (raised delta cap None) t out
 Incremented (Some v) limits f k delta cap t out = MakesRoom limits 0 0 (reseen_in k (record v { weight = raised delta cap (Some v.weight) }) f) out t
+
+-- ghosts as a manager shows them
+abbrev pub ghosts_shown : Ghosts → List (CacheEntryKey × ℕ × ℕ)
+ghosts_shown g = map (λ (k : CacheEntryKey). (k, 0, 0)) g
+
+-- the order as a manager shows it
+abbrev pub fifos_shown : Fifos → Shown
+fifos_shown f = queue_shown f.small ∷ queue_shown f.main ∷ ghosts_shown f.ghosts ∷ []
 
 -- S3-FIFO as a policy
 abbrev pub s3_fifo_policy : Policy Fifos

@@ -5,9 +5,9 @@ use Rattle.pcache_evict.specs.declared.eviction.entry_key.CacheEntryKey.{CacheEn
 use Rattle.pcache_evict.specs.Tracked.{Limits, Evicted, limits_of, raised}
 use Rattle.pcache_evict.specs.Recency.{Recency, weight}
 use Rattle.pcache_evict.specs.Listed.{map_of}
-use Rattle.pcache_evict.specs.Policy.{Policy}
+use Rattle.pcache_evict.specs.Policy.{Policy, Shown}
 use Rattle.pcache_policies.specs.declared.queue.Seen.{Seen}
-use Rattle.pcache_policies.specs.Queue.{Queue, plain, rest_of, reseen, seen_of, unused, used}
+use Rattle.pcache_policies.specs.Queue.{Queue, plain, rest_of, reseen, seen_of, unused, used, queue_shown}
 use Rattle.pcache_policies.specs.Leaving.{HasRoom}
 
 -- the list is `ahead ++ passed`; the hand is at the last entry of `ahead`, or at the oldest entry if `ahead` is empty
@@ -116,6 +116,10 @@ Admitted (Some v) limits s k n t out = MakesRoom limits 0 0 (reseen_in k (used n
 abbrev pub Incremented : Option Seen → Limits → Sieve → CacheEntryKey → ℕ → Option ℕ → Sieve → List CacheEntryKey → Type 0
 Incremented None limits s k delta cap t out = Comes limits s k (raised delta cap None) t out
 Incremented (Some v) limits s k delta cap t out = MakesRoom limits 0 0 (reseen_in k (record v { weight = raised delta cap (Some v.weight) }) s) out t
+
+-- the order as a manager shows it
+abbrev pub sieve_shown : Sieve → Shown
+sieve_shown s = queue_shown s.ahead ∷ queue_shown s.passed ∷ []
 
 -- SIEVE as a policy
 abbrev pub sieve_policy : Policy Sieve

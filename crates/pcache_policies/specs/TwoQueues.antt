@@ -5,11 +5,11 @@ use Rattle.pcache_evict.specs.declared.eviction.entry_key.CacheEntryKey.{CacheEn
 use Rattle.pcache_evict.specs.Tracked.{Limits, Evicted, limits_of, raised}
 use Rattle.pcache_evict.specs.Recency.{Recency, weight}
 use Rattle.pcache_evict.specs.Listed.{map_of}
-use Rattle.pcache_evict.specs.Policy.{Policy}
+use Rattle.pcache_evict.specs.Policy.{Policy, Shown}
 use Rattle.pcache_policies.specs.declared.queue.Seen.{Seen}
-use Rattle.pcache_policies.specs.Queue.{Queue, plain, rest_of, reseen, seen_of, unused}
+use Rattle.pcache_policies.specs.Queue.{Queue, plain, rest_of, reseen, seen_of, unused, queue_shown}
 use Rattle.pcache_policies.specs.Leaving.{HasRoom}
-use Rattle.pcache_policies.specs.S3Fifo.{Ghosts, is_ghost, forgotten}
+use Rattle.pcache_policies.specs.S3Fifo.{Ghosts, ghosts_shown, is_ghost, forgotten}
 
 -- the main queue (Am), the queue of new entries (A1in), and the ghosts (A1out), each the newest first
 pub record TwoQueues : Type 0 where
@@ -86,6 +86,10 @@ Admitted (Some v) limits q k n t out = MakesRoom limits 0 0 (touched k (record v
 abbrev pub Incremented : Option Seen → Limits → TwoQueues → CacheEntryKey → ℕ → Option ℕ → TwoQueues → List CacheEntryKey → Type 0
 Incremented None limits q k delta cap t out = Comes limits q k (raised delta cap None) t out
 Incremented (Some v) limits q k delta cap t out = MakesRoom limits 0 0 (reseen_in k (record v { weight = raised delta cap (Some v.weight) }) q) out t
+
+-- the order as a manager shows it
+abbrev pub two_queues_shown : TwoQueues → Shown
+two_queues_shown q = queue_shown q.main ∷ queue_shown q.incoming ∷ ghosts_shown q.ghosts ∷ []
 
 -- 2Q as a policy
 abbrev pub two_queues_policy : Policy TwoQueues

@@ -317,6 +317,8 @@ impl<U: Uses, S: BuildHasher + Copy + Drop> Manager<U, S> {
 }
 
 impl<U: Uses, S: BuildHasher + Copy + Drop> EvictionManager for Manager<U, S> {
+    ghost use Rattle.pcache_evict.specs.Policy.{rules_of};
+    ghost use Rattle.pcache_policies.specs.OneQueue.{one_queue_shown, queue_policy};
     ghost use Rattle.pcache_evict.specs.Listed.{map_of};
     ghost use Rattle.pcache_policies.specs.Queue.{plain};
 
@@ -325,6 +327,10 @@ impl<U: Uses, S: BuildHasher + Copy + Drop> EvictionManager for Manager<U, S> {
     ghost limits = { λ m. m.limits };
 
     ghost evicted = { λ m. m.evicted };
+
+    ghost rules = { λ _. rules_of one_queue_shown (queue_policy U.used) };
+
+    ghost shown = { λ m. one_queue_shown m.queue };
 
     fn total_size(&self) -> usize {
         Manager::total_size(self)
@@ -347,6 +353,7 @@ impl<U: Uses, S: BuildHasher + Copy + Drop> EvictionManager for Manager<U, S> {
         Ok(all)
     }
 
+    #[tactic(auto, using(crate::proofs::Rules::same_rules))]
     fn admit(
         &mut self,
         item: CacheEntryKey,
@@ -357,6 +364,7 @@ impl<U: Uses, S: BuildHasher + Copy + Drop> EvictionManager for Manager<U, S> {
         Ok(out)
     }
 
+    #[tactic(auto, using(crate::proofs::Rules::same_rules))]
     fn increment_weight(
         &mut self,
         item: &CacheEntryKey,
@@ -367,10 +375,12 @@ impl<U: Uses, S: BuildHasher + Copy + Drop> EvictionManager for Manager<U, S> {
         Ok(out)
     }
 
+    #[tactic(auto, using(crate::proofs::Rules::same_rules))]
     fn remove(&mut self, item: &CacheEntryKey) {
         Manager::remove(self, item);
     }
 
+    #[tactic(auto, using(crate::proofs::Rules::same_rules))]
     fn access(&mut self, item: &CacheEntryKey, size: usize, fresh_until: Moment) -> Result<bool> {
         let was = Manager::access(self, item, size, fresh_until)?;
         Ok(was)

@@ -317,14 +317,19 @@ impl<S: BuildHasher + Copy + Drop> Manager<S> {
 }
 
 impl<S: BuildHasher + Copy + Drop> EvictionManager for Manager<S> {
+    ghost use Rattle.pcache_evict.specs.Policy.{rules_of};
     ghost use Rattle.pcache_evict.specs.Listed.{map_of};
-    ghost use Rattle.pcache_policies.specs.S3Fifo.{entries};
+    ghost use Rattle.pcache_policies.specs.S3Fifo.{entries, s3_fifo_policy, fifos_shown};
 
     ghost tracked = { λ m. map_of (entries m.fifos) };
 
     ghost limits = { λ m. m.limits };
 
     ghost evicted = { λ m. m.evicted };
+
+    ghost rules = { λ _. rules_of fifos_shown s3_fifo_policy };
+
+    ghost shown = { λ m. fifos_shown m.fifos };
 
     fn total_size(&self) -> usize {
         Manager::total_size(self)
@@ -347,6 +352,7 @@ impl<S: BuildHasher + Copy + Drop> EvictionManager for Manager<S> {
         Ok(all)
     }
 
+    #[tactic(auto, using(crate::proofs::Rules::same_rules))]
     fn admit(
         &mut self,
         item: CacheEntryKey,
@@ -357,6 +363,7 @@ impl<S: BuildHasher + Copy + Drop> EvictionManager for Manager<S> {
         Ok(out)
     }
 
+    #[tactic(auto, using(crate::proofs::Rules::same_rules))]
     fn increment_weight(
         &mut self,
         item: &CacheEntryKey,
@@ -367,10 +374,12 @@ impl<S: BuildHasher + Copy + Drop> EvictionManager for Manager<S> {
         Ok(out)
     }
 
+    #[tactic(auto, using(crate::proofs::Rules::same_rules))]
     fn remove(&mut self, item: &CacheEntryKey) {
         Manager::remove(self, item);
     }
 
+    #[tactic(auto, using(crate::proofs::Rules::same_rules))]
     fn access(&mut self, item: &CacheEntryKey, size: usize, fresh_until: Moment) -> Result<bool> {
         let was = Manager::access(self, item, size, fresh_until)?;
         Ok(was)

@@ -392,12 +392,17 @@ impl<const N: usize, S: BuildHasher + Copy + Drop> Manager<N, S> {
 impl<const N: usize, S: BuildHasher + Copy + Drop> EvictionManager for Manager<N, S> {
     ghost use Rattle.pcache_evict.specs.Listed.{map_of};
     ghost use Rattle.pcache_evict.specs.Shards.{all};
+    ghost use Rattle.pcache_evict.specs.Policy.{lists_shown, rules_of, sharded};
 
     ghost tracked = { λ m. map_of (all m.shards) };
 
     ghost limits = { λ m. m.limits };
 
     ghost evicted = { λ m. m.evicted };
+
+    ghost rules = { λ _. rules_of lists_shown (sharded N) };
+
+    ghost shown = { λ m. lists_shown m.shards };
 
     fn total_size(&self) -> usize {
         Manager::total_size(self)
@@ -420,6 +425,7 @@ impl<const N: usize, S: BuildHasher + Copy + Drop> EvictionManager for Manager<N
         Ok(all)
     }
 
+    #[tactic(auto, using(crate::proofs::Rules::same_rules))]
     fn admit(
         &mut self,
         item: CacheEntryKey,
@@ -430,6 +436,7 @@ impl<const N: usize, S: BuildHasher + Copy + Drop> EvictionManager for Manager<N
         Ok(out)
     }
 
+    #[tactic(auto, using(crate::proofs::Rules::same_rules))]
     fn increment_weight(
         &mut self,
         item: &CacheEntryKey,
@@ -440,10 +447,12 @@ impl<const N: usize, S: BuildHasher + Copy + Drop> EvictionManager for Manager<N
         Ok(out)
     }
 
+    #[tactic(auto, using(crate::proofs::Rules::same_rules))]
     fn remove(&mut self, item: &CacheEntryKey) {
         Manager::remove(self, item);
     }
 
+    #[tactic(auto, using(crate::proofs::Rules::same_rules))]
     fn access(&mut self, item: &CacheEntryKey, size: usize, fresh_until: Moment) -> Result<bool> {
         let was = Manager::access(self, item, size, fresh_until)?;
         Ok(was)

@@ -296,12 +296,17 @@ impl<S: BuildHasher + Copy + Drop> Manager<S> {
 
 impl<S: BuildHasher + Copy + Drop> EvictionManager for Manager<S> {
     ghost use Rattle.pcache_evict.specs.Listed.{map_of};
+    ghost use Rattle.pcache_evict.specs.Policy.{lru, one_shown, rules_of};
 
     ghost tracked = { λ m. map_of m.entries };
 
     ghost limits = { λ m. m.limits };
 
     ghost evicted = { λ m. m.evicted };
+
+    ghost rules = { λ _. rules_of one_shown lru };
+
+    ghost shown = { λ m. one_shown m.entries };
 
     fn total_size(&self) -> usize {
         Manager::total_size(self)
@@ -324,6 +329,7 @@ impl<S: BuildHasher + Copy + Drop> EvictionManager for Manager<S> {
         Ok(all)
     }
 
+    #[tactic(auto, using(crate::proofs::Rules::same_rules))]
     fn admit(
         &mut self,
         item: CacheEntryKey,
@@ -334,6 +340,7 @@ impl<S: BuildHasher + Copy + Drop> EvictionManager for Manager<S> {
         Ok(out)
     }
 
+    #[tactic(auto, using(crate::proofs::Rules::same_rules))]
     fn increment_weight(
         &mut self,
         item: &CacheEntryKey,
@@ -344,10 +351,12 @@ impl<S: BuildHasher + Copy + Drop> EvictionManager for Manager<S> {
         Ok(out)
     }
 
+    #[tactic(auto, using(crate::proofs::Rules::same_rules))]
     fn remove(&mut self, item: &CacheEntryKey) {
         Manager::remove(self, item);
     }
 
+    #[tactic(auto, using(crate::proofs::Rules::same_rules))]
     fn access(&mut self, item: &CacheEntryKey, size: usize, fresh_until: Moment) -> Result<bool> {
         let was = Manager::access(self, item, size, fresh_until)?;
         Ok(was)

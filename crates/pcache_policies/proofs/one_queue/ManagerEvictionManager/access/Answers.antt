@@ -16,3 +16,6 @@ pub returns-in_err-was-clause-there : goal.returns-in_err-was-clause-there
 returns-in_err-was-clause-there g c = λ has.
     let given = c.in_err-was.ensures.there (there-list c.args.item.now c.args.self.now.queue ∙ has) in
     cc
+
+pub returns-clause-order : goal.returns-clause-order
+returns-clause-order g c = (c.args.self.now.queue, c.access.new.self.queue, refl, refl, ap (λ s. s.queue) c.in_ok-was.ensures.ok)

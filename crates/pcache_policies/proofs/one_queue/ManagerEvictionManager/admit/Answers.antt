@@ -1,6 +1,6 @@
 use Rattle.std.proofs.Common.{refl}
 use Rattle.pcache_policies.specs.Queue.{seen_of}
-use Rattle.pcache_policies.proofs.QueueMaps.{admission}
+use Rattle.pcache_policies.proofs.QueueMaps.{admitted, admission}
 use Rattle.pcache_policies.proofs.one_queue.ManagerEvictionManager.admit.Goals as goal
 
 pub returns-clause-fair : goal.returns-clause-fair
@@ -14,3 +14,6 @@ returns-clause-evicted g c = (admission g.U.Uses.used g.met.U.Uses.weighs (seen_
 
 pub returns-clause-limits : goal.returns-clause-limits
 returns-clause-limits g c = (admission g.U.Uses.used g.met.U.Uses.weighs (seen_of c.args.item c.args.self.now.queue) c.args.self.now c.admit.new.self c.args.item c.args.size c.in_ok-out.out.items refl c.in_ok-out.ensures.ok c.admit.ensures.once).limits
+
+pub returns-clause-order : goal.returns-clause-order
+returns-clause-order g c = (c.args.self.now.queue, c.admit.new.self.queue, refl, refl, admitted g.U.Uses.used (seen_of c.args.item c.args.self.now.queue) c.args.self.now c.admit.new.self c.args.item c.args.size c.in_ok-out.out.items c.in_ok-out.ensures.ok)

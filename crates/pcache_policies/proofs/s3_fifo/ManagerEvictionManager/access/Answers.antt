@@ -17,3 +17,6 @@ pub returns-in_err-was-clause-there : goal.returns-in_err-was-clause-there
 returns-in_err-was-clause-there g c = λ has.
     let given = c.in_err-was.ensures.there (there-list c.args.item.now (whole c.args.self.now.fifos) ∙ has) in
     cc
+
+pub returns-clause-order : goal.returns-clause-order
+returns-clause-order g c = (c.args.self.now.fifos, c.access.new.self.fifos, refl, refl, ap (λ s. s.fifos) c.in_ok-was.ensures.ok)

@@ -1,7 +1,7 @@
 use Rattle.std.proofs.Common.{refl}
 use Rattle.pcache_policies.specs.Queue.{seen_of}
 use Rattle.pcache_policies.specs.S3Fifo.{whole}
-use Rattle.pcache_policies.proofs.FifoMaps.{admission}
+use Rattle.pcache_policies.proofs.FifoMaps.{admitted, admission}
 use Rattle.pcache_policies.proofs.s3_fifo.ManagerEvictionManager.admit.Goals as goal
 
 pub returns-clause-fair : goal.returns-clause-fair
@@ -15,3 +15,6 @@ returns-clause-evicted g c = (admission (seen_of c.args.item (whole c.args.self.
 
 pub returns-clause-limits : goal.returns-clause-limits
 returns-clause-limits g c = (admission (seen_of c.args.item (whole c.args.self.now.fifos)) c.args.self.now c.admit.new.self c.args.item c.args.size c.in_ok-out.out.items refl c.in_ok-out.ensures.ok c.admit.ensures.once).limits
+
+pub returns-clause-order : goal.returns-clause-order
+returns-clause-order g c = (c.args.self.now.fifos, c.admit.new.self.fifos, refl, refl, admitted (seen_of c.args.item (whole c.args.self.now.fifos)) c.args.self.now c.admit.new.self c.args.item c.args.size c.in_ok-out.out.items c.in_ok-out.ensures.ok)

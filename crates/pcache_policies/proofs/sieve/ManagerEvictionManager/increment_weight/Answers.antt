@@ -1,7 +1,7 @@
 use Rattle.std.proofs.Common.{refl, ◌∙◌, sym, ap}
 use Rattle.pcache_policies.specs.Queue.{seen_of}
 use Rattle.pcache_policies.specs.Sieve.{whole}
-use Rattle.pcache_policies.proofs.SieveMaps.{increment, within-raised, there-list, some_seen}
+use Rattle.pcache_policies.proofs.SieveMaps.{incremented-in, increment, within-raised, there-list, some_seen}
 use Rattle.pcache_policies.proofs.sieve.ManagerEvictionManager.increment_weight.Goals as goal
 
 pub returns-clause-fair : goal.returns-clause-fair
@@ -21,3 +21,6 @@ returns-in_err-out-clause-within g c = λ has fits.
     let (v, is) = some_seen (seen_of c.args.item.now (whole c.args.self.now.sieve)) (there-list c.args.item.now (whole c.args.self.now.sieve) ∙ has) in
     let given = c.in_err-out.ensures.within v is (within-raised c.args.self.now.limits c.args.self.now.sieve c.args.item.now c.args.delta c.args.max_weight v is c.increment_weight.ensures.once fits) in
     cc
+
+pub returns-clause-order : goal.returns-clause-order
+returns-clause-order g c = (c.args.self.now.sieve, c.increment_weight.new.self.sieve, refl, refl, incremented-in (seen_of c.args.item.now (whole c.args.self.now.sieve)) c.args.self.now c.increment_weight.new.self c.args.item.now c.args.delta c.args.max_weight c.in_ok-out.out.items c.in_ok-out.ensures.ok)

@@ -1,7 +1,7 @@
 use Rattle.std.proofs.Common.{refl, ◌∙◌, sym, ap}
 use Rattle.pcache_policies.specs.Queue.{seen_of}
 use Rattle.pcache_policies.specs.TwoQueues.{whole}
-use Rattle.pcache_policies.proofs.ReclaimMaps.{increment, within-raised}
+use Rattle.pcache_policies.proofs.ReclaimMaps.{incremented-in, increment, within-raised}
 use Rattle.pcache_policies.proofs.SieveMaps.{there-list, some_seen}
 use Rattle.pcache_policies.proofs.two_queues.ManagerEvictionManager.increment_weight.Goals as goal
 
@@ -22,3 +22,6 @@ returns-in_err-out-clause-within g c = λ has fits.
     let (v, is) = some_seen (seen_of c.args.item.now (whole c.args.self.now.queues)) (there-list c.args.item.now (whole c.args.self.now.queues) ∙ has) in
     let given = c.in_err-out.ensures.within v is (within-raised c.args.self.now.limits c.args.self.now.queues c.args.item.now c.args.delta c.args.max_weight v is c.increment_weight.ensures.once fits) in
     cc
+
+pub returns-clause-order : goal.returns-clause-order
+returns-clause-order g c = (c.args.self.now.queues, c.increment_weight.new.self.queues, refl, refl, incremented-in (seen_of c.args.item.now (whole c.args.self.now.queues)) c.args.self.now c.increment_weight.new.self c.args.item.now c.args.delta c.args.max_weight c.in_ok-out.out.items c.in_ok-out.ensures.ok)

@@ -1,4 +1,4 @@
-use Rattle.std.proofs.Common.{◌∙◌, sym, ap, is_some}
+use Rattle.std.proofs.Common.{refl, ◌∙◌, sym, ap, is_some}
 use Rattle.pcache_evict.specs.Listed.{map_of}
 use Rattle.pcache_evict.specs.Shards.{all}
 use Rattle.pcache_evict.proofs.ShardMaps.{map-accessed-in, found-map}
@@ -14,3 +14,6 @@ pub returns-in_err-was-clause-there : goal.returns-in_err-was-clause-there
 returns-in_err-was-clause-there g c = λ has.
     let given = c.in_err-was.ensures.there (ap is_some (sym (found-map g.row.N c.args.item.now c.args.self.now.shards c.in_err-was.ensures.placed)) ∙ has) in
     cc
+
+pub returns-clause-order : goal.returns-clause-order
+returns-clause-order g c = (c.args.self.now.shards, c.access.new.self.shards, refl, refl, ap (λ s. s.shards) c.in_ok-was.ensures.ok)

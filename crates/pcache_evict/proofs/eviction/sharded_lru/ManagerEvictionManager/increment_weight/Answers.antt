@@ -1,4 +1,4 @@
-use Rattle.std.proofs.Common.{◌∙◌, ap, subst, sym, is_some}
+use Rattle.std.proofs.Common.{refl, ◌∙◌, ap, subst, sym, is_some}
 use Rattle.pcache_evict.specs.Tracked.{IsFair, IsWithin, without, evicted_with}
 use Rattle.pcache_evict.specs.Shards.{all, in_shard, grown}
 use Rattle.pcache_evict.proofs.Maps.{inside}
@@ -27,3 +27,6 @@ returns-in_err-out-clause-within g c = λ has fits.
     let given = c.in_err-out.ensures.within (ap is_some (sym (found-map g.row.N c.args.item.now c.args.self.now.shards placed)) ∙ has)
     (inside c.args.self.now.limits list (once-grown g.row.N c.args.item.now c.args.delta c.args.max_weight c.args.self.now.shards placed) (subst (IsWithin c.args.self.now.limits) (sym (map-grown-in g.row.N c.args.item.now c.args.delta c.args.max_weight c.args.self.now.shards placed)) fits)) in
     cc
+
+pub returns-clause-order : goal.returns-clause-order
+returns-clause-order g c = (c.args.self.now.shards, c.increment_weight.new.self.shards, refl, refl, c.in_ok-out.ensures.ok.runs)

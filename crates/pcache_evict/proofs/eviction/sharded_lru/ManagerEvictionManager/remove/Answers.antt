@@ -1,4 +1,4 @@
-use Rattle.std.proofs.Common.{◌∙◌, ap}
+use Rattle.std.proofs.Common.{refl, ◌∙◌, ap}
 use Rattle.pcache_evict.specs.Listed.{map_of}
 use Rattle.pcache_evict.specs.Shards.{all}
 use Rattle.pcache_evict.proofs.ShardMaps.{map-others-in}
@@ -6,3 +6,6 @@ use Rattle.pcache_evict.proofs.eviction.sharded_lru.ManagerEvictionManager.remov
 
 pub returns-clause-tracked : goal.returns-clause-tracked
 returns-clause-tracked g c = ap (λ s. map_of (all s.shards)) c.remove.ensures.ok ∙ map-others-in g.row.N c.args.item.now c.args.self.now.shards c.remove.ensures.placed
+
+pub returns-clause-order : goal.returns-clause-order
+returns-clause-order g c = (c.args.self.now.shards, c.remove.new.self.shards, refl, refl, ap (λ s. s.shards) c.remove.ensures.ok)

@@ -1,4 +1,4 @@
-use Rattle.std.proofs.Common.{◌∙◌, sym, ap, is_some}
+use Rattle.std.proofs.Common.{refl, ◌∙◌, sym, ap, is_some}
 use Rattle.pcache_evict.specs.Listed.{map_of}
 use Rattle.pcache_evict.proofs.Maps.{map-accessed, get-map_of}
 use Rattle.pcache_evict.proofs.eviction.simple_lru.ManagerEvictionManager.access.Goals as goal
@@ -13,3 +13,6 @@ pub returns-in_err-was-clause-there : goal.returns-in_err-was-clause-there
 returns-in_err-was-clause-there g c = λ has.
     let given = c.in_err-was.ensures.there (ap is_some (sym (get-map_of c.args.self.now.entries c.args.item.now)) ∙ has) in
     cc
+
+pub returns-clause-order : goal.returns-clause-order
+returns-clause-order g c = (c.args.self.now.entries, c.access.new.self.entries, refl, refl, ap (λ s. s.entries) c.in_ok-was.ensures.ok)

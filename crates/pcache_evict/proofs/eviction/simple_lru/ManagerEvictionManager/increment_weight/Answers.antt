@@ -1,4 +1,4 @@
-use Rattle.std.proofs.Common.{◌∙◌, sym, ap, subst, is_some}
+use Rattle.std.proofs.Common.{refl, ◌∙◌, sym, ap, subst, is_some}
 use Rattle.std.specs.FinMap as fin
 use Rattle.pcache_evict.specs.Tracked.{IsFair, IsWithin, without, evicted_with}
 use Rattle.pcache_evict.specs.Tracked.{raised}
@@ -31,3 +31,6 @@ returns-in_err-out-clause-within g c = λ has fits.
     let mapped = subst (λ o. IsWithin c.args.self.now.limits (map_of (moved c.args.item.now (raised c.args.delta c.args.max_weight o) c.args.self.now.entries))) weight (subst (IsWithin c.args.self.now.limits) (sym same) fits) in
     let given = c.in_err-out.ensures.within (ap is_some (sym weight) ∙ has) (inside c.args.self.now.limits list (distinct-moved c.args.item.now (raised c.args.delta c.args.max_weight (weight_of c.args.item.now c.args.self.now.entries)) c.args.self.now.entries c.in_err-out.ensures.once) mapped) in
     cc
+
+pub returns-clause-order : goal.returns-clause-order
+returns-clause-order g c = (c.args.self.now.entries, c.increment_weight.new.self.entries, refl, refl, c.in_ok-out.ensures.ok.evicts)
