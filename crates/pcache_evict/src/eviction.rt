@@ -26,7 +26,8 @@ pub use pcache_base::entry_id::CacheEntryId;
 ///
 /// A contract sees the map from entries to weights, and the limits on their sum and number; and the
 /// order of the entries, as the manager shows it, with the rules by which calls change it. Calls
-/// fail only when memory runs out, and a failed call changes nothing.
+/// fail only when memory runs out, and a failed call leaves the entries and their weights; the order
+/// of those that were looked at to find one that goes may have changed.
 pub trait EvictionManager: Drop {
     /// The entries, with their weights.
     ghost tracked: { Self → Tracked };
@@ -85,8 +86,7 @@ pub trait EvictionManager: Drop {
             (shown self.old) item size (shown self.new) out.items) }
         ensures kind { IfErr result (λ e. e ≡ OutOfMemory) }
         ensures err { OnErr result (tracked self.new ≡ tracked self.old) }
-        ensures err_evicted { OnErr result (evicted self.new ≡ evicted self.old) }
-        ensures err_order { OnErr result (shown self.new ≡ shown self.old) };
+        ensures err_evicted { OnErr result (evicted self.new ≡ evicted self.old) };
 
     /// Adds to the weight of an entry, up to `max_weight` (the largest `usize` if that is `None`),
     /// and evicts as `admit` does. A weight never decreases; an entry that is not tracked is added
@@ -113,8 +113,7 @@ pub trait EvictionManager: Drop {
             (shown self.old) item.now delta max_weight (shown self.new) out.items) }
         ensures kind { IfErr result (λ e. e ≡ OutOfMemory) }
         ensures err { OnErr result (tracked self.new ≡ tracked self.old) }
-        ensures err_evicted { OnErr result (evicted self.new ≡ evicted self.old) }
-        ensures err_order { OnErr result (shown self.new ≡ shown self.old) };
+        ensures err_evicted { OnErr result (evicted self.new ≡ evicted self.old) };
 
     /// Removes an entry, if it is tracked. That is no eviction.
     fn remove(&mut self, item: &CacheEntryKey)
@@ -137,8 +136,7 @@ pub trait EvictionManager: Drop {
             (shown self.new)) }
         ensures evicted { evicted self.new ≡ evicted self.old }
         ensures kind { IfErr result (λ e. e ≡ OutOfMemory) }
-        ensures err { OnErr result (tracked self.new ≡ tracked self.old) }
-        ensures err_order { OnErr result (shown self.new ≡ shown self.old) };
+        ensures err { OnErr result (tracked self.new ≡ tracked self.old) };
 
     /// Whether an entry is tracked. That does not count as a use.
     fn peek(&self, item: &CacheEntryKey) -> bool

@@ -1,5 +1,6 @@
 -- What calls report of what they did (own).
-use Rattle.std.specs.Prelude.{ℕ, Bool, Option, Some, None, cond, option_map}
+use Rattle.std.specs.Prelude.{◌≡◌, ℕ, Bool, true, false, Option, Some, None, cond, option_map}
+use Rattle.std.specs.FinMap.{contains_key}
 use Rattle.pcache_base.specs.CompactKey.{compact_of}
 use Rattle.pcache_base.specs.Key.{Key, slot}
 use Rattle.pcache_base.specs.declared.key.CompactCacheKey.{CompactCacheKey}
@@ -8,6 +9,7 @@ use Rattle.pcache_evict.specs.declared.eviction.entry_key.CacheEntryKey.{CacheEn
 use Rattle.pcache_lock.specs.Locks.{Locks, lock_given, holder, is_permit, number_of_lock}
 use Rattle.pcache_lock.specs.declared.lock.permit.Locked.{Locked}
 use Rattle.pcache_lock.specs.declared.lock.status.LockStatus.{LockStatus}
+use Rattle.pcache_evict.specs.Policy.{Rules, Shown}
 use Rattle.pcache_evict.specs.Tracked.{Tracked, added}
 use Rattle.pcache_store.specs.Purge.{entry_read}
 use Rattle.pcache_store.specs.Store.{Reader, reader_weight}
@@ -49,6 +51,21 @@ access_by_found s h id r = cond (counts_found s h r) (option_map (λ k. record {
 -- the same by a reader of a storage where entries may have numbers
 abbrev pub access_by_hit : Bool → HitStatus → Reader → Request → Option Access
 access_by_hit numbers s h r = access_by_found s h (entry_read numbers h) r
+
+-- an access changed the order of a manager as its rules say; without one the order is as before
+abbrev pub IsNotedIn : Rules → Shown → Option Access → Shown → Type 0
+IsNotedIn rules before None after = after ≡ before
+IsNotedIn rules before (Some a) after = rules.Accesses before a.entry a.weight after
+
+-- a use of an entry changed the order so; where the entry was not tracked, it is out again
+abbrev pub IsUsedIn : Bool → Rules → Shown → Access → Shown → Type 0
+IsUsedIn true rules before a after = rules.Accesses before a.entry a.weight after
+IsUsedIn false rules before a after = (between : Shown) × rules.Accesses before a.entry a.weight between × rules.Removes between a.entry after
+
+-- the same of an access of which no entry remains that was not tracked
+abbrev pub IsKeptIn : Rules → Tracked → Shown → Option Access → Shown → Type 0
+IsKeptIn rules tracked before None after = after ≡ before
+IsKeptIn rules tracked before (Some a) after = IsUsedIn (contains_key tracked a.entry) rules before a after
 
 -- the entry of a body that was stored and not withdrawn
 abbrev pub entry_stored : Option Key → Option ℕ → WriteEnd → Option CacheEntryKey

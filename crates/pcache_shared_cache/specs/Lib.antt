@@ -1,6 +1,5 @@
 pub mod Calls
 pub mod Managed
-pub mod ManagedCode
 pub mod Portions
 pub mod Seen
 pub mod SeenCode

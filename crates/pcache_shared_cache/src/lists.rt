@@ -1,6 +1,6 @@
 //! Parts over recency lists.
 ghost use Rattle.std.specs.Prelude.{◌≡◌, ◌<◌, IfErr, IfOk, length, map};
-ghost use Rattle.pcache_shared_cache.specs.Managed.{Unmade};
+ghost use Rattle.pcache_shared_cache.specs.Managed.{unmade_limits};
 ghost use Rattle.pcache_base.specs.declared.error.ErrorType.TheVariants.{OutOfMemory};
 ghost use Rattle.pcache_shared_cache.specs.Portions.{portion_at, portions};
 
@@ -54,7 +54,7 @@ pub fn new_lists(
 ) -> Result<Vec<NewPart<Manager>>>
     requires { 0 < parts }
     ensures limits { IfOk result (λ v.
-        map (λ (u : Unmade). u.portion.limits) v.items ≡ portions parts limit watermark) }
+        map unmade_limits v.items ≡ portions parts limit watermark) }
     ensures count { IfOk result (λ v. length v.items ≡ parts) }
     ensures kind { IfErr result (λ e. e ≡ OutOfMemory) }
 {

@@ -2,7 +2,7 @@
 ghost use Rattle.std.specs.Prelude.{◌≡◌, ℕ, [], List, None, IfErr, IfOk, map};
 ghost use Rattle.pcache_base.specs.declared.error.ErrorType.TheVariants.{OutOfMemory};
 ghost use Rattle.pcache_evict.specs.Tracked.{Limits};
-ghost use Rattle.pcache_shared_cache.specs.Managed.{Unmade};
+ghost use Rattle.pcache_shared_cache.specs.Managed.{unmade_limits, unmade_name, unmade_portion};
 ghost use Rattle.pcache_shared_cache.specs.Seen.{AreNamed};
 
 use crate::log::PartState;
@@ -24,11 +24,8 @@ pub struct NewPart<M: EvictionManager> {
 impl<M: EvictionManager> Model for NewPart<M> {
     ghost use Rattle.std.specs.Prelude.{◌≡◌, []};
     ghost use Rattle.pcache_shared_cache.specs.Managed.{Unmade};
-    ghost use Rattle.pcache_shared_cache.specs.ManagedCode.{unmade_code};
 
-    ghost Value = { Unmade };
-
-    ghost coded = { unmade_code };
+    ghost Value = { Unmade M };
 
     ghost view = { λ p. record { name = p.keeper.name; portion = p.portion } };
 
@@ -62,7 +59,7 @@ pub fn new_parts<M: EvictionManager>(
     alloc: Global,
     portions: Vec<Portion<M>>,
 ) -> Result<Vec<NewPart<M>>>
-    ensures parts { IfOk result (λ v. map (λ (p : Unmade). p.portion) v.items ≡ portions.items) }
+    ensures parts { IfOk result (λ v. map unmade_portion v.items ≡ portions.items) }
     ensures kind { IfErr result (λ e. e ≡ OutOfMemory) }
 {
     let mut parts = Vec::with_capacity(alloc, portions.len())?;
@@ -82,21 +79,21 @@ pub struct Unused<M: EvictionManager, K: Mark> {
 impl<M: EvictionManager, K: Mark> Model for Unused<M, K> {
     ghost use Rattle.std.specs.Prelude.{List, map};
     ghost use Rattle.pcache_evict.specs.Tracked.{Limits};
-    ghost use Rattle.pcache_shared_cache.specs.Managed.{Unmade};
+    ghost use Rattle.pcache_shared_cache.specs.Managed.{unmade_limits, unmade_name};
     ghost use Rattle.pcache_shared_cache.specs.Seen.{AreNamed};
 
     ghost Value = { List Limits };
 
-    ghost view = { λ u. map (λ (p : Unmade). p.portion.limits) u.parts.items };
+    ghost view = { λ u. map unmade_limits u.parts.items };
 
-    ghost invariant = { λ u. AreNamed K.names (map (λ (p : Unmade). p.name) u.parts.items) };
+    ghost invariant = { λ u. AreNamed K.names (map unmade_name u.parts.items) };
 }
 
 impl<M: EvictionManager, K: Mark> Unused<M, K> {
     /// For a mark that names no place.
     pub fn unnamed(parts: Vec<NewPart<M>>) -> Unused<M, K>
         requires { (place : ℕ) → K.names place ≡ None }
-        ensures { result ≡ map (λ (p : Unmade). p.portion.limits) parts.items }
+        ensures { result ≡ map unmade_limits parts.items }
     {
         Unused {
             parts,
@@ -106,8 +103,8 @@ impl<M: EvictionManager, K: Mark> Unused<M, K> {
 
     // The parts themselves.
     pub(crate) fn into_parts(self) -> Vec<NewPart<M>>
-        ensures limits { map (λ (p : Unmade). p.portion.limits) result.items ≡ self }
-        ensures named { AreNamed K.names (map (λ (p : Unmade). p.name) result.items) }
+        ensures limits { map unmade_limits result.items ≡ self }
+        ensures named { AreNamed K.names (map unmade_name result.items) }
     {
         let Unused { parts, of: _ } = self;
         parts
@@ -132,17 +129,17 @@ pub trait OverParts<M: EvictionManager> {
 /// Runs a program over the parts of one cache, under a mark that names each part. So what each call of the cache says of its part
 /// is of that part's own states.
 pub fn over_parts<M: EvictionManager, P: OverParts<M>>(parts: Vec<NewPart<M>>, program: P) -> P::Out
-    requires { P.asks program (map (λ (p : Unmade). p.portion.limits) parts.items) }
-    ensures { P.gives program (map (λ (p : Unmade). p.portion.limits) parts.items) result }
+    requires { P.asks program (map unmade_limits parts.items) }
+    ensures { P.gives program (map unmade_limits parts.items) result }
 {
     named::<M, P, Brand>(parts, program)
 }
 
 // The same under a mark that has these names. It has no const parameter, since `over_parts` picks the mark.
 fn named<M: EvictionManager, P: OverParts<M>, K: Mark>(parts: Vec<NewPart<M>>, program: P) -> P::Out
-    requires asked { P.asks program (map (λ (p : Unmade). p.portion.limits) parts.items) }
-    requires named { AreNamed K.names (map (λ (p : Unmade). p.name) parts.items) }
-    ensures { P.gives program (map (λ (p : Unmade). p.portion.limits) parts.items) result }
+    requires asked { P.asks program (map unmade_limits parts.items) }
+    requires named { AreNamed K.names (map unmade_name parts.items) }
+    ensures { P.gives program (map unmade_limits parts.items) result }
 {
     program.run::<K>(Unused {
         parts,

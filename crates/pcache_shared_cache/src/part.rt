@@ -80,7 +80,7 @@ impl<M: EvictionManager, K: Mark> PartLock<M, K> {
     ghost use Rattle.std.specs.Sync.Mutex.{mutex_guard_value};
     ghost use Rattle.pcache_cache.specs.Parts.{IsKept};
     ghost use Rattle.pcache_store.specs.Totals.{slots, stored_bytes};
-    ghost use Rattle.pcache_shared_cache.specs.Managed.{managed};
+    ghost use Rattle.pcache_shared_cache.specs.Managed.{managed, managed_in};
     ghost use Rattle.pcache_shared_cache.specs.Seen.{IsNamed, StartsWith};
     ghost use Rattle.pcache_shared_cache.specs.Shared.{OfPart};
 
@@ -155,7 +155,8 @@ impl<M: EvictionManager, K: Mark> PartLock<M, K> {
 
     // The part's manager, if it has the limits that stand beside the lock (see the type): it has.
     pub(crate) fn into_portion(self) -> Option<Portion<M>>
-        ensures { IfSome result (λ portion. OfPart self.limits (λ p. portion ≡ managed p)) }
+        ensures { IfSome result (λ portion. OfPart self.limits (λ p.
+            managed_in M.tracked M.evicted portion ≡ managed p)) }
     {
         let PartLock {
             limit,

@@ -19,14 +19,11 @@ pub struct Portion<M: EvictionManager> {
 impl<M: EvictionManager> Model for Portion<M> {
     ghost use Rattle.std.specs.Prelude.{◌≡◌};
     ghost use Rattle.pcache_evict.specs.Tracked.{limits_of};
-    ghost use Rattle.pcache_shared_cache.specs.Managed.{Managed};
-    ghost use Rattle.pcache_shared_cache.specs.ManagedCode.{managed_code};
+    ghost use Rattle.pcache_shared_cache.specs.Managed.{Portioned};
 
-    ghost Value = { Managed };
+    ghost Value = { Portioned M };
 
-    ghost coded = { managed_code };
-
-    ghost view = { λ p. record { tracked = M.tracked p.manager; limits = limits_of p.limit p.watermark; evicted = M.evicted p.manager } };
+    ghost view = { λ p. record { manager = p.manager; limits = limits_of p.limit p.watermark } };
 
     ghost invariant = { λ p. M.limits p.manager ≡ limits_of p.limit p.watermark };
 }
@@ -35,12 +32,7 @@ impl<M: EvictionManager> Portion<M> {
     /// A manager, together with its limits.
     pub fn new(manager: M, limit: usize, watermark: Option<usize>) -> Portion<M>
         requires { M.limits manager ≡ limits_of limit watermark }
-        ensures { result
-            ≡ record {
-              tracked = M.tracked manager;
-              limits = limits_of limit watermark;
-              evicted = M.evicted manager;
-            } }
+        ensures { result ≡ record { manager = manager; limits = limits_of limit watermark } }
     {
         Portion {
             manager,
@@ -65,9 +57,8 @@ impl<M: EvictionManager> Portion<M> {
 
     /// The manager itself, of which nothing else is left.
     pub fn into_manager(self) -> M
-        ensures tracked { M.tracked result ≡ self.tracked }
+        ensures manager { result ≡ self.manager }
         ensures limits { M.limits result ≡ self.limits }
-        ensures evicted { M.evicted result ≡ self.evicted }
     {
         let Portion {
             manager,
@@ -79,9 +70,8 @@ impl<M: EvictionManager> Portion<M> {
 
     /// The manager itself, to be asked or saved.
     pub fn manager(&self) -> &M
-        ensures tracked { M.tracked result.now ≡ self.now.tracked }
+        ensures manager { result.now ≡ self.now.manager }
         ensures limits { M.limits result.now ≡ self.now.limits }
-        ensures evicted { M.evicted result.now ≡ self.now.evicted }
     {
         &self.manager
     }
@@ -89,11 +79,15 @@ impl<M: EvictionManager> Portion<M> {
 
 /// Each call is forwarded to the manager.
 impl<M: EvictionManager> EvictionManager for Portion<M> {
-    ghost tracked = { λ p. p.tracked };
+    ghost tracked = { λ p. M.tracked p.manager };
 
     ghost limits = { λ p. p.limits };
 
-    ghost evicted = { λ p. p.evicted };
+    ghost evicted = { λ p. M.evicted p.manager };
+
+    ghost rules = { λ p. M.rules p.manager };
+
+    ghost shown = { λ p. M.shown p.manager };
 
     fn total_size(&self) -> usize {
         self.manager.total_size()

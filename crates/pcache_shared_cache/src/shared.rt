@@ -1,7 +1,7 @@
 //! The cache, and its getters.
 ghost use Rattle.std.specs.Prelude.{◌≡◌, ◌<◌, IfErr, IfOk, length, map};
 ghost use Rattle.pcache_base.specs.declared.error.ErrorType.TheVariants.{OutOfMemory};
-ghost use Rattle.pcache_shared_cache.specs.Managed.{Unmade};
+ghost use Rattle.pcache_shared_cache.specs.Managed.{unmade_limits, unmade_name};
 ghost use Rattle.pcache_shared_cache.specs.Seen.{AreNamed, ArePlaced, Begun};
 
 use crate::mark::Mark;
@@ -53,7 +53,7 @@ impl<M: EvictionManager, K: Mark, const N: usize> SharedCache<M, K, N> {
     ghost use Rattle.pcache_put_ctx.specs.State.{HasTaken, InHead};
     ghost use Rattle.pcache_request.specs.Requests.{enabled_with, new_request, with_key};
     ghost use Rattle.pcache_store.specs.Totals.{slots, stored_bytes};
-    ghost use Rattle.pcache_shared_cache.specs.Managed.{managed};
+    ghost use Rattle.pcache_shared_cache.specs.Managed.{managed, managed_in};
     ghost use Rattle.pcache_shared_cache.specs.Portions.{place_of, whole_watermark, whole_weight};
     ghost use Rattle.pcache_shared_cache.specs.Seen.{StartsWith};
     ghost use Rattle.pcache_shared_cache.specs.Shared.{InParts};
@@ -98,7 +98,8 @@ impl<M: EvictionManager, K: Mark, const N: usize> SharedCache<M, K, N> {
     /// bodies are gone. It takes no memory and does not wait. It would fail as an internal error if a part's manager had not its
     /// part's limits; it has, but what lies behind a lock no contract knows.
     pub fn into_portions(self) -> Result<Vec<Portion<M>>>
-        ensures portions { IfOk result (λ v. InParts self (λ ps. v.items ≡ map managed ps)) }
+        ensures portions { IfOk result (λ v. InParts self (λ ps.
+            map (managed_in M.tracked M.evicted) v.items ≡ map managed ps)) }
         ensures limits { IfOk result (λ v. map (λ p. p.limits) v.items ≡ self) }
         ensures kind { IfErr result (λ e. e ≡ InternalError) }
     {
@@ -196,11 +197,11 @@ fn locks_of<M: EvictionManager, K: Mark>(
     new_parts: Vec<NewPart<M>>,
     age_timeout: Duration,
 ) -> Result<Vec<PartLock<M, K>>>
-    requires { AreNamed K.names (map (λ (u : Unmade). u.name) new_parts.items) }
+    requires { AreNamed K.names (map unmade_name new_parts.items) }
     ensures made { IfOk result (λ v. (length v.items ≡ length new_parts.items)
         × ArePlaced v.items
         × (map (λ (p : Begun). p.limits) v.items
-        ≡ map (λ (u : Unmade). u.portion.limits) new_parts.items)) }
+        ≡ map unmade_limits new_parts.items)) }
     ensures kind { IfErr result (λ e. e ≡ OutOfMemory) }
 {
     let mut parts = Vec::with_capacity(alloc, new_parts.len())?;

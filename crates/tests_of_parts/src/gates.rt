@@ -100,6 +100,10 @@ impl<M: EvictionManager> EvictionManager for Gated<M> {
 
     ghost evicted = { λ g. M.evicted g.list };
 
+    ghost rules = { λ g. M.rules g.list };
+
+    ghost shown = { λ g. M.shown g.list };
+
     fn total_size(&self) -> usize {
         self.list.total_size()
     }

@@ -35,6 +35,10 @@ impl<M: EvictionManager> EvictionManager for Noting<M> {
 
     ghost evicted = { λ m. M.evicted m.list };
 
+    ghost rules = { λ m. M.rules m.list };
+
+    ghost shown = { λ m. M.shown m.list };
+
     fn total_size(&self) -> usize {
         self.list.total_size()
     }

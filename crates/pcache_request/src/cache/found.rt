@@ -1,7 +1,7 @@
 //! Taking the pair that a look-up found.
 ghost use Rattle.std.specs.Prelude.{◌≡◌, IfOk, IfErr, OnOk, OnErr, Some, None, cond, true, false};
 ghost use Rattle.pcache_base.specs.declared.error.ErrorType.TheVariants.{OutOfMemory};
-ghost use Rattle.pcache_request.specs.Reports.{access_of, noted_in};
+ghost use Rattle.pcache_request.specs.Reports.{IsNotedIn, access_of, noted_in};
 ghost use Rattle.pcache_request.specs.Requests.{counts_hit, phase_found};
 
 use super::{Access, AskedLock, FoundReport, HttpCache, entry_for, replace_reader, take_lock_if};
@@ -31,6 +31,8 @@ fn note_access<S: Storage, E: EvictionManager>(
         (access_of S.guarantees.numbers key.now (S.Hit.reader hit.now))) (E.tracked eviction.old)) }
     ensures unused { counts_hit status (S.Hit.reader hit.now) ≡ false
         → eviction.new ≡ eviction.old }
+    ensures order { IfOk result (λ a. IsNotedIn (E.rules eviction.old) (E.shown eviction.old) a
+        (E.shown eviction.new)) }
     ensures err { OnErr result (E.tracked eviction.new ≡ E.tracked eviction.old) }
     ensures limits { E.limits eviction.new ≡ E.limits eviction.old }
     ensures evicted { E.evicted eviction.new ≡ E.evicted eviction.old }
@@ -66,7 +68,7 @@ impl<S: Storage> HttpCache<S> {
     ghost use Rattle.pcache_store.specs.Store.{left};
     ghost use Rattle.pcache_request.specs.Phases.{MayLookUp};
     ghost use Rattle.pcache_request.specs.Requests.{found_row, asks_for_hit, counts_found, store_found, table_found, tracked_by_hit};
-    ghost use Rattle.pcache_request.specs.Reports.{asked_by_found, access_by_hit};
+    ghost use Rattle.pcache_request.specs.Reports.{IsNotedIn, asked_by_found, access_by_hit};
     ghost use Rattle.pcache_store.specs.Notes.{leave_noted, noted};
     ghost use Rattle.pcache_request.specs.LockPasts.{found_deeds};
     ghost use Rattle.pcache_request.specs.StorePasts.{taken_past};
@@ -88,6 +90,8 @@ impl<S: Storage> HttpCache<S> {
             (E.tracked eviction.old)) }
         ensures unused { counts_found status (S.Hit.reader hit.now) self.now ≡ false
             → eviction.new ≡ eviction.old }
+        ensures order { IfOk result (λ a. IsNotedIn (E.rules eviction.old) (E.shown eviction.old) a
+            (E.shown eviction.new)) }
         ensures err { OnErr result (E.tracked eviction.new ≡ E.tracked eviction.old) }
         ensures limits { E.limits eviction.new ≡ E.limits eviction.old }
         ensures evicted { E.evicted eviction.new ≡ E.evicted eviction.old }
@@ -213,6 +217,9 @@ impl<S: Storage> HttpCache<S> {
             ⊎ IsTrue (asks_for_hit status self.old)) }
         ensures unused { counts_found status (S.Hit.reader hit) self.old ≡ false
             → eviction.new ≡ eviction.old }
+        ensures order { OnOk result (IsNotedIn (E.rules eviction.old) (E.shown eviction.old)
+            (access_by_hit S.guarantees.numbers status (S.Hit.reader hit) self.old)
+            (E.shown eviction.new)) }
         ensures something { OnErr result (IsTrue (counts_found status (S.Hit.reader hit) self.old)
             ⊎ IsTrue (asks_for_hit status self.old)) }
         ensures limits { E.limits eviction.new ≡ E.limits eviction.old }
@@ -289,6 +296,8 @@ impl<S: Storage> HttpCache<S> {
         ensures same_tracked { OnErr result (E.tracked eviction.new ≡ E.tracked eviction.old) }
         ensures unused { counts_found status (S.Hit.reader hit) self.old ≡ false
             → eviction.new ≡ eviction.old }
+        ensures order { IfOk result (λ f. IsNotedIn (E.rules eviction.old) (E.shown eviction.old)
+            f.access (E.shown eviction.new)) }
         ensures counts { OnErr result (IsTrue (counts_found status (S.Hit.reader hit) self.old)) }
         ensures limits { E.limits eviction.new ≡ E.limits eviction.old }
         ensures evicted { E.evicted eviction.new ≡ E.evicted eviction.old }

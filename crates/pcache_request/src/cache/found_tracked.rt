@@ -1,6 +1,8 @@
 //! Taking the pair that a look-up found, where a use adds nothing to what the manager tracks.
-ghost use Rattle.std.specs.Prelude.{◌≡◌, IfErr, OnErr, true, false};
+ghost use Rattle.std.specs.Prelude.{◌≡◌, IfErr, OnErr, OnOk, None, Some, cond, true, false};
+ghost use Rattle.std.specs.FinMap.{contains_key};
 ghost use Rattle.pcache_base.specs.declared.error.ErrorType.TheVariants.{OutOfMemory};
+ghost use Rattle.pcache_request.specs.Reports.{IsKeptIn, IsUsedIn, access_of};
 ghost use Rattle.pcache_request.specs.Requests.{counts_hit};
 
 use super::{HttpCache, entry_for};
@@ -22,6 +24,9 @@ fn use_tracked<E: EvictionManager>(
     fresh_until: Moment,
 ) -> Result<()>
     ensures tracked { E.tracked eviction.new ≡ E.tracked eviction.old }
+    ensures order { OnOk result (IsUsedIn (contains_key (E.tracked eviction.old) entry.now)
+        (E.rules eviction.old) (E.shown eviction.old)
+        (record { entry = entry.now; weight = weight }) (E.shown eviction.new)) }
     ensures limits { E.limits eviction.new ≡ E.limits eviction.old }
     ensures evicted { E.evicted eviction.new ≡ E.evicted eviction.old }
     ensures kind { IfErr result (λ e. e ≡ OutOfMemory) }
@@ -44,6 +49,10 @@ fn note_use<S: Storage, E: EvictionManager>(
     ensures tracked { E.tracked eviction.new ≡ E.tracked eviction.old }
     ensures unused { counts_hit status (S.Hit.reader hit.now) ≡ false
         → eviction.new ≡ eviction.old }
+    ensures order { OnOk result (IsKeptIn (E.rules eviction.old) (E.tracked eviction.old)
+        (E.shown eviction.old) (cond (counts_hit status (S.Hit.reader hit.now))
+        (Some (access_of S.guarantees.numbers key.now (S.Hit.reader hit.now))) None)
+        (E.shown eviction.new)) }
     ensures limits { E.limits eviction.new ≡ E.limits eviction.old }
     ensures evicted { E.evicted eviction.new ≡ E.evicted eviction.old }
     ensures counts { OnErr result (counts_hit status (S.Hit.reader hit.now) ≡ true) }
@@ -67,6 +76,7 @@ impl<S: Storage> HttpCache<S> {
     ghost use Rattle.pcache_lock.specs.Locks.{MayFailLock};
     ghost use Rattle.pcache_store.specs.Store.{left};
     ghost use Rattle.pcache_request.specs.Phases.{MayLookUp};
+    ghost use Rattle.pcache_request.specs.Reports.{IsKeptIn, access_by_hit};
     ghost use Rattle.pcache_request.specs.Requests.{found_row, asks_for_hit, counts_found, store_found, table_found};
     ghost use Rattle.pcache_store.specs.Notes.{leave_noted, noted};
     ghost use Rattle.pcache_request.specs.LockPasts.{found_deeds};
@@ -84,6 +94,10 @@ impl<S: Storage> HttpCache<S> {
         ensures tracked { E.tracked eviction.new ≡ E.tracked eviction.old }
         ensures unused { counts_found status (S.Hit.reader hit.now) self.now ≡ false
             → eviction.new ≡ eviction.old }
+        ensures order { OnOk result (IsKeptIn (E.rules eviction.old) (E.tracked eviction.old)
+            (E.shown eviction.old)
+            (access_by_hit S.guarantees.numbers status (S.Hit.reader hit.now) self.now)
+            (E.shown eviction.new)) }
         ensures limits { E.limits eviction.new ≡ E.limits eviction.old }
         ensures evicted { E.evicted eviction.new ≡ E.evicted eviction.old }
         ensures counts { OnErr result
@@ -131,6 +145,10 @@ impl<S: Storage> HttpCache<S> {
         ensures tracked { E.tracked eviction.new ≡ E.tracked eviction.old }
         ensures unused { counts_found status (S.Hit.reader hit) self.old ≡ false
             → eviction.new ≡ eviction.old }
+        ensures order { OnOk result (IsKeptIn (E.rules eviction.old) (E.tracked eviction.old)
+            (E.shown eviction.old)
+            (access_by_hit S.guarantees.numbers status (S.Hit.reader hit) self.old)
+            (E.shown eviction.new)) }
         ensures something { OnErr result (IsTrue (counts_found status (S.Hit.reader hit) self.old)
             ⊎ IsTrue (asks_for_hit status self.old)) }
         ensures limits { E.limits eviction.new ≡ E.limits eviction.old }

@@ -3,7 +3,7 @@ use Rattle.std.specs.List.{range_with_len}
 use Rattle.std.proofs.lemmas.List.{map-append}
 use Rattle.std.proofs.lemmas.List.FromFn.{map-range_with_len_more}
 use Rattle.pcache_evict.specs.Tracked.{Limits}
-use Rattle.pcache_shared_cache.specs.Managed.{Managed, Unmade}
+use Rattle.pcache_shared_cache.specs.Managed.{Portioned, unmade_limits}
 use Rattle.pcache_shared_cache.specs.Portions.{portion_at}
 use Rattle.pcache_shared_cache.proofs.lists.new_lists.Goals as goal
 
@@ -12,10 +12,10 @@ loop-place-preserved c =
     let i = c.loop-place.invariant in
     let p = c.push_reserved.ensures in
     let made = c.in_ok-list_at.ensures.limits in (
-      ap (map (λ (u : Unmade). u.portion.limits)) p.items
-          ∙ (map-append (λ (u : Unmade). u.portion.limits) c.loop-place.lists.items (c.new.result ∷ [])
+      ap (map unmade_limits) p.items
+          ∙ (map-append unmade_limits c.loop-place.lists.items (c.new.result ∷ [])
           ∙ (ap (λ ls. ls ++ c.new.result.portion.limits ∷ []) i.0
-          ∙ (ap (λ (l : Limits). map (portion_at c.args.parts c.args.limit c.args.watermark) (range_with_len 0 c.loop-place.place) ++ l ∷ []) (ap (λ (m : Managed). m.limits) c.new.ensures ∙ made)
+          ∙ (ap (λ (l : Limits). map (portion_at c.args.parts c.args.limit c.args.watermark) (range_with_len 0 c.loop-place.place) ++ l ∷ []) (ap (λ (m : Portioned _). m.limits) c.new.ensures ∙ made)
           ∙ sym (map-range_with_len_more (portion_at c.args.parts c.args.limit c.args.watermark) 0 c.loop-place.place c.loop-place.place (omega arith))))),
       search rules,
       search rules,

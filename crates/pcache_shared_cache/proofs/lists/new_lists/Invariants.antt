@@ -1,13 +1,13 @@
 use Rattle.std.proofs.Common.{◌≡◌, ◌≤◌, length, map}
 use Rattle.std.specs.Prelude.{vec_capacity}
 use Rattle.std.specs.List.{range_with_len}
-use Rattle.pcache_shared_cache.specs.Managed.{Unmade}
+use Rattle.pcache_shared_cache.specs.Managed.{unmade_limits}
 use Rattle.pcache_shared_cache.specs.Portions.{portion_at}
 use Rattle.pcache_shared_cache.proofs.lists.new_lists.Given as goal
 
 -- the lists below the place are made, and there is room for the rest
 abbrev pub invariant-loop-place : goal.invariant-loop-place
 invariant-loop-place l =
-    (map (λ (u : Unmade). u.portion.limits) l.lists.items ≡ map (portion_at l.fn.parts l.fn.limit l.fn.watermark) (range_with_len 0 l.place))
+    (map unmade_limits l.lists.items ≡ map (portion_at l.fn.parts l.fn.limit l.fn.watermark) (range_with_len 0 l.place))
     × (length l.lists.items ≡ l.place)
     × (l.fn.parts ≤ vec_capacity l.lists)

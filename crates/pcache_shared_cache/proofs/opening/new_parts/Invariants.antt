@@ -1,9 +1,9 @@
 use Rattle.std.proofs.Common.{◌≡◌, ◌+◌, ◌≤◌, ◌++◌, length, map}
 use Rattle.std.specs.Prelude.{vec_len, vec_capacity}
-use Rattle.pcache_shared_cache.specs.Managed.{Unmade}
+use Rattle.pcache_shared_cache.specs.Managed.{unmade_portion}
 use Rattle.pcache_shared_cache.proofs.opening.new_parts.Given as goal
 
 -- the portions that were taken so far are in their parts, and there is room for the rest
 abbrev pub invariant-loop-portion : goal.invariant-loop-portion
 invariant-loop-portion g l =
-    (vec_len l.parts + length l.portion-iterator.rest.items ≤ vec_capacity l.parts) × (map (λ (u : Unmade). u.portion) l.parts.items ++ l.portion-iterator.rest.items ≡ l.fn.portions.items)
+    (vec_len l.parts + length l.portion-iterator.rest.items ≤ vec_capacity l.parts) × (map unmade_portion l.parts.items ++ l.portion-iterator.rest.items ≡ l.fn.portions.items)

@@ -1,7 +1,7 @@
 use Rattle.std.proofs.Common.{map, slice_get}
-use Rattle.pcache_shared_cache.specs.Managed.{Unmade}
+use Rattle.pcache_shared_cache.specs.Managed.{unmade_name}
 use Rattle.pcache_shared_cache.proofs.opening.over_parts.Given as goal
 
 -- the mark names at each place the keeper that stands there
 abbrev pub ghosts-named : goal.ghosts-named
-ghosts-named g a = record { names = λ place. slice_get (map (λ (p : Unmade). p.name) a.parts.items) place }
+ghosts-named g a = record { names = λ place. slice_get (map unmade_name a.parts.items) place }

@@ -14,16 +14,16 @@ loop-part-preserved g c =
     let portion = c.in-Some-into_portion.portion in
     let long = ap length steps in (
       omega (arith, long, i.0, p.len, p.capacity),
-      subst (HandedOut c.args.self (limits_in left)) (sym p.items)
-          (out-more c.args.self (limits_in left) c.in-Some.part.limits out portion (subst (λ rest. HandedOut c.args.self (limits_in rest) out) steps i.1) c.in-Some-into_portion.ensures),
+      subst (HandedOut g.M.EvictionManager.tracked g.M.EvictionManager.evicted c.args.self (limits_in left)) (sym p.items)
+          (out-more g.M.EvictionManager.tracked g.M.EvictionManager.evicted c.args.self (limits_in left) c.in-Some.part.limits out portion (subst (λ rest. HandedOut g.M.EvictionManager.tracked g.M.EvictionManager.evicted c.args.self (limits_in rest) out) steps i.1) c.in-Some-into_portion.ensures),
     )
 
 pub returns-clause-portions : goal.returns-clause-portions
 returns-clause-portions g c =
     let none : length c.loop-part.part-iterator.rest.items ≡ 0 = search rules in
-    out-all c.args.self c.loop-part.portions.items (subst (λ rest. HandedOut c.args.self (limits_in rest) c.loop-part.portions.items) (nil_from_length c.loop-part.part-iterator.rest.items none) c.loop-part.invariant.1)
+    out-all g.M.EvictionManager.tracked g.M.EvictionManager.evicted c.args.self c.loop-part.portions.items (subst (λ rest. HandedOut g.M.EvictionManager.tracked g.M.EvictionManager.evicted c.args.self (limits_in rest) c.loop-part.portions.items) (nil_from_length c.loop-part.part-iterator.rest.items none) c.loop-part.invariant.1)
 
 pub returns-clause-limits : goal.returns-clause-limits
 returns-clause-limits g c =
     let none : length c.loop-part.part-iterator.rest.items ≡ 0 = search rules in
-    out-limits c.args.self c.loop-part.portions.items (subst (λ rest. HandedOut c.args.self (limits_in rest) c.loop-part.portions.items) (nil_from_length c.loop-part.part-iterator.rest.items none) c.loop-part.invariant.1)
+    out-limits g.M.EvictionManager.tracked g.M.EvictionManager.evicted c.args.self c.loop-part.portions.items (subst (λ rest. HandedOut g.M.EvictionManager.tracked g.M.EvictionManager.evicted c.args.self (limits_in rest) c.loop-part.portions.items) (nil_from_length c.loop-part.part-iterator.rest.items none) c.loop-part.invariant.1)

@@ -8,4 +8,4 @@ use Rattle.pcache_shared_cache.proofs.shared.SharedCache.into_portions.Given as 
 abbrev pub invariant-loop-part : goal.invariant-loop-part
 invariant-loop-part g l =
     (vec_len l.portions + length l.part-iterator.rest.items ≤ vec_capacity l.portions)
-    × HandedOut l.fn.self (limits_in l.part-iterator.rest.items) l.portions.items
+    × HandedOut g.M.EvictionManager.tracked g.M.EvictionManager.evicted l.fn.self (limits_in l.part-iterator.rest.items) l.portions.items
