@@ -5,5 +5,5 @@ pub use pcache_put::response_parse::{
 };
 pub use pcache_put_ctx::context::CachePutCtx;
 pub use pcache_put_ctx::laws::same_put_however_cut;
-pub use pcache_put_ctx::policy::{ByDefaults, CachePut, default_cacheable};
+pub use pcache_put_ctx::policy::{ByDefaults, CachePut, HeadLimit, default_cacheable};
 pub use pcache_put_ctx::report::{PieceEnd, PieceReport, PutEnd, PutOutcome, PutReport, Written};

@@ -1,5 +1,5 @@
--- Which pushed responses are stored (RFC 9111 section 3; the limit on the length is own).
-use Rattle.std.specs.Prelude.{◌≡◌, ℕ, Bool, false, nat_lt, if◌then◌else◌, List, Option, Some, None, codes, option_map}
+-- Which pushed responses are stored (RFC 9111 section 3; the limits on lengths are own).
+use Rattle.std.specs.Prelude.{◌≡◌, ℕ, Bool, false, nat_lt, if◌then◌else◌, List, Option, Some, None, codes, length, option_map}
 use Rattle.std.specs.Duration.{as_nanos}
 use Rattle.std.specs.declared.time.Duration.{Duration}
 use Rattle.http_header.specs.HeaderMap.{get}
@@ -10,6 +10,7 @@ use Rattle.pcache_control.specs.Responses.{IsDecision}
 use Rattle.pcache_control.specs.declared.cache_control.CacheControl.{CacheControl}
 use Rattle.pcache_control.specs.declared.response.RespCacheable.{RespCacheable}
 use Rattle.pcache_control.specs.declared.response.RespCacheable.TheVariants.{Cacheable, Uncacheable}
+use Rattle.pcache_meta.specs.HeaderText.{header_written}
 use Rattle.pcache_meta.specs.Meta.{Meta}
 use Rattle.pcache_meta.specs.declared.header.ResponseHeader.{ResponseHeader}
 use Rattle.pcache_put.specs.Response.{SpellsLength}
@@ -50,3 +51,11 @@ abbrev pub Judges : Option ℕ → RespCacheable → RespCacheable → Type 0
 Judges limit (Uncacheable reason) verdict = verdict ≡ Uncacheable reason
 Judges limit (Cacheable meta) verdict =
     (length : Option ℕ) × Declares meta length × (verdict ≡ (if is_above limit length then Uncacheable ResponseTooLarge else Cacheable meta))
+
+-- what a policy decides, with a limit on heads: a response whose stored head would have a longer text is not stored
+abbrev pub with_short_head : ℕ → RespCacheable → RespCacheable
+with_short_head most (Uncacheable reason) = Uncacheable reason
+with_short_head most (Cacheable meta) = if nat_lt most (length (header_written meta.header)) then Uncacheable ResponseTooLarge else Cacheable meta
+
+abbrev pub SaysWithin : ℕ → (ResponseHeader → ℕ → RespCacheable → Type 0) → ResponseHeader → ℕ → RespCacheable → Type 0
+SaysWithin most says header now answer = (said : RespCacheable) × says header now said × (answer ≡ with_short_head most said)

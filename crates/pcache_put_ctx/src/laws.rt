@@ -4,10 +4,10 @@ ghost use Rattle.std.specs.Prelude.{◌≡◌, ℕ, List, None, Option, option_m
 ghost use Rattle.std.specs.Duration.{as_nanos};
 ghost use Rattle.pcache_control.specs.declared.response.RespCacheable.{RespCacheable};
 ghost use Rattle.pcache_meta.specs.declared.header.ResponseHeader.{ResponseHeader};
-ghost use Rattle.pcache_put_ctx.specs.Policies.{DecidesOneWay, HaveOneLifetime, SaysByDefault};
+ghost use Rattle.pcache_put_ctx.specs.Policies.{DecidesOneWay, HaveOneLifetime, SaysByDefault, SaysWithin};
 ghost use Rattle.pcache_put_ctx.specs.Puts.{Piece, Outcome, ComesTo, IsResult, joined};
 
-use crate::policy::{ByDefaults, CachePut};
+use crate::policy::{ByDefaults, CachePut, HeadLimit};
 use pcache_control::FreshDurationByStatusFn;
 
 /// Two puts of the same bytes, whose heads ended at one moment and whose policy decides one way on a head at a moment,
@@ -45,3 +45,11 @@ pub fn one_decision_by_lifetimes()
     ensures none { (windows : ℕ × ℕ)
         → DecidesOneWay (SaysByDefault windows (λ status lifetime. lifetime ≡ None)) }
 {}
+
+/// So does a policy with a limit on heads, if it does without the limit. A law; the call does nothing.
+pub fn one_decision_within_a_limit<C: CachePut>(policy: &HeadLimit<C>)
+    ensures { DecidesOneWay (C.says policy.now.policy)
+        → DecidesOneWay (SaysWithin policy.now.max_head_size_bytes (C.says policy.now.policy)) }
+{
+    let _ = policy;
+}

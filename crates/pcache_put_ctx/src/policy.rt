@@ -3,7 +3,7 @@ ghost use Rattle.std.specs.Prelude.{◌≡◌, ℕ, Option, IfOk, IfErr};
 ghost use Rattle.pcache_base.specs.declared.error.ErrorType.TheVariants.{OutOfMemory};
 ghost use Rattle.pcache_control.specs.declared.response.RespCacheable.{RespCacheable};
 ghost use Rattle.pcache_meta.specs.declared.header.ResponseHeader.{ResponseHeader};
-ghost use Rattle.pcache_put_ctx.specs.Policies.{SaysByDefault, Judges, Declares, is_above};
+ghost use Rattle.pcache_put_ctx.specs.Policies.{SaysByDefault, SaysWithin, Judges, Declares, is_above, with_short_head};
 
 use http_header::CONTENT_LENGTH;
 use pcache_base::error::Result;
@@ -13,6 +13,7 @@ use pcache_control::cache_control::CacheControl;
 use pcache_control::filters::resp_cacheable;
 use pcache_control::{CacheMetaDefaults, FreshDurationByStatusFn, RespCacheable};
 use pcache_meta::header::ResponseHeader;
+use pcache_meta::header_text::writer::header_serialize;
 use pcache_meta::meta::CacheMeta;
 use pcache_put::response_parse::spelled_length;
 use std::alloc::Global;
@@ -77,6 +78,52 @@ impl CachePut for ByDefaults {
         now: Moment,
     ) -> Result<RespCacheable> {
         default_cacheable(alloc, header, &self.defaults, now)
+    }
+}
+
+/// A policy with a limit on heads: of what the policy stores, a response whose stored head is longer is not stored, for
+/// `ResponseTooLarge`. It is for heads what `CachePutCtx::set_max_file_size_bytes` is for bodies, and what a request asks by
+/// `is_head_within`. The length is that of the head's text as a store keeps it, in bytes; it is asked before a write begins.
+#[derive(Drop)]
+pub struct HeadLimit<C: CachePut> {
+    /// What decides on a response whose head is short enough.
+    pub policy: C,
+    /// The most bytes that the text of a stored head may have.
+    pub max_head_size_bytes: usize,
+}
+
+impl<C: CachePut> CachePut for HeadLimit<C> {
+    ghost says = { λ p. SaysWithin p.max_head_size_bytes (C.says p.policy) };
+
+    fn cacheable(
+        &self,
+        alloc: Global,
+        header: ResponseHeader,
+        now: Moment,
+    ) -> Result<RespCacheable> {
+        let said = self.policy.cacheable(alloc, header, now)?;
+        if_short(alloc, said, self.max_head_size_bytes)
+    }
+
+    fn trace_header(&self, header: &ResponseHeader) {
+        self.policy.trace_header(header);
+    }
+}
+
+// The decision, unless the head that would be stored is longer than this.
+fn if_short(alloc: Global, said: RespCacheable, most: usize) -> Result<RespCacheable>
+    ensures short { IfOk result (λ verdict. verdict ≡ with_short_head most said) }
+    ensures kind { IfErr result (λ e. e ≡ OutOfMemory) }
+{
+    match said {
+        RespCacheable::Cacheable(meta) => {
+            let text = header_serialize(alloc, meta.response_header())?;
+            if text.len() > most {
+                return Ok(RespCacheable::Uncacheable(NoCacheReason::ResponseTooLarge));
+            }
+            Ok(RespCacheable::Cacheable(meta))
+        }
+        RespCacheable::Uncacheable(reason) => Ok(RespCacheable::Uncacheable(reason)),
     }
 }
 

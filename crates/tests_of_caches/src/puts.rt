@@ -17,7 +17,7 @@ use pcache_control::{CacheMetaDefaults, RespCacheable};
 use pcache_evict::eviction::{EvictionManager, simple_lru};
 use pcache_meta::header::ResponseHeader;
 use pcache_policies::s3_fifo;
-use pcache_put_ctx::policy::CachePut;
+use pcache_put_ctx::policy::{CachePut, HeadLimit};
 use pcache_put_ctx::report::PutOutcome;
 use std::alloc::Global;
 use std::process::Abort;
@@ -42,12 +42,32 @@ impl CachePut for OneSecond {
     }
 }
 
-type Put = PendingPut<OneSecond, OfTest>;
+type Put = PendingPut<HeadLimit<OneSecond>, OfTest>;
 
-fn put_of(alloc: Global, name: &str) -> Result<Put> {
+// The most bytes of a put's head, and of its body if that is limited.
+#[derive(Clone, Copy, Drop)]
+struct Most {
+    head: usize,
+    body: Option<usize>,
+}
+
+const ANY: Most = Most {
+    head: usize::MAX,
+    body: None,
+};
+
+fn put_of(alloc: Global, name: &str, most: Most) -> Result<Put> {
     let primary = name.as_bytes().to_vec(alloc)?;
     let key = CacheKey::new(primary, String::new(alloc));
-    Ok(PendingPut::new(alloc, OneSecond, key))
+    let policy = HeadLimit {
+        policy: OneSecond,
+        max_head_size_bytes: most.head,
+    };
+    let mut put = PendingPut::new(alloc, policy, key);
+    if let Some(limit) = most.body {
+        put.put.set_max_file_size_bytes(limit);
+    }
+    Ok(put)
 }
 
 #[derive(Drop)]
@@ -74,8 +94,15 @@ impl<M: EvictionManager + Drop> Desk for Made<M> {
 fn tell_call<M: EvictionManager + Drop>(made: &mut Made<M>, call: &'static str, told: &mut Told) {
     let name = word(call, 1);
     match word(call, 0) {
-        "put" => tell_put(made, call, None, told),
-        "put-at-most" => tell_put(made, call, Some(size(call, 1)), told),
+        "put" => tell_put(made, call, name, ANY, told),
+        "put-at-most" => {
+            let body = Some(size(call, 1));
+            tell_put(made, call, word(call, 2), Most { body, ..ANY }, told);
+        }
+        "put-head-at-most" => {
+            let head = size(call, 1);
+            tell_put(made, call, word(call, 2), Most { head, ..ANY }, told);
+        }
         "find" => tell_answer(finds(&mut made.cache, name, word(call, 2).as_bytes()), told),
         _ => tell_answer(purges(&mut made.cache, name), told),
     }
@@ -91,13 +118,13 @@ fn tell_answer(answer: Result<bool>, told: &mut Told) {
 fn tell_put<M: EvictionManager + Drop>(
     made: &mut Made<M>,
     call: &'static str,
-    limit: Option<usize>,
+    name: &'static str,
+    most: Most,
     told: &mut Told,
 ) {
-    let name = word(call, if limit.is_some() { 2 } else { 1 });
     let name = name.strip_suffix(":").unwrap_or(name);
-    match put_of(made.cache.alloc(), name) {
-        Ok(put) => tell_put_of(made, put, pieces_of(call), limit, told),
+    match put_of(made.cache.alloc(), name, most) {
+        Ok(put) => tell_put_of(made, put, pieces_of(call), told),
         Err(refused) => told.refused(&refused),
     }
 }
@@ -114,13 +141,9 @@ fn tell_put_of<M: EvictionManager + Drop>(
     made: &mut Made<M>,
     put: Put,
     pieces: &'static str,
-    limit: Option<usize>,
     told: &mut Told,
 ) {
     let mut put = put;
-    if let Some(limit) = limit {
-        put.put.set_max_file_size_bytes(limit);
-    }
     for piece in pieces.split('|') {
         feed(made, &mut put, piece, told);
     }
@@ -229,6 +252,11 @@ const PUTS: &str = r"
     put a: no response\r\n\r\n, find a hi -> InvalidHttpHeader InvalidHttpHeader; no; 0 in 0, 0 tracked
     # a body that is longer than the put may have
     put-at-most 3 a: HTTP/1.1 200 OK\r\n\r\nrus|t, find a rust -> +ResponseTooLarge ResponseTooLarge; no; 0 in 0, 0 tracked
+    # a head that is longer than the put may have, as it would be stored, and one that is just as long
+    put-head-at-most 34 a: HTTP/1.1 200 OK\r\nContent-Length: 2\r\n\r\nh|i, find a hi -> ResponseTooLargeResponseTooLarge ResponseTooLarge; no; 0 in 0, 0 tracked
+    put-head-at-most 35 a: HTTP/1.1 200 OK\r\nContent-Length: 2\r\n\r\nh|i, find a hi -> ++ stored 2; yes; 2 in 1, 1 tracked
+    # what is not stored has the reason that the policy gives
+    put-head-at-most 1 a: HTTP/1.1 200 OK\r\nCache-Control: no-store\r\n\r\nhi -> OriginNotCache OriginNotCache; 0 in 0, 0 tracked
     # a key that is purged between two pieces
     put a: HTTP/1.1 200 OK\r\nContent-Length: 4\r\n\r\n|ru|purge a|st, find a rust -> ++yes+ WriteRemoved; no; 0 in 0, 0 tracked
     # one that fills anew what stands
@@ -249,7 +277,7 @@ fn a_put_is_stored_within_the_limit(rt: HostRuntime) {
 fn a_put_ends_where_it_was_fed(rt: HostRuntime) -> Result<()> {
     let mut fed = list_of(rt.alloc(), 9)?;
     let other = list_of(rt.alloc(), 9)?;
-    let mut put = put_of(rt.alloc(), "a")?;
+    let mut put = put_of(rt.alloc(), "a", ANY)?;
     let is_fed = fed
         .cache_put(&mut put, b"HTTP/1.1 200 OK\r\n\r\nhi", Moment::EPOCH)
         .is_ok();
