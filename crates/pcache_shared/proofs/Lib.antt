@@ -3,3 +3,4 @@ pub mod Closing
 pub mod Lists
 pub mod Moves
 pub mod Scripts
+pub mod Totals

@@ -1,8 +1,12 @@
 -- What a receipt says of a history, and what is known of all receipts at the end (own).
-use Rattle.std.specs.Prelude.{◌≡◌, ℕ, ◌+◌, ◌-◌, List, [], ◌∷◌, ◌++◌, map, length, Some, slice_get}
+use Rattle.std.specs.Prelude.{◌≡◌, ℕ, ◌+◌, ◌-◌, List, [], ◌∷◌, ◌++◌, map, length, reverse, Some, slice_get}
 use Rattle.std.specs.List.{All}
-use Rattle.pcache_history.specs.Log.{Log, HasLegal}
+use Rattle.pcache_evict.specs.Tracked.{Evicted, Tracked}
+use Rattle.pcache_history.specs.Events.{evicts, tracked}
+use Rattle.pcache_history.specs.History.{events_of}
+use Rattle.pcache_history.specs.Log.{Log, HasLegal, events_in}
 use Rattle.pcache_history.specs.declared.entry.Entry.{Entry}
+use Rattle.pcache_history.specs.declared.entry.Event.{Event}
 use Rattle.pcache_shared.specs.declared.receipt.Receipt.{Receipt}
 use Rattle.pcache_shared.specs.Views.{times, numbers, Rises}
 
@@ -37,14 +41,24 @@ pub record AreReceipts (start history : List Entry) (all : List (List Receipt)) 
   pub rise : All (λ rs. Rises (indices_of rs)) all
   pub once : (p : ℕ) → times p (indices_of (joined all)) ≡ times p (indices_from (length start) (length history))
 
+-- the totals of evicted entries after these events, listed newest first, if these entries were tracked before them
+abbrev pub evicted_of : Tracked → Evicted → List Event → Evicted
+evicted_of m before [] = before
+evicted_of m before (e ∷ es) = evicts (tracked m es) e (evicted_of m before es)
+
+-- the totals of a world after these entries more
+abbrev pub evicted_after : Log → List Entry → Evicted
+evicted_after log more = evicted_of (tracked log.start (events_in log)) log.evicted (events_of (reverse more))
+
 -- the world has the old history and perhaps more entries, with the same entries at the start, the same limits, and the same age of
--- permits that are too old
+-- permits that are too old; its totals of evicted entries are the old ones with what these entries evicted
 pub record HasGrown (old new : Log) : Type 0 where
   pub more : List Entry
   pub history : new.history ≡ old.history ++ more
   pub start : new.start ≡ old.start
   pub limits : new.limits ≡ old.limits
   pub age : new.age ≡ old.age
+  pub evicted : new.evicted ≡ evicted_after old more
 
 -- `Holds` holds of the state that the world has reached, by calls that make a legal history
 abbrev pub HasReached : Log → (Log → Type 0) → Type 0

@@ -31,6 +31,7 @@ impl<M: EvictionManager, P: PutPolicy, K: Mark> Model for Desk<M, P, K> {
     ghost use Rattle.std.specs.Prelude.{◌≡◌, ◌+◌, ◌++◌, []};
     ghost use Rattle.pcache_history.specs.Log.{Log};
     ghost use Rattle.pcache_history.specs.LogCode.{log_code};
+    ghost use Rattle.pcache_shared.specs.Receipts.{evicted_after};
     ghost use Rattle.pcache_shared.specs.Views.{whole, IsKeeper};
 
     ghost Value = { Log };
@@ -39,7 +40,7 @@ impl<M: EvictionManager, P: PutPolicy, K: Mark> Model for Desk<M, P, K> {
 
     ghost view = { λ d. d.world };
 
-    ghost invariant = { λ d. (d.keeper.table_id ≡ K.opened.table) × IsKeeper d.keeper.me × (d.keeper.me.0.claims ≡ []) × (d.keeper.me.0.parts + K.opened.shares ≡ whole) × (d.world.history ≡ K.opened.log.history ++ d.keeper.me.0.all) × (d.world.start ≡ K.opened.log.start) × (d.world.limits ≡ K.opened.log.limits) × (d.world.age ≡ K.opened.log.age) };
+    ghost invariant = { λ d. (d.keeper.table_id ≡ K.opened.table) × IsKeeper d.keeper.me × (d.keeper.me.0.claims ≡ []) × (d.keeper.me.0.parts + K.opened.shares ≡ whole) × (d.world.history ≡ K.opened.log.history ++ d.keeper.me.0.all) × (d.world.start ≡ K.opened.log.start) × (d.world.limits ≡ K.opened.log.limits) × (d.world.age ≡ K.opened.log.age) × (d.world.evicted ≡ evicted_after K.opened.log d.keeper.me.0.all) };
 }
 
 impl<M: EvictionManager, P: PutPolicy, K: Mark> Desk<M, P, K> {

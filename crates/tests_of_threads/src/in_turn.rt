@@ -50,8 +50,41 @@ const TEXT: &str = "\
 
 const FOLLOWED: Table = Table { text: TEXT };
 
+// What is stored between two calls, whichever share made them.
+const STORED: &str = "\
+    open 1 -> Done\n\
+    key 1 k -> Done\n\
+    look 1 -> NotFound(Some(Write))\n\
+    miss 1 -> Done\n\
+    meta 1 -> Done\n\
+    begin 1 -> Done\n\
+    write_last 1 ab -> Done\n\
+    stored -> 0 in 0\n\
+    finish 1 -> Stored { size: 2, evicted: 0 }\n\
+    stored -> 2 in 1\n\
+    open 2 -> Done\n\
+    key 2 k -> Done\n\
+    purge 2 -> Purged\n\
+    stored -> 0 in 0\n\
+    11 entries\n\
+    0:1 2:1 4:1 6:1 7:1 8:2 10:2 \n\
+    1:1 3:1 5:1 9:2 \n";
+
+const STORES: Table = Table { text: STORED };
+
 fn tell(alloc: Global, told: &mut String, call: &str, reply: &Reply) -> Result<()> {
     told.push_str(format!(in alloc; "{call} -> {reply:?}\n")?.as_str())?;
+    Ok(())
+}
+
+fn tell_stored<K: Mark, R: Wait>(
+    rt: &R,
+    alloc: Global,
+    shared: &SharedList<K>,
+    told: &mut String,
+) -> Result<()> {
+    let (bytes, slots) = (shared.stored_bytes(rt), shared.slots(rt));
+    told.push_str(format!(in alloc; "stored -> {bytes} in {slots}\n")?.as_str())?;
     Ok(())
 }
 
@@ -71,7 +104,9 @@ fn ask<K: Mark, R: Wait>(
         let Some((words, _reply)) = line.split_once(" -> ") else {
             return Ok(());
         };
-        if let Some(share) = shares.get_mut(place % 2)
+        if words == "stored" {
+            tell_stored(rt, alloc, shared, told)?;
+        } else if let Some(share) = shares.get_mut(place % 2)
             && let Some(call) = read_call(alloc, words)?
         {
             tell(
@@ -169,6 +204,14 @@ fn followed_to_the_end_by_two_shares(rt: HostRuntime) -> std::result::Result<(),
     let mut told = String::new(rt.alloc());
     play(&rt, rt.alloc(), FOLLOWED, &mut told)?;
     assert_eq!(rt; told.as_str(), TEXT);
+    Ok(())
+}
+
+#[test]
+fn what_is_stored_is_told_between_two_calls(rt: HostRuntime) -> std::result::Result<(), Fail> {
+    let mut told = String::new(rt.alloc());
+    play(&rt, rt.alloc(), STORES, &mut told)?;
+    assert_eq!(rt; told.as_str(), STORED);
     Ok(())
 }
 

@@ -1,6 +1,7 @@
 use Rattle.std.proofs.Common.{◌≡◌, [], ◌∷◌, ◌++◌, ◌+◌, length, ◌<◌, refl, sym, ap, ◌∙◌, subst, length-append}
 use Rattle.std.proofs.lemmas.List.{append_assoc}
 use Rattle.pcache_history.specs.declared.entry.Entry.{Entry}
+use Rattle.pcache_shared.specs.Receipts.{evicted_after}
 use Rattle.pcache_shared.specs.Views.{slip}
 use mathlib.Core.Option.{some}
 use Rattle.atomic_table.specs.Seated.{TableId}
@@ -8,6 +9,7 @@ use Rattle.atomic_table.specs.Table.{step}
 use Rattle.pcache_shared.proofs.Moves.{moves_as, deals_as, takes_in_as, adds_as}
 use Rattle.pcache_shared.proofs.Lists.{get_pushed}
 use Rattle.pcache_shared.proofs.Calls.{moved_is, slip_is, keeper_is, some_part, joined_is, added_is, relieved_is, dealt_is}
+use Rattle.pcache_shared.proofs.Totals.{totals-grow}
 use Rattle.pcache_shared.proofs.desk.Desk.call.Goals as goal
 
 pub split_seat-moved-requires : goal.split_seat-moved-requires
@@ -72,6 +74,8 @@ invariant_of-self-2 g c =
       ok.start ∙ i.5,
       ok.limits ∙ i.6,
       ok.age ∙ i.7,
+      totals-grow g.K.Mark.opened.log c.self.inside.world c.step.new.self c.self.inside.keeper.me.0.all c.args.call c.in_ok-reply.reply ok e refl i.4 i.5 i.8
+          ∙ (ap (λ (x : Entry). evicted_after g.K.Mark.opened.log (c.self.inside.keeper.me.0.all ++ x ∷ [])) (sym same) ∙ ap (λ m. evicted_after g.K.Mark.opened.log m.0.all) (sym kept)),
     )
 
 pub returns-clause-ok : goal.returns-clause-ok

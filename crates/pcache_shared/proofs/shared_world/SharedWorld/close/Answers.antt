@@ -7,7 +7,7 @@ use Rattle.atomic_table.specs.Seated.{TableId}
 use Rattle.atomic_table.specs.Table.{step}
 use Rattle.pcache_shared.specs.declared.receipt.Receipt.{Receipt}
 use Rattle.pcache_shared.specs.Views.{Rises}
-use Rattle.pcache_shared.specs.Receipts.{AreReceipts, receipt_of, joined, indices_of}
+use Rattle.pcache_shared.specs.Receipts.{AreReceipts, evicted_after, receipt_of, joined, indices_of}
 use Rattle.pcache_shared.proofs.Moves.{takes_in_as, settles_as}
 use Rattle.pcache_shared.proofs.Calls.{keeper_is, followed_on}
 use Rattle.pcache_shared.proofs.Closing.{none_left, joined_snoc, rises_of, closes}
@@ -78,4 +78,4 @@ pub returns-clause-grown : goal.returns-clause-grown
 returns-clause-grown g c =
     let i = c.loop-share.invariant in
     let w = c.world.invariant in
-    record { more = c.loop-share.keeper.me.0.all; history = w.4 ∙ ap (λ l. g.K.Mark.opened.log.history ++ l) (sym i.3); start = w.5; limits = w.6; age = w.7 }
+    record { more = c.loop-share.keeper.me.0.all; history = w.4 ∙ ap (λ l. g.K.Mark.opened.log.history ++ l) (sym i.3); start = w.5; limits = w.6; age = w.7; evicted = w.8 ∙ ap (λ l. evicted_after g.K.Mark.opened.log l) (sym i.3) }
