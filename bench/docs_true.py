@@ -294,6 +294,18 @@ def wrong_counts(text):
             yield f"today this line is: {new}"
 
 
+def made_seeds(change=lambda text: text):
+    """Where a library makes a seed, though docs/PROMISES.md says that each has the one that it is given: no contract can say so of a
+    store, a predictor or a cache. The library for C makes one of its caller's bytes."""
+    for file in files_of(".rt"):
+        found = re.search(r"crates/(pcache\w*|pingora_cache)/src/(\S+)", file)
+        if not found or found[1] == "pcache_base":
+            continue
+        made = len(re.findall(r"\bSeed::(?:new|fixed)\b|\bSeed \{", change(read(file))))
+        if made > (found[0] == "crates/pcache_c/src/managers.rt"):
+            yield f"{found[0]} makes a seed"
+
+
 # Pages of one screen or little more stay so.
 MOST_LINES = {"README.md": 140, "docs/dev/PERFORMANCE.md": 80}
 
@@ -352,7 +364,9 @@ def lies():
         caught = [it for it in wrong_in(page, lie(texts[page])) if it not in before]
         print(f"{what}: " + (f"caught, {caught[0]}" if caught else "NOT CAUGHT"))
         missed += not caught
-    return missed
+    seeds = list(made_seeds(lambda text: text.replace(", seed,", ", Seed::fixed(),")))
+    print("a library that makes a seed: " + (f"caught, {seeds[0]}" if seeds else "NOT CAUGHT"))
+    return missed + (not seeds)
 
 
 def run_commands():
@@ -407,6 +421,7 @@ def main():
         sys.exit(1 if lies() else 0)
     wrong = [f"{page}: {it}" for page, text in pages().items() for it in wrong_in(page, text)]
     wrong += [f"bench/definitions_of.py: {it}" for it in definitions_of.unread_clauses()]
+    wrong += [f"docs/PROMISES.md: {it}" for it in made_seeds()]
     wrong += run_commands() if "--run" in sys.argv[1:] else []
     wrong += use_it() if "--use-it" in sys.argv[1:] else []
     print("\n".join(wrong) if wrong else "the pages say what is so")

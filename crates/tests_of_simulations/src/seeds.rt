@@ -34,7 +34,7 @@ impl<'a> BuildHasher for Watched<'a> {
     }
 }
 
-fn watched<'a>(begun: &'a AtomicU64) -> Watched<'a> {
+fn counting<'a>(begun: &'a AtomicU64) -> Watched<'a> {
     Watched {
         seed: other_seed(),
         begun,
@@ -83,7 +83,7 @@ fn loaded_shards<'a>(
 }
 
 fn all_hash(alloc: Global, begun: &AtomicU64) -> Result<bool> {
-    let seed = watched(begun);
+    let seed = counting(begun);
     Ok(
         hashes(alloc, begun, loaded(alloc, seed))?
             && hashes(alloc, begun, loaded_shards(alloc, seed))?
