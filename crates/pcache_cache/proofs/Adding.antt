@@ -37,7 +37,7 @@ use Rattle.pcache_request.specs.LockPasts.{Deeds, asked_deeds, end_deeds, ended_
 use Rattle.pcache_request.specs.LockWaits.{unusable_in, wait_result}
 use Rattle.pcache_request.specs.Requests.{Request, asks_as_stale, asks_for_hit, begin_followed, found_for}
 use Rattle.pcache_request.specs.Phases.{is_treated_as_miss}
-use Rattle.pcache_request.specs.StorePasts.{EndsPast, EndsRequestPast, Past, begun_past, begun_past_for, dropped_past, entry_past, found_past, hidden_past, left_past, looked_past, searched_past, taken_past, writing_past}
+use Rattle.pcache_request.specs.StorePasts.{EndsPast, EndsRequestPast, Past, begun_past, begun_past_for, dropped_past, entry_past, found_past, hidden_past, left_past, searched_past, taken_past, writing_past}
 use Rattle.pcache_request.specs.Variants.{is_hidden, is_unseen_for, leaves_variant}
 use Rattle.pcache_request.specs.WriteEnds.{status_after}
 use Rattle.pcache_request.specs.declared.cache.finish.WriteEnd.{WriteEnd}
@@ -143,11 +143,6 @@ hidden_keeps {Q} keeps from (Some q) p is = one_of Q (is_hidden from q.0.created
 
 pub searched_keeps : {Q : Past → Type 0} → KeptByNotes Q → (s : Store) (r : Request) (p : Past) → Q p → Q (searched_past s r p)
 searched_keeps keeps s r p is = hidden_keeps keeps r.valid_after (found_for s r.key) (found_past s r.key p) (keeps (look_noted (found_for s r.key)) p is)
-
-pub looked_past_keeps : {Q : Past → Type 0} → KeptByNotes Q → (d : Option Decision) (s : Store) (r : Request) (p : Past) → Q p → Q (looked_past d s r p)
-looked_past_keeps {Q} keeps d s r p is =
-    one_of Q (is_deferral d) (left_past r.reader (dropped_past r.write (found_past s r.key p))) (searched_past s r p)
-    (left_keeps keeps r.reader (dropped_past r.write (found_past s r.key p)) (dropped_keeps keeps r.write (found_past s r.key p) (keeps (look_noted (found_for s r.key)) p is))) (searched_keeps keeps s r p is)
 
 pub taken_keeps : {Q : Past → Type 0} → KeptByNotes Q → (s : HitStatus) (h : BodyReader) (r : Request) (p : Past) → Q p → Q (taken_past s h r p)
 taken_keeps {Q} keeps s h r p is = left_keeps keeps r.reader (cond (is_treated_as_miss s) (noted (leave_noted h) p) p) (one_of Q (is_treated_as_miss s) (noted (leave_noted h) p) p (keeps (leave_noted h) p is) is)

@@ -1,5 +1,5 @@
 -- Each call of a cache leaves its two pasts as they were, or adds to them.
-use Rattle.std.proofs.Common.{◌≡◌, ◌++◌, List, [], ◌∷◌, Option, None, Some, Result, Ok, Err, OnErr, OnOk, refl, sym, ap, subst}
+use Rattle.std.proofs.Common.{◌≡◌, List, [], ◌∷◌, Option, None, Some, Result, Ok, Err, OnErr, OnOk, refl, sym, ap, subst}
 use Rattle.pcache_base.specs.declared.error.ErrorType.{ErrorType}
 use Rattle.pcache_cache.specs.Growing.{Grew}
 use Rattle.pcache_cache.specs.Parts.{Adds}
@@ -18,14 +18,6 @@ grew_not p = ([], refl)
 
 pub grew_same : {A : Type 0} (p q : List A) → q ≡ p → Grew p q
 grew_same p q is = ([], is)
-
--- once, and once more
-appended : {A : Type 0} (a b p : List A) → a ++ (b ++ p) ≡ (a ++ b) ++ p
-appended [] b p = refl
-appended (x ∷ a) b p = ap (λ l. x ∷ l) (appended a b p)
-
-pub grew_on : {A : Type 0} (p q r : List A) → Grew p q → Grew q r → Grew p r
-grew_on p q r first second = (second.0 ++ first.0, subst (λ l. r ≡ l) (appended second.0 first.0 p) (subst (λ l. r ≡ second.0 ++ l) first.1 second.1))
 
 one_more : {A : Type 0} (x : A) (p q : List A) → Grew p q → Grew p (x ∷ q)
 one_more x p q grew = (x ∷ grew.0, ap (λ l. x ∷ l) grew.1)

@@ -24,9 +24,6 @@ use Rattle.pcache_cache.proofs.Ended.{body-lost, purged_each}
 use Rattle.pcache_cache.proofs.Standing.{Fewer, body-remove, cmp_same, same-key}
 use Rattle.pcache_cache.proofs.Sums.{entry-same}
 
-apart : (q k : ℕ) → eq_by_cmp nat_cmp q k ≡ false → q ≢ k
-apart q k t same = both_ways _ t (cmp_same q k ∙ eq-eqb k q (sym same))
-
 module _ (of : Account) (wg : Weighing) where
   -- what stands in another store too
   pub is-body : (s t : Store) (k w n : ℕ) → ((b : Stored) → complete_body (get s.slots k) ≡ Some b → (a : Stored) × (complete_body (get t.slots k) ≡ Some a) × (a.meta.entry_id ≡ b.meta.entry_id) × (body_weight wg a ≡ body_weight wg b)) → IsBody wg s k w n → IsBody wg t k w n
