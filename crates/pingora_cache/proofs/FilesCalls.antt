@@ -1,10 +1,12 @@
 -- A call on files in a sound world: no request and no put changes, and it makes no event.
-use Rattle.std.proofs.Common.{◌≡◌, ℕ, ◌==◌, Bool, true, false, ◌&&◌, cond, if◌then◌else◌, Option, None, Some, IsSome, is_none, option_map, List, [], ◌∷◌, ◌++◌, reverse, refl, ap, sym, subst, ◌∙◌, inl, inr}
+use Rattle.std.proofs.Common.{◌≡◌, ℕ, ◌==◌, Bool, true, false, ◌&&◌, cond, if◌then◌else◌, Option, None, Some, IsSome, is_none, option_map, List, [], ◌∷◌, ◌++◌, reverse, Result, Ok, Err, IfErr, OnOk, ◌⊎◌, refl, ap, sym, subst, ◌∙◌, inl, inr}
+use Rattle.std.specs.Prelude.{IsErrOf}
 use Rattle.std.proofs.lemmas.Bool.{both_ways}
 use Rattle.std.proofs.lemmas.List.{reverse-append}
 use Rattle.std.specs.Ordering.{nat_cmp}
 use Rattle.std.specs.FinMap.{FinMap, get}
-use Rattle.pcache_base.specs.declared.error.ErrorType.TheVariants.{Io}
+use Rattle.pcache_base.specs.declared.error.ErrorType.{ErrorType}
+use Rattle.pcache_base.specs.declared.error.ErrorType.TheVariants.{IncompleteHttpBody, InternalError, InvalidHttpHeader, Io, NumbersExhausted, OutOfMemory, ResponseTooLarge, WriteRemoved}
 use Rattle.pcache_evict.specs.Recency.{Recency}
 use Rattle.pcache_evict.specs.Tracked.{Tracked, Limits}
 use Rattle.pcache_evict.specs.declared.eviction.entry_key.CacheEntryKey.{CacheEntryKey}
@@ -30,8 +32,8 @@ use Rattle.pcache_history.specs.History.{events_of}
 use Rattle.pcache_history.specs.Legal.{IsLegal}
 use Rattle.pcache_history.specs.Log.{started}
 use Rattle.pcache_history.specs.PutHistory.{WasAtStage, filled_of, pieces_of}
-use Rattle.pcache_history.specs.Rules.{IsCopy, IsFilesReply, Replies}
-use Rattle.pingora_cache.specs.FilesCalls.{AnswersFiles, HasNoFiles, IsLoaded}
+use Rattle.pcache_history.specs.Rules.{IsCopy, IsFilesRefusal, IsFilesReply, Replies}
+use Rattle.pingora_cache.specs.FilesCalls.{AnswersFiles, HasCause, HasNoFiles, HasSaved, IsLoaded, save_reply}
 use Rattle.pingora_cache.specs.PartFacts.{facts_in}
 use Rattle.pingora_cache.specs.PutsSound.{PutsSound, TakenIn}
 use Rattle.pingora_cache.specs.Sound.{AreOpen, IsSound}
@@ -221,3 +223,37 @@ unloaded-answers false reply is = is
 pub unloaded-nowhere : (b : Bool) (reply : Reply) → reply ≡ cond b (R.Refused Io) R.WrongCall → HasNoFiles (Some F.Load) reply
 unloaded-nowhere true reply is = inl is
 unloaded-nowhere false reply is = inr is
+
+-- the reply to a call on files that failed for this reason
+pub has-cause : (U F : Type 0) (e : ErrorType) → (e ≡ Io → U) → (e ≡ InternalError → F) → HasCause U F (R.Refused e)
+has-cause U F OutOfMemory u f = tt
+has-cause U F InternalError u f = f refl
+has-cause U F InvalidHttpHeader u f = tt
+has-cause U F ResponseTooLarge u f = tt
+has-cause U F IncompleteHttpBody u f = tt
+has-cause U F WriteRemoved u f = tt
+has-cause U F NumbersExhausted u f = tt
+has-cause U F Io u f = u refl
+
+pub save-answers : (saved : Result (Unit {0}) ErrorType) (reply : Reply) → reply ≡ save_reply saved → IfErr saved (λ e. (e ≡ OutOfMemory) ⊎ (e ≡ InternalError) ⊎ (e ≡ Io)) → IsFilesReply F.Save reply
+save-answers saved reply is kinds = subst (IsFilesReply F.Save) (sym is) (of saved kinds)
+  where
+    of : (saved : Result (Unit {0}) ErrorType) → IfErr saved (λ e. (e ≡ OutOfMemory) ⊎ (e ≡ InternalError) ⊎ (e ≡ Io)) → IsFilesReply F.Save (save_reply saved)
+    of (Ok done) kinds = tt
+    of (Err e) (inl memory) = subst IsFilesRefusal (sym memory) tt
+    of (Err e) (inr (inl own)) = subst IsFilesRefusal (sym own) tt
+    of (Err e) (inr (inr device)) = subst IsFilesRefusal (sym device) tt
+
+pub save-saves : (A S : Type 0) → (A → S) → (saved : Result (Unit {0}) ErrorType) (reply : Reply) → reply ≡ save_reply saved → OnOk saved A → HasSaved S reply
+save-saves A S so saved reply is done = subst (HasSaved S) (sym is) (of saved done)
+  where
+    of : (saved : Result (Unit {0}) ErrorType) → OnOk saved A → HasSaved S (save_reply saved)
+    of (Ok it) done = so done
+    of (Err e) done = tt
+
+pub save-cause : (U : Type 0) (saved : Result (Unit {0}) ErrorType) (reply : Reply) → reply ≡ save_reply saved → (IsErrOf saved Io → U) → HasCause U (Unit {0}) reply
+save-cause U saved reply is failed = subst (HasCause U (Unit {0})) (sym is) (of saved failed)
+  where
+    of : (saved : Result (Unit {0}) ErrorType) → (IsErrOf saved Io → U) → HasCause U (Unit {0}) (save_reply saved)
+    of (Ok it) failed = tt
+    of (Err e) failed = has-cause U (Unit {0}) e (λ is. failed (ap Err is)) (λ _. tt)

@@ -1,14 +1,15 @@
 //! The world itself.
-ghost use Rattle.std.specs.Prelude.{◌≡◌, ◌+◌, ◌<◌, ◌≤◌, ◌⊎◌, ◌++◌, ◌∷◌, [], Some, None, IsSome, IfSome, option_map, IfOk, IfErr, OnOk, OnErr, min, ◌^◌, ◌-◌, vec_len, cond, false};
-ghost use Rattle.pcache_base.specs.declared.error.ErrorType.TheVariants.{InternalError, Io, OutOfMemory};
+ghost use Rattle.std.specs.Prelude.{◌≡◌, ◌+◌, ◌<◌, ◌≤◌, ◌⊎◌, ◌++◌, ◌∷◌, [], Some, None, IsSome, IfSome, option_map, IfOk, IfErr, OnOk, OnErr, List, ℕ, min, ◌^◌, ◌-◌, vec_len, cond, false};
+ghost use Rattle.pcache_base.specs.declared.error.ErrorType.TheVariants.{Io, OutOfMemory};
 ghost use Rattle.std.specs.Vec.{vec_capacity};
 ghost use Rattle.pcache_history.specs.Files.{files_in};
 ghost use Rattle.pcache_history.specs.Log.{started};
 ghost use Rattle.pcache_history.specs.Rules.{IsCopy, IsFilesReply};
 ghost use Rattle.pcache_history.specs.declared.call.FilesAct.TheVariants.{Save, Load};
 ghost use Rattle.pcache_history.specs.declared.call.Reply.TheVariants.{Refused, WrongCall};
-ghost use Rattle.pcache_files.specs.Folder.{Loads};
-ghost use Rattle.pingora_cache.specs.FilesCalls.{AnswersFiles, IsLoaded, files_call};
+ghost use Rattle.std.specs.Path.{path_join};
+ghost use Rattle.pcache_files.specs.Folder.{AreSaved, IsForeign, IsListed, IsUnavailable, IsUnsaved, Loads};
+ghost use Rattle.pingora_cache.specs.FilesCalls.{AnswersFiles, HasCause, HasSaved, IsLoaded, IsSavedOf, files_call, save_reply};
 
 use crate::world::open::Open;
 use crate::world::parts::Parts;
@@ -328,14 +329,17 @@ impl<M: EvictionManager, P: PutPolicy> World<M, P> {
 }
 
 impl<M: SavedManager, P: PutPolicy> World<M, P> {
-    ghost use Rattle.std.specs.Prelude.{List, reverse};
+    ghost use Rattle.std.specs.Prelude.{ℕ, List, reverse};
     ghost use Rattle.pcache_history.specs.Log.{Log, Adds, HasLegal};
     ghost use Rattle.pcache_history.specs.PutHistory.{FollowPolicy};
     ghost use Rattle.pcache_history.specs.declared.call.Act.TheVariants as acts;
     ghost use Rattle.pcache_history.specs.declared.call.FilesAct.TheVariants.{Save, Load};
     ghost use Rattle.pcache_history.specs.declared.entry.Event.{Event};
-    ghost use Rattle.pcache_files.specs.Folder.{Loads};
-    ghost use Rattle.pingora_cache.specs.FilesCalls.{IsLoaded};
+    ghost use Rattle.std.specs.Path.{path_join};
+    ghost use Rattle.pcache_files.specs.Folder.{AreSaved, IsForeign, IsListed, IsUnavailable, IsUnsaved, Loads};
+    ghost use Rattle.pcache_history.specs.Events.{tracked};
+    ghost use Rattle.pcache_history.specs.Log.{events_in};
+    ghost use Rattle.pingora_cache.specs.FilesCalls.{HasCause, HasSaved, IsLoaded, IsSavedOf};
 
     /// Saves the manager's entries in a folder, which is made, with its parents, if it is missing, as
     /// a call with an entry of its own: the reply is that of the manager. Each file is written under a
@@ -344,6 +348,11 @@ impl<M: SavedManager, P: PutPolicy> World<M, P> {
     pub fn save<R: NamedFiles>(&mut self, files: &R, dir: &str, suffix: u32) -> Result<Reply>
         ensures ok { IfOk result (λ reply. Adds self.old (files_call Save) reply self.new) }
         ensures replies { IfOk result (λ reply. IsFilesReply Save reply) }
+        ensures saved { IfOk result (HasSaved (IsSavedOf M.tracked M.written
+            (AreSaved (R.makes files.now) (R.renames files.now) R.File.contents R.File.is_flushed
+            dir.now) (tracked self.old.start (events_in self.old)))) }
+        ensures cause { IfOk result (HasCause
+            (IsUnsaved (R.refuses files.now) R.File.write_fails) (Unit {0})) }
         ensures legal { HasLegal self.new }
         ensures puts { FollowPolicy P.says (reverse self.new.history) }
         ensures err { OnErr result (self.new ≡ self.old) }
@@ -377,6 +386,11 @@ impl<M: SavedManager, P: PutPolicy> World<M, P> {
             (Loads (R.opens files.now) R.File.remaining R.File.source (R.refuses files.now)
             R.File.read_fails dir.now M.file_names) M.put_in self.old.start self.new.start
             reply) }
+        ensures cause { IfOk result (HasCause
+            ((name : List ℕ) × IsListed name M.file_names × IsUnavailable (R.opens files.now)
+            R.File.source (R.refuses files.now) R.File.read_fails (path_join dir.now name))
+            ((name : List ℕ) × IsListed name M.file_names × IsForeign (R.opens files.now)
+            R.File.remaining (path_join dir.now name))) }
         ensures limits { self.new.limits ≡ self.old.limits }
         ensures evicted { self.new.evicted ≡ self.old.evicted }
         ensures age { self.new.age ≡ self.old.age }
@@ -463,15 +477,20 @@ fn saved_in<M: SavedManager, R: NamedFiles>(
     dir: &str,
     suffix: u32,
 ) -> Reply
-    ensures { IsFilesReply Save result }
+    ensures reply { IsFilesReply Save result }
+    ensures saved { HasSaved (IsSavedOf M.tracked M.written
+        (AreSaved (R.makes files.now) (R.renames files.now) R.File.contents R.File.is_flushed
+        dir.now) parts.now.tracked) result }
+    ensures cause { HasCause (IsUnsaved (R.refuses files.now) R.File.write_fails) (Unit {0})
+        result }
 {
-    saved_reply(parts.manager.save(alloc, files, dir, suffix))
+    let saved = parts.manager.save(alloc, files, dir, suffix);
+    saved_reply(saved)
 }
 
 // The reply to a save.
 fn saved_reply(saved: Result<()>) -> Reply
-    requires { IfErr saved (λ e. (e ≡ OutOfMemory) ⊎ (e ≡ InternalError) ⊎ (e ≡ Io)) }
-    ensures { IsFilesReply Save result }
+    ensures { result ≡ save_reply saved }
 {
     match saved {
         Ok(()) => Reply::Done,
@@ -492,6 +511,11 @@ fn load_if<M: SavedManager, R: NamedFiles>(
         (Loads (R.opens files.now) R.File.remaining R.File.source (R.refuses files.now)
         R.File.read_fails dir.now M.file_names) M.put_in parts.old.tracked parts.new.tracked
         result }
+    ensures cause { HasCause
+        ((name : List ℕ) × IsListed name M.file_names × IsUnavailable (R.opens files.now)
+        R.File.source (R.refuses files.now) R.File.read_fails (path_join dir.now name))
+        ((name : List ℕ) × IsListed name M.file_names × IsForeign (R.opens files.now)
+        R.File.remaining (path_join dir.now name)) result }
     ensures late { is_early ≡ false → parts.new.tracked ≡ parts.old.tracked }
     ensures store { parts.new.store ≡ parts.old.store }
     ensures limits { parts.new.limits ≡ parts.old.limits }

@@ -3,8 +3,8 @@ use Rattle.pcache_history.specs.declared.call.Call.{Call}
 use Rattle.pcache_history.specs.declared.call.FilesAct.TheVariants as F
 use Rattle.pcache_history.specs.Files.{files_in, is_load, only_loads}
 use Rattle.pcache_history.specs.Log.{Log}
-use Rattle.pingora_cache.specs.FilesCalls.{AnswersFiles}
-use Rattle.pingora_cache.proofs.FilesCalls.{files-puts-step, load-late, load-leaves, load-sound}
+use Rattle.pingora_cache.specs.FilesCalls.{AnswersFiles, HasCause}
+use Rattle.pingora_cache.proofs.FilesCalls.{files-puts-step, load-late, load-leaves, load-sound, told-files}
 use Rattle.pingora_cache.proofs.PutSound.{puts-same}
 use Rattle.pingora_cache.proofs.Worlds.{sound-at, sound-same}
 use Rattle.pingora_cache.proofs.world.world_type.World.load.Goals as goal
@@ -40,3 +40,8 @@ returns-clause-puts g c = (invariant_of-self-2 g c).2.follow
 
 pub returns-clause-loaded : goal.returns-clause-loaded
 returns-clause-loaded g c = load-leaves (λ v. v.items) c.self.inside.start _ g.M.SavedManager.put_in _ _ _ _ _ _ (subst (λ b. AnswersFiles b F.Load c.load_if-reply.result) (early-told c.self.inside.start c.is_none-is_early.result c.is_none-is_early.ensures) c.load_if-reply.ensures.reply) c.load_if-reply.ensures.loaded c.doubled-noted.ensures.copy c.doubled-noted.ensures.same (ap (λ (l : Log). l.start) c.self.view_is)
+
+pub returns-clause-cause : goal.returns-clause-cause
+returns-clause-cause g c =
+    let answers = subst (λ b. AnswersFiles b F.Load c.load_if-reply.result) (early-told c.self.inside.start c.is_none-is_early.result c.is_none-is_early.ensures) c.load_if-reply.ensures.reply in
+    subst (HasCause _ _) (sym (told-files _ F.Load c.load_if-reply.result c.doubled-noted.result.0 answers c.doubled-noted.ensures.copy) ∙ c.doubled-noted.ensures.same) c.load_if-reply.ensures.cause
