@@ -10,6 +10,7 @@ use pcache_base::key::{CacheKey, HashBinary};
 use pcache_base::moment::Moment;
 use pcache_base::reason::NoCacheReason;
 use pcache_meta::header::ResponseHeader;
+use pcache_meta::header_text::reader::header_deserialize;
 use pcache_meta::meta::CacheMeta;
 use pcache_request::phase::HitStatus;
 use pingora_cache::admission::Decision;
@@ -17,6 +18,7 @@ use pingora_cache::world::boxed::Boxed;
 use pingora_cache::world::call::{Act, Call, RequestAct};
 use pingora_cache::world::tokens::Tokens;
 use std::alloc::Global;
+use std::fmt::Write;
 pub use test_rows::asked_of;
 
 // The variance of a key that has one.
@@ -190,15 +192,15 @@ fn boxed_call(alloc: Global, words: Words) -> Result<Option<Call>> {
         }
         .of(request),
         "meta" => RequestAct::Meta {
-            meta: Boxed::new(alloc, meta_of(alloc, words.first))?,
+            meta: Boxed::new(alloc, meta_of(alloc, words)?)?,
         }
         .of(request),
         "revalidate" => RequestAct::Revalidate {
-            meta: Boxed::new(alloc, meta_of(alloc, words.first))?,
+            meta: Boxed::new(alloc, meta_of(alloc, words)?)?,
         }
         .of(request),
         "uncacheable" => RequestAct::Uncacheable {
-            header: Boxed::new(alloc, ResponseHeader::build(alloc, StatusCode::OK))?,
+            header: Boxed::new(alloc, head_of(alloc, words.first)?)?,
             reason: NoCacheReason::InternalError,
         }
         .of(request),
@@ -289,9 +291,30 @@ fn found(request: u64, word: &str, now: Moment) -> Option<Call> {
     Some(RequestAct::Found { status, now }.of(request))
 }
 
-// `meta R [S]`: of a response that is fresh until second 60, made at the first moment or at second `S`.
-fn meta_of(alloc: Global, word: &str) -> CacheMeta {
-    meta(alloc, number(word).unwrap_or(0))
+// `meta R [S [N]]`: of a response that is fresh until second 60, made at the first moment or at second `S`. With `N` it has so
+// many fields and all else that a meta may have.
+fn meta_of(alloc: Global, words: Words) -> Result<CacheMeta> {
+    let mut meta = meta(alloc, number(words.first).unwrap_or(0));
+    if !words.second.is_empty() {
+        *meta.response_header_mut() = head_of(alloc, words.second)?;
+        meta.set_variance_key(VARIANCE);
+        meta.set_provenance(Moment::from_secs(1));
+        meta.set_epoch_override(Moment::from_secs(2));
+    }
+    Ok(meta)
+}
+
+// `uncacheable R [N]`: a head with so many fields, of status 404, or one of status 200 with none.
+fn head_of(alloc: Global, word: &str) -> Result<ResponseHeader> {
+    let Some(fields) = number(word) else {
+        return Ok(ResponseHeader::build(alloc, StatusCode::OK));
+    };
+    let mut text = String::from_str(alloc, "HTTP/1.1 404\r\n")?;
+    for field in 0..fields {
+        write!(text, "x{field}: v\r\n")?;
+    }
+    text.push_str("\r\n")?;
+    header_deserialize(alloc, text.as_bytes())
 }
 
 /// The meta of a response that was made at this second, and is fresh until second 60.

@@ -1,5 +1,6 @@
 //! Calls of a world, each with the reply that is wanted.
 mod bounded;
+mod large;
 mod phases;
 mod puts;
 mod random_script;

@@ -1,0 +1,52 @@
+//! Calls that bring heads of many fields, and runs of many calls. Keys, bodies and pieces that are long are played as scripts.
+use crate::play::{Limits, play, world_of};
+use pcache_base::error;
+use pcache_base::seed::Seed;
+use pingora_cache::world::call::Act;
+use std::alloc::Global;
+use std::test::Fail;
+
+// The meta of a write, that of a revalidation, and the head of an answer that is not stored.
+#[test]
+fn heads_of_many_fields(rt: HostRuntime) -> Result<(), Fail> {
+    let rows = "open 1 -> Done\n\
+        key 1 k -> Done\n\
+        look 1 -> NotFound(Some(Write))\n\
+        miss 1 -> Done\n\
+        meta 1 0 300 -> Done\n\
+        begin 1 -> Done\n\
+        write 1 a -> Done\n\
+        finish 1 -> Stored { size: 1, evicted: 0 }\n\
+        end 1 -> Done\n\
+        open 2 -> Done\n\
+        key 2 k -> Done\n\
+        look 2 -> Hit(1)\n\
+        found 2 expired -> Taken(Stale, Some(Write))\n\
+        revalidate 2 0 300 -> Updated\n\
+        end 2 -> Done\n\
+        open 3 -> Done\n\
+        key 3 k -> Done\n\
+        look 3 -> Hit(1)\n\
+        found 3 expired -> Taken(Stale, Some(Write))\n\
+        uncacheable 3 300 -> Done\n\
+        read 3 -> Data(b\"a\")\n\
+        end 3 -> Done\n";
+    play(&rt, rt.alloc(), Limits::weight(9), "", rows)
+}
+
+// How many replies a run of many calls has.
+fn replies_of_many(alloc: Global) -> error::Result<usize> {
+    let mut calls = Vec::new(alloc);
+    for number in 0..5_000u64 {
+        calls.push(Act::Open { options: None }.of(number))?;
+    }
+    let mut world = world_of(alloc, Seed::fixed(), Limits::weight(9))?;
+    let replies = world.run(calls)?;
+    Ok(replies.len())
+}
+
+#[test]
+fn many_calls_in_one_run(rt: HostRuntime) -> Result<(), Fail> {
+    assert_eq!(rt; replies_of_many(rt.alloc())?, 5_000);
+    Ok(())
+}
