@@ -73,14 +73,14 @@ fn push_letters(row: &mut String, count: u64) -> Result<(), Fail> {
     Ok(())
 }
 
-// A body of 2^21 letters and one, which takes the place of all others.
-fn push_long(row: &mut String, evicted: u64) -> Result<(), Fail> {
+// A body of so many letters, which takes the place of so many others.
+fn push_long(row: &mut String, length: u64, evicted: u64) -> Result<(), Fail> {
     row.push_str("open 1 -> ok\nkey 1 long 1 -> ok\nlook 1 -> none write\nmiss 1 -> ok\n")?;
     row.push_str("meta 1 60 -> ok\nbegin 1 -> ok\nwrite 1 ")?;
-    push_letters(row, 2_097_153)?;
+    push_letters(row, length)?;
     write!(
         row,
-        " -> ok\nfinish 1 -> stored 2097153 evicted {evicted}\nend 1 -> ok\n"
+        " -> ok\nfinish 1 -> stored {length} evicted {evicted}\nend 1 -> ok\n"
     )?;
     Ok(())
 }
@@ -104,7 +104,7 @@ fn play<R: Abort + Files>(rt: &R, alloc: Global) -> Result<(), Fail> {
     push_times(&mut row, MANY, FIND)?;
     row.push_str("save large_world -> ok\n")?;
     push_open(&mut row)?;
-    push_long(&mut row, MANY)?;
+    push_long(&mut row, 2_097_153, MANY)?;
     check(rt, alloc, &["2097153"], row.as_str(), 0, "")?;
     let loaded = "load large_world -> ok\n\
         stat -> stored 0 slots 0 weight 5000 items 5000 evicted 0 size 0\n\
@@ -182,11 +182,11 @@ fn push_put(row: &mut String) -> Result<(), Fail> {
     Ok(())
 }
 
-// Every call that finds such a body.
+// Every call that finds a body of 2^17 letters and one.
 fn push_found(row: &mut String) -> Result<(), Fail> {
-    row.push_str("open 2 -> ok\nkey 2 long 1 -> ok\nexpire 2 -> expired\nlook 2 -> hit 2097153\n")?;
+    row.push_str("open 2 -> ok\nkey 2 long 1 -> ok\nexpire 2 -> expired\nlook 2 -> hit 131073\n")?;
     row.push_str("found 2 expired -> stale write\nrevalidate 2 60 -> updated\nread 2 -> data ")?;
-    push_letters(row, 2_097_153)?;
+    push_letters(row, 131_073)?;
     row.push_str("\nread 2 -> end\ndone 2 -> ok\nend 2 -> ok\n")?;
     row.push_str("open 3 -> ok\nkey 3 long 1 -> ok\npurge 3 -> purged\nend 3 -> ok\n")?;
     Ok(())
@@ -195,9 +195,9 @@ fn push_found(row: &mut String) -> Result<(), Fail> {
 #[test]
 fn a_long_body(rt: HostRuntime) -> Result<(), Fail> {
     let mut row = String::new(rt.alloc());
-    push_long(&mut row, 0)?;
+    push_long(&mut row, 131_073, 0)?;
     push_found(&mut row)?;
-    check(&rt, rt.alloc(), &["2097153"], row.as_str(), 0, "")
+    check(&rt, rt.alloc(), &["131073"], row.as_str(), 0, "")
 }
 
 #[test]

@@ -2,7 +2,7 @@
 use crate::play::{Limits, play, world_of};
 use pcache_base::error;
 use pcache_base::seed::Seed;
-use pingora_cache::world::call::Act;
+use pingora_cache::world::call::{Act, Reply};
 use std::alloc::Global;
 use std::test::Fail;
 
@@ -34,19 +34,23 @@ fn heads_of_many_fields(rt: HostRuntime) -> Result<(), Fail> {
     play(&rt, rt.alloc(), Limits::weight(9), "", rows)
 }
 
-// How many replies a run of many calls has.
-fn replies_of_many(alloc: Global) -> error::Result<usize> {
+// Whether each call of a run of many is done: as many requests are open then.
+fn are_all_opened(alloc: Global) -> error::Result<bool> {
     let mut calls = Vec::new(alloc);
     for number in 0..5_000u64 {
         calls.push(Act::Open { options: None }.of(number))?;
     }
     let mut world = world_of(alloc, Seed::fixed(), Limits::weight(9))?;
     let replies = world.run(calls)?;
-    Ok(replies.len())
+    let mut are_done = replies.len() == 5_000;
+    for reply in replies.iter() {
+        are_done = are_done && matches!(reply, Reply::Done);
+    }
+    Ok(are_done)
 }
 
 #[test]
 fn many_calls_in_one_run(rt: HostRuntime) -> Result<(), Fail> {
-    assert_eq!(rt; replies_of_many(rt.alloc())?, 5_000);
+    assert!(rt; are_all_opened(rt.alloc())?);
     Ok(())
 }
