@@ -1,12 +1,12 @@
 -- A list whose one element is changed, and what a place has then.
 use Rattle.std.proofs.Common.{◌≡◌, ◌≢◌, ◌⊎◌, inl, inr, refl, sym, ap, ◌∙◌, subst, ℕ, zero, suc, ◌+◌, ◌*◌, ◌/◌, ◌%◌, ◌^◌, List, [], ◌∷◌, Option, Some, None, Bool, true, false, nat_eq}
-use Rattle.std.specs.Prelude.{slice_get, slice_set, option_and_then, unwrap_or, OnSome, cond, ◌==◌}
+use Rattle.std.specs.Prelude.{slice_get, slice_set, option_and_then, option_map, unwrap_or, OnSome, cond, ◌==◌}
 use Rattle.std.proofs.lemmas.Bool.{eqb-true, eq-eqb, false_from_ne_true}
 use Rattle.std.proofs.lemmas.Bool.Decides.{eqb_tells}
 use Rattle.std.proofs.Math.Nat.{mod-add-div}
 use Rattle.std.proofs.lemmas.Option.{none-some}
 use Rattle.pcache_c.specs.declared.seats.Seat.{Seat}
-use Rattle.pcache_c.specs.Seats.{open_in, request_in}
+use Rattle.pcache_c.specs.Seats.{open_in, request_in, round_in}
 
 module _ {X : Type 0} where
   pub set_back : (xs : List X) (i : ℕ) (x : X) → slice_get xs i ≡ Some x → slice_set xs i x ≡ xs
@@ -25,6 +25,30 @@ module _ {X : Type 0} where
   set_else (z ∷ xs) zero (suc j) y h = refl
   set_else (z ∷ xs) (suc i) zero y h = refl
   set_else (z ∷ xs) (suc i) (suc j) y h = set_else xs i j y (λ e. h (ap suc e))
+
+-- the rounds of a list of seats one of which is another
+abbrev round_of : {X : Type 0} → Option (Seat X) → ℕ
+round_of o = unwrap_or (option_map (λ seat. seat.round) o) 0
+
+module _ {X : Type 0} (seats : List (Seat X)) (place : ℕ) (y : Seat X) where
+  pub round_else : (other : ℕ) → other ≢ place → round_in (slice_set seats place y) other ≡ round_in seats other
+  round_else other h = ap round_of (set_else seats place other y h)
+
+  module _ (x : Seat X) (at : slice_get seats place ≡ Some x) where
+    pub round_is : round_in seats place ≡ x.round
+    round_is = ap round_of at
+
+    pub round_there : round_in (slice_set seats place y) place ≡ y.round
+    round_there = ap round_of (set_there seats place x y at)
+
+    by_round : y.round ≡ x.round → (other : ℕ) → ((nat_eq other place ≡ true) × (other ≡ place)) ⊎ ((nat_eq other place ≡ false) × (other ≢ place))
+        → round_in (slice_set seats place y) other ≡ round_in seats other
+    by_round h other (inr p) = round_else other p.1
+    by_round h other (inl p) = ap (round_in (slice_set seats place y)) p.1 ∙ round_there ∙ h ∙ sym round_is ∙ sym (ap (round_in seats) p.1)
+
+    -- the other is of the same round
+    pub rounds_stay : y.round ≡ x.round → (other : ℕ) → round_in (slice_set seats place y) other ≡ round_in seats other
+    rounds_stay h other = by_round h other (eqb_tells other place)
 
 -- the number's place has a seat
 module _ {X : Type 0} (seats : List (Seat X)) (n : ℕ) (x : Seat X) (at : slice_get seats (n % 2 ^ 32) ≡ Some x) where

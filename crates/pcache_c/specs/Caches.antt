@@ -11,7 +11,7 @@ use Rattle.pcache_store.specs.Totals.{slots, stored_bytes}
 use Rattle.pcache_c.specs.Codes.{no_memory, nothing}
 use Rattle.pcache_c.specs.Handles.{Fills, IsSame}
 use Rattle.pcache_c.specs.Opening.{new_cache}
-use Rattle.pcache_c.specs.Seats.{request_at}
+use Rattle.pcache_c.specs.Seats.{request_at, round_at}
 use Rattle.pcache_c.specs.declared.caches.PcacheCacheCounts.{PcacheCacheCounts}
 use Rattle.pcache_c.specs.declared.handle.PcacheHandle.{PcacheHandle}
 use Rattle.pcache_c.specs.declared.object.Object.TheVariants as object
@@ -21,10 +21,11 @@ use Rattle.pcache_c.specs.declared.served.Served.{Served}
 abbrev pub key_with : List ℕ → List ℕ → Key
 key_with primary tag = record { primary = primary; primary_override = None; variance = None; user_tag = tag; unusable = None }
 
--- a cache in which nothing is stored, and of which no request is open
+-- a cache in which nothing is stored, and of which no request is open. Every place for a request is in round 0
 pub record IsNewCache (how : Weighing) (limit : ℕ) (watermark : Option ℕ) (age : ℕ) (s : Served) : Type 0 where
   pub parts : s.cache ≡ new_cache how (empty_list limit watermark) age
   pub none : (number : ℕ) → request_at s.seats number ≡ None
+  pub rounds : (place : ℕ) → round_at s.seats place ≡ 0
 
 -- a handle gets a new cache whose entries weigh so, or there was no memory for its manager
 abbrev pub MakesCache : Weighing → ℕ → Option ℕ → ℕ → PcacheHandle → PcacheHandle → ℕ → Type 0

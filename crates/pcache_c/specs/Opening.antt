@@ -9,7 +9,7 @@ use Rattle.pcache_lock.specs.Locks.{no_locks}
 use Rattle.pcache_request.specs.Requests.{dropped_by, enabled_with, left_by, let_go_by, new_request, with_key}
 use Rattle.pcache_c.specs.Codes.{bad_handle, no_memory, ok, wrong_kind}
 use Rattle.pcache_c.specs.Requests.{KeepsManager, left_found, pair_found}
-use Rattle.pcache_c.specs.Seats.{AreSame, IsGone, IsSet, request_at}
+use Rattle.pcache_c.specs.Seats.{AreSame, IsGone, IsInRound, IsSet, request_at}
 use Rattle.pcache_c.specs.declared.object.Object.{Object}
 use Rattle.pcache_c.specs.declared.object.Object.TheVariants as object
 use Rattle.pcache_c.specs.declared.served.Open.{Open}
@@ -35,10 +35,11 @@ pub record IsNew (key : Key) (o : Open) : Type 0 where
   pub found : o.found ≡ None
   pub piece : o.piece ≡ []
 
--- a request of a key is open under a number that none had, or there was no memory for it
+-- a request of a key is open, under the number of its place in the round that this place is in, which no open request had; or
+-- there was no memory for it
 pub record OpensRequest (key : Key) (s t : Served) (number code : ℕ) : Type 0 where
   pub cache : t.cache ≡ s.cache
-  pub how : ((code ≡ ok) × (request_at s.seats number ≡ None) × (o : Open) × IsNew key o × IsSet number o s.seats t.seats)
+  pub how : ((code ≡ ok) × (request_at s.seats number ≡ None) × IsInRound number s.seats × (o : Open) × IsNew key o × IsSet number o s.seats t.seats)
       ⊎ ((code ≡ no_memory) × AreSame s.seats t.seats)
 
 abbrev pub Opens : Key → Object → Object → ℕ → ℕ → Type 0
@@ -56,6 +57,7 @@ abbrev pub EndsOpen : Option Open → Parts → Parts → ℕ → Type 0
 EndsOpen None c d code = (code ≡ bad_handle) × (d ≡ c)
 EndsOpen (Some o) c d code = (code ≡ ok) × EndsRequest c d o
 
+-- the request of a number is ended, and its place is one round further
 pub record EndsNumber (number : ℕ) (s t : Served) (code : ℕ) : Type 0 where
   pub cache : EndsOpen (request_at s.seats number) s.cache t.cache code
   pub gone : IsGone number s.seats t.seats

@@ -14,7 +14,8 @@ use Rattle.pcache_c.specs.declared.served.Served.{Served}
 abbrev pub Does : Type 1
 Does = Parts → Parts → Open → Open → Type 0
 
--- a number that no open request has is refused; else the call is made on the request, and no other request changes
+-- a number that no open request has is refused; else the call is made on the request, and no other request changes. Each place
+-- stays in its round
 abbrev pub OnOpen : Option Open → ℕ → Served → Object → ℕ → Does → Type 0
 OnOpen None number s new code does = (code ≡ bad_handle) × (t : Served) × (new ≡ object.Cache t) × (t.cache ≡ s.cache) × AreSame s.seats t.seats
 OnOpen (Some o) number s new code does = (t : Served) × (p : Open) × (new ≡ object.Cache t) × IsSet number p s.seats t.seats × does s.cache t.cache o p

@@ -1,7 +1,7 @@
 //! Numbers of open requests: each is a place, with how often the place was free before.
 ghost use Rattle.std.specs.Prelude.{◌≡◌, ◌/◌, ◌%◌, ◌^◌, ℕ, None, Some, IfSome, IsTrue, option_map};
 ghost use Rattle.std.specs.Borrow.{LendsIf, LendsSo, sem};
-ghost use Rattle.pcache_c.specs.Seats.{AreSame, IsFree, IsGone, IsSet, IsSetIf, request_at};
+ghost use Rattle.pcache_c.specs.Seats.{AreSame, IsFree, IsGone, IsSet, IsSetIf, number_at, request_at, round_at};
 ghost use Rattle.pcache_c.specs.contracts.seats.Seat as seat;
 ghost use Rattle.pcache_c.specs.contracts.seats.Seats as seats;
 
@@ -46,9 +46,10 @@ pub(crate) struct Seats<T> {
 }
 
 impl<T> Seats<T> {
-    /// No seat.
+    /// No seat: every place is in round 0.
     pub(crate) fn new(alloc: Global) -> Seats<T>
-        ensures { (number : ℕ) → request_at result number ≡ None }
+        ensures none { (number : ℕ) → request_at result number ≡ None }
+        ensures rounds { (place : ℕ) → round_at result place ≡ 0 }
     {
         Seats {
             seats: Vec::new(alloc),
@@ -112,9 +113,11 @@ impl<T> Seats<T> {
         Some(place)
     }
 
-    /// Seats a request at a free place. Returns its number.
+    /// Seats a request at a free place. Returns the number of this place in its round.
     pub(crate) fn put(&mut self, place: u32, request: T) -> u64
         requires { IsFree place self.old }
+        ensures place { result % 2 ^ 32 ≡ place }
+        ensures number { result ≡ number_at self.old place }
         ensures unused { request_at self.old result ≡ None }
         ensures set { IsSet result request self.old self.new }
     {
@@ -129,7 +132,7 @@ impl<T> Seats<T> {
         }
     }
 
-    /// Takes a request out. Its place is free, and no number of before names it.
+    /// Takes a request out. Its place is free and one round further, so no number of before names it.
     pub(crate) fn take(&mut self, number: u64) -> Option<T>
         ensures taken { result ≡ request_at self.old number }
         ensures gone { IsGone number self.old self.new }

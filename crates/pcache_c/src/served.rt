@@ -4,7 +4,7 @@ ghost use Rattle.std.specs.Duration.{as_nanos};
 ghost use Rattle.pcache_store.specs.Readers.{reader_of};
 ghost use Rattle.pcache_c.specs.Opening.{EndsNumber, EndsRequest, IsNew, OpensRequest, new_cache};
 ghost use Rattle.pcache_c.specs.Requests.{KeepsButStore, left_found};
-ghost use Rattle.pcache_c.specs.Seats.{request_at};
+ghost use Rattle.pcache_c.specs.Seats.{request_at, round_at};
 
 use crate::codes::{BAD_HANDLE, NO_MEMORY, OK};
 use crate::seats::{Seat, Seats};
@@ -78,6 +78,7 @@ impl Served {
     ) -> Served
         ensures cache { result.cache ≡ new_cache weighing manager (as_nanos age_timeout) }
         ensures none { (number : ℕ) → request_at result.seats number ≡ None }
+        ensures rounds { (place : ℕ) → round_at result.seats place ≡ 0 }
     {
         Served {
             cache: Cache::with_weighing(alloc, seed, manager, age_timeout, weighing),

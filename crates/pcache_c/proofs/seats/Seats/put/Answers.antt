@@ -1,6 +1,6 @@
 use Rattle.std.proofs.Common.{◌≡◌, None, Some, refl, sym, ap, ◌∙◌}
 use Rattle.std.proofs.lemmas.Option.{none-some, slice_get-get_or}
-use Rattle.pcache_c.proofs.Places.{free_is, put_others, put_this}
+use Rattle.pcache_c.proofs.Places.{free_is, put_others, put_this, rounds_stay}
 use Rattle.pcache_c.proofs.seats.Seats.put.Goals as goal
 
 -- src/seats.rt:117:30
@@ -23,4 +23,5 @@ returns-clause-set g c =
     record {
       this = rw c.replace.ensures.after (put_this seats c.args.place seat at number.result c.args.request number.ensures.place (sym number.ensures.round));
       others = λ m ne. rw c.replace.ensures.after (put_others seats c.args.place seat at number.result c.args.request number.ensures.place (sym number.ensures.round) m ne);
+      rounds = rw c.replace.ensures.after (rounds_stay seats c.args.place (record seat { request = Some c.args.request }) seat at refl);
     }
