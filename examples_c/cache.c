@@ -286,6 +286,30 @@ static void served_on(void) {
     check("end", pcache_request_end(&cache, serving), PCACHE_OK);
 }
 
+/* A request hands its permit to another one for the same key, and ends; that one fills the key. */
+static void handed_on(void) {
+    uint64_t first = request_for("gg"), second = request_for("gg"), waiter = request_for("gg");
+    uint32_t outcome;
+    look(first);
+    look(waiter);
+    printf("held %u and %u, ", (unsigned)held(first), (unsigned)held(second));
+    check("hand to itself", pcache_request_hand_permit(&cache, first, first), PCACHE_WRONG_CALL);
+    check("hand", pcache_request_hand_permit(&cache, first, second), PCACHE_OK);
+    printf("then %u and %u, ", (unsigned)held(first), (unsigned)held(second));
+    check("hand again", pcache_request_hand_permit(&cache, first, second), PCACHE_WRONG_CALL);
+    check("end", pcache_request_end(&cache, first), PCACHE_OK);
+    check("hand to none", pcache_request_hand_permit(&cache, second, first), PCACHE_BAD_HANDLE);
+    check("wait", pcache_request_wait(&cache, waiter, 1, 0, &outcome), PCACHE_OK);
+    printf("wait %u ", (unsigned)outcome);
+    begin(second);
+    check("write", pcache_request_write(&cache, second, bytes("new"), 3, 1), PCACHE_OK);
+    check("wait", pcache_request_wait(&cache, waiter, 1, 0, &outcome), PCACHE_OK);
+    printf("then %u, ", (unsigned)outcome);
+    finish(second);
+    check("end", pcache_request_end(&cache, second), PCACHE_OK);
+    check("end", pcache_request_end(&cache, waiter), PCACHE_OK);
+}
+
 /* What may not be called is refused. */
 static void refused(void) {
     uint64_t request = request_for("aa");
@@ -327,6 +351,7 @@ int main(void) {
     without_a_copy();
     variants();
     served_on();
+    handed_on();
     refused();
     /* A request that is open goes with its cache. */
     look(request_for("dd"));

@@ -440,6 +440,9 @@ uint32_t pcache_request_wait(pcache_handle *cache, uint64_t request, uint64_t no
 uint32_t pcache_request_limit_waits(pcache_handle *cache, uint64_t request, uint64_t most_millis);
 /* PCACHE_NONE if the request holds nothing. */
 uint32_t pcache_request_release(pcache_handle *cache, uint64_t request, uint32_t reason);
+/* The permit goes to another request of the same cache and for the same key (keys are not compared), which lets go of a lock that it
+ * held before. PCACHE_WRONG_CALL if the request holds no permit, if the other one is disabled, and for one number twice. */
+uint32_t pcache_request_hand_permit(pcache_handle *cache, uint64_t request, uint64_t to);
 uint32_t pcache_request_disable(pcache_handle *cache, uint64_t request, uint32_t reason);
 uint32_t pcache_request_purge(pcache_handle *cache, uint64_t request, uint32_t *was);
 uint32_t pcache_request_expire(pcache_handle *cache, uint64_t request, uint64_t now_secs,

@@ -244,6 +244,25 @@ fn print_totals(cache: &Cache) -> Result<(), Error> {
     Ok(())
 }
 
+/// A request hands its permit to another one for the same key, and ends; that one fills the key.
+fn handed_on(cache: &Cache) -> Result<(), Error> {
+    let mut first = cache.request(b"gg", "1")?;
+    let mut second = cache.request(b"gg", "1")?;
+    let mut waiter = cache.request(b"gg", "1")?;
+    assert_eq!(first.look(NOW)?, Looked::Permit);
+    assert_eq!(waiter.look(NOW)?, Looked::Waits);
+    print!("held {} and {}, ", number_of(first.held()?), number_of(second.held()?));
+    first.hand_permit(&mut second)?;
+    print!("then {} and {}, ", number_of(first.held()?), number_of(second.held()?));
+    assert_eq!(first.hand_permit(&mut second), Err(Error::WrongCall));
+    drop(first);
+    print!("wait {} ", number_of_end(waiter.wait(NOW)?));
+    let fill = begin(&mut second)?;
+    print!("then {}, ", number_of_end(waiter.wait(NOW)?));
+    print_stored(fill.finish(b"new")?);
+    Ok(())
+}
+
 /// What may not be called is refused.
 fn refused(cache: &Cache) -> Result<(), Error> {
     let mut request = cache.request(b"aa", "1")?;
@@ -276,6 +295,7 @@ fn main() -> Result<(), Error> {
     without_a_copy(&cache)?;
     variants(&cache)?;
     served_on(&cache)?;
+    handed_on(&cache)?;
     refused(&cache)?;
     assert_eq!(cache.request(b"dd", "1")?.look(NOW)?, Looked::Permit);
     Ok(())

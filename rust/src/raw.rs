@@ -371,6 +371,7 @@ extern "C" {
         evicted: *mut usize,
     ) -> u32;
     pub fn pcache_request_finish_hit(cache: *mut PcacheHandle, request: u64) -> u32;
+    pub fn pcache_request_hand_permit(cache: *mut PcacheHandle, request: u64, to: u64) -> u32;
     pub fn pcache_request_held(cache: *mut PcacheHandle, request: u64, held: *mut u32) -> u32;
     pub fn pcache_request_limit_waits(cache: *mut PcacheHandle, request: u64, most_millis: u64) -> u32;
     pub fn pcache_request_look(

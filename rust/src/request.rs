@@ -513,6 +513,19 @@ impl Request {
         self.change(|cache, request| unsafe { raw::pcache_request_release(cache, request, reason as u32) })
     }
 
+    /// Hands the permit to another request for the same key, which then fills or renews it in this one's place: so a stale body is
+    /// served to its end by one request, and renewed by another. A lock that the other one held is let go. Keys are not compared.
+    ///
+    /// # Errors
+    /// [`Error::WrongCall`] if this request holds no permit, if the other one is disabled, or is of another cache or part.
+    pub fn hand_permit(&mut self, to: &mut Request) -> Result<(), Error> {
+        if !std::ptr::eq(self.part(), to.part()) {
+            return Err(Error::WrongCall);
+        }
+        let to = to.number;
+        self.change(|cache, request| unsafe { raw::pcache_request_hand_permit(cache, request, to) })
+    }
+
     /// Stores nothing from here on, and gives back all that is held, with what the reason tells those who wait.
     ///
     /// # Errors

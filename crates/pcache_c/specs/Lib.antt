@@ -4,6 +4,7 @@ pub mod Decisions
 pub mod Fields
 pub mod Handle
 pub mod Handles
+pub mod Handing
 pub mod Managers
 pub mod Numbers
 pub mod Objects

@@ -59,6 +59,13 @@ pub record IsSet {X : Type 0} (number : ℕ) (o : X) (old new : Seats X) : Type 
   pub others : AreElseSame number old new
   pub rounds : KeepsRounds old new
 
+-- two requests are those now, each other is as it was, and each place in its round
+pub record AreSet {X : Type 0} (first : ℕ) (o : X) (second : ℕ) (p : X) (old new : Seats X) : Type 0 where
+  pub this : request_at new first ≡ Some o
+  pub that : request_at new second ≡ Some p
+  pub others : (other : ℕ) → other ≢ first → other ≢ second → request_at new other ≡ request_at old other
+  pub rounds : KeepsRounds old new
+
 -- if a request was found, the one that is left in its place is the one of this number now
 abbrev pub IsSetIf : {A X : Type 0} → Option A → ℕ → Seats X → Seats X → X → Type 0
 IsSetIf found number old new o = OnSome found (IsSet number o old new)

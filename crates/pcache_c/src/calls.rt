@@ -3,7 +3,8 @@ ghost use Rattle.std.specs.Prelude.{◌≡◌, ◌*◌, Option};
 ghost use Rattle.pcache_base.specs.declared.reason.NoCacheReason.{NoCacheReason};
 ghost use Rattle.pcache_request.specs.declared.phase.HitStatus.{HitStatus};
 ghost use Rattle.pcache_c.specs.Codes.{OnGood, hash_at, is_flag, moment_at, nonempty, variance_at};
-ghost use Rattle.pcache_c.specs.Handles.{IsSame, OnEmpty, object_of};
+ghost use Rattle.pcache_c.specs.Handles.{IsSame, OnEmpty, OnHandle, object_of};
+ghost use Rattle.pcache_c.specs.Handing.{HandsPermit};
 ghost use Rattle.pcache_c.specs.Numbers.{IsNumber, reason_number, status_number};
 ghost use Rattle.pcache_c.specs.Reached.{OnRequest};
 ghost use Rattle.pcache_c.specs.Requests.{Adds, Begins, EndsHit, Expires, Finishes, LimitsWaits, Looks, LooksForVariant, Misses, Passes, Purges, Reads, Releases, SaysLength, Seeks, ServesUpdating, Takes, TurnsOff, Varies, Views, Waits};
@@ -12,7 +13,7 @@ use crate::codes::{BAD_HANDLE, BAD_VALUE};
 use crate::handle::PcacheHandle;
 use crate::hashes::{hash_from, variance_from};
 use crate::metas::moment_of;
-use crate::{reached, requests};
+use crate::{handed, reached, requests};
 use std::alloc::Global;
 
 /// Asks the store at a moment, and the lock table if nothing is handed on. Says whether something was
@@ -400,6 +401,26 @@ pub extern "C" fn pcache_request_release(
         return BAD_HANDLE;
     };
     let code = reached::release(&mut *object, request, reason);
+    cache.put(object);
+    code
+}
+
+/// Hands the permit of a request to another request of the same cache, which holds it from then on. A lock that this one held is
+/// let go. It is a wrong call where the first request holds no permit, where caching of the second is not on, and where the two are
+/// one. Keys are not compared: the second request has to be of the same key, since it is that key's lock that it then holds.
+#[unsafe(no_mangle)]
+pub extern "C" fn pcache_request_hand_permit(
+    alloc: Global,
+    cache: &mut PcacheHandle,
+    request: u64,
+    to: u64,
+) -> u32
+    ensures { OnHandle cache.old cache.new result (λ a b. HandsPermit request to a b result) }
+{
+    let Some(mut object) = cache.take(alloc) else {
+        return BAD_HANDLE;
+    };
+    let code = handed::hand_permit(&mut *object, request, to);
     cache.put(object);
     code
 }

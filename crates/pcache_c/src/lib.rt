@@ -19,6 +19,7 @@
 //! - `caches`: a cache, and its requests opened and ended; `calls`: what its requests do
 //! - `seats`: the numbers of open requests; `served`: a cache with its requests as one object
 //! - `reached`: the way from a number to its request; `requests`: the calls themselves
+//! - `handed`: a permit that goes from one request to another
 
 mod asked;
 mod caches;
@@ -28,6 +29,7 @@ mod decided;
 mod decisions;
 mod entries;
 mod fields;
+mod handed;
 mod handle;
 mod hashes;
 mod heads;

@@ -1,5 +1,5 @@
 //! Numbers of open requests: each is a place, with how often the place was free before.
-ghost use Rattle.std.specs.Prelude.{◌≡◌, ◌/◌, ◌%◌, ◌^◌, ℕ, None, Some, IfSome, IsTrue, option_map};
+ghost use Rattle.std.specs.Prelude.{◌≡◌, ◌/◌, ◌%◌, ◌^◌, ℕ, None, Some, IfSome, IsTrue, option_copied, option_map};
 ghost use Rattle.std.specs.Borrow.{LendsIf, LendsSo, sem};
 ghost use Rattle.pcache_c.specs.Seats.{AreSame, IsFree, IsGone, IsSet, IsSetIf, number_at, request_at, round_at};
 ghost use Rattle.pcache_c.specs.contracts.seats.Seat as seat;
@@ -71,6 +71,18 @@ impl<T> Seats<T> {
             return None;
         }
         seat.request_mut()
+    }
+
+    /// The open request with a number, to be looked at.
+    pub(crate) fn get(&self, number: u64) -> Option<&T>
+        ensures { option_copied result ≡ request_at self.now number }
+    {
+        let seat = self.seats.get((number % PLACES) as usize)?;
+        if u64::from(seat.round) == number / PLACES {
+            seat.request.as_ref()
+        } else {
+            None
+        }
     }
 
     /// A place that is free; a new one if none is known.

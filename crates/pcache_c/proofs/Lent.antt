@@ -1,0 +1,13 @@
+-- A request that was found by its number, and what is left in its place.
+use Rattle.std.proofs.Common.{◌≡◌, sym, ap, ◌∙◌, subst, Option, Some}
+use Rattle.std.specs.Prelude.{OnSome, option_map}
+use Rattle.std.specs.Borrow.{MutBor}
+
+module _ {X : Type 0} (r : Option (MutBor X)) (o : MutBor X) (some : r ≡ Some o) where
+  -- what it was
+  pub was_found : (q : Option X) → option_map (λ (b : MutBor X). b.now) r ≡ q → q ≡ Some o.now
+  was_found q at = sym at ∙ ap (option_map (λ (b : MutBor X). b.now)) some
+
+  -- what is said of one that was found
+  pub when_found : (P : Type 0) → OnSome r P → P
+  when_found P h = subst (λ q. OnSome q P) some h

@@ -1,0 +1,23 @@
+use Rattle.std.proofs.Common.{refl}
+use Rattle.pcache_c.specs.Seats.{IsSet, request_at}
+use Rattle.pcache_c.specs.declared.served.Open.{Open}
+use Rattle.pcache_c.proofs.Lent.{was_found, when_found}
+use Rattle.pcache_c.proofs.handed.take_permit.Goals as goal
+
+pub returns : goal.returns
+returns c =
+    let q : Open = c.in-Some.taker.now in
+    let r : Open = record q { request = c.set_write_lock-gone.new.request } in
+    let seats = c.args.served.now.seats in
+    record {
+      before = q;
+      after = r;
+      was = was_found c.find.result c.in-Some.taker c.in-Some.is (request_at seats c.args.to) c.find.ensures.value;
+      set = when_found c.find.result c.in-Some.taker c.in-Some.is (IsSet c.args.to r seats (c.find.follows.lender r)) (c.find.follows.holds r);
+      gets = record {
+        request = c.set_write_lock-gone.ensures.request;
+        table = c.set_write_lock-gone.ensures.table;
+        parts = c.set_write_lock-gone.ensures.rest;
+        rest = (refl, refl, refl);
+      };
+    }

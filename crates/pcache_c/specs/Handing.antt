@@ -1,0 +1,77 @@
+-- What it is to hand the permit of a request to another request of the same cache (own).
+use Rattle.std.specs.Prelude.{◌≡◌, ◌≢◌, ℕ, Option, None, Some, IsSome}
+use Rattle.pcache_cache.specs.Parts.{Parts}
+use Rattle.pcache_lock.specs.Permits.{Permit}
+use Rattle.pcache_request.specs.LockUse.{handed, permit_in, table_handed, unheld}
+use Rattle.pcache_request.specs.Phases.{IsOn}
+use Rattle.pcache_c.specs.Codes.{Outcome, bad_handle, wrong_kind}
+use Rattle.pcache_c.specs.Requests.{KeepsButLocks, KeepsFound}
+use Rattle.pcache_c.specs.Seats.{AreSet, IsSet, request_at}
+use Rattle.pcache_c.specs.declared.object.Object.{Object}
+use Rattle.pcache_c.specs.declared.object.Object.TheVariants as object
+use Rattle.pcache_c.specs.declared.seats.Seats.{Seats}
+use Rattle.pcache_c.specs.declared.served.Open.{Open}
+use Rattle.pcache_c.specs.declared.served.Served.{Served}
+
+-- a permit may be handed from the request o to the request q: they are two, the first holds the permit, and of the second
+-- caching is on
+pub record MayHand (from to : ℕ) (o q : Open) : Type 0 where
+  pub two : from ≢ to
+  pub held : IsSome (permit_in o.request.cache.held)
+  pub on : IsOn q.request.cache.phase
+
+-- the permit of the request o is taken out of it, which leaves p
+pub record Gives (permit : Permit) (o p : Open) : Type 0 where
+  pub had : permit_in o.request.cache.held ≡ Some permit
+  pub request : p.request.cache ≡ unheld o.request.cache
+  pub rest : KeepsFound o p
+
+-- a permit is held by the request q, which is r since, and a lock that it held before is let go
+pub record Gets (permit : Permit) (c d : Parts) (q r : Open) : Type 0 where
+  pub request : r.request.cache ≡ handed permit q.request.cache
+  pub table : d.locks ≡ table_handed permit q.request.cache c.locks
+  pub parts : KeepsButLocks c d
+  pub rest : KeepsFound q r
+
+-- the permit went from the first request to the second, and no other request changed
+pub record Hands (from to : ℕ) (o q : Open) (s t : Served) : Type 0 where
+  pub permit : Permit
+  pub giver : Open
+  pub taker : Open
+  pub gives : Gives permit o giver
+  pub gets : Gets permit s.cache t.cache q taker
+  pub seats : AreSet from giver to taker s.seats t.seats
+
+-- a number that no open request has is refused, and a call that may not be made; then nothing changed
+abbrev pub HandsOn : Option Open → Option Open → ℕ → ℕ → Served → Served → ℕ → Type 0
+HandsOn None q from to s t code = (code ≡ bad_handle) × (t ≡ s)
+HandsOn (Some o) None from to s t code = (code ≡ bad_handle) × (t ≡ s)
+HandsOn (Some o) (Some q) from to s t code = Outcome (MayHand from to o q) (Hands from to o q s t) ⊥ (λ e. ⊥) (t ≡ s) code
+
+abbrev pub HandsPermit : ℕ → ℕ → Object → Object → ℕ → Type 0
+HandsPermit from to (object.Cache s) new code = (t : Served) × (new ≡ object.Cache t) × HandsOn (request_at s.seats from) (request_at s.seats to) from to s t code
+HandsPermit from to old new code = (code ≡ wrong_kind) × (new ≡ old)
+
+-- the two halves of it
+
+abbrev pub HasPermit : Option Open → Type 0
+HasPermit None = ⊥
+HasPermit (Some o) = IsSome (permit_in o.request.cache.held)
+
+pub record GivesPermit (from : ℕ) (permit : Permit) (old new : Seats Open) : Type 0 where
+  pub before : Open
+  pub after : Open
+  pub was : request_at old from ≡ Some before
+  pub set : IsSet from after old new
+  pub gives : Gives permit before after
+
+abbrev pub IsOpenOn : Option Open → Type 0
+IsOpenOn None = ⊥
+IsOpenOn (Some q) = IsOn q.request.cache.phase
+
+pub record TakesPermit (to : ℕ) (permit : Permit) (s t : Served) : Type 0 where
+  pub before : Open
+  pub after : Open
+  pub was : request_at s.seats to ≡ Some before
+  pub set : IsSet to after s.seats t.seats
+  pub gets : Gets permit s.cache t.cache before after
