@@ -1,6 +1,6 @@
 //! The crate under threads: what a test asserts is what every interleaving has to give.
 
-use pcache::{Cache, Error, Head, HitStatus, Looked, Meta, Moment, Options, Read, Reason, Request, Said, View, WaitEnd};
+use pcache::{Cache, Error, Head, Held, HitStatus, Looked, Meta, Moment, Options, Read, Reason, Request, Said, View, WaitEnd};
 use std::sync::atomic::{AtomicUsize, Ordering};
 use std::sync::Mutex;
 use std::thread;
@@ -46,6 +46,19 @@ fn what_moves_between_threads_is_marked() {
     moves::<Head>();
     moves::<pcache::Manager>();
     is_shared::<pcache::SharedManager>();
+}
+
+#[test]
+fn a_permit_is_not_handed_to_another_cache() -> Result<(), Error> {
+    let (one, other) = (Cache::new(&Options::default())?, Cache::new(&Options::default())?);
+    let (mut first, mut second) = (one.request(b"key", "")?, other.request(b"key", "")?);
+    assert_eq!(first.look(NOW)?, Looked::Permit);
+    assert_eq!(first.hand_permit(&mut second), Err(Error::WrongCall));
+    assert_eq!((first.held()?, second.held()?), (Held::Permit, Held::Nothing));
+    let mut third = one.request(b"key", "")?;
+    first.hand_permit(&mut third)?;
+    assert_eq!((first.held()?, third.held()?), (Held::Nothing, Held::Permit));
+    Ok(())
 }
 
 #[test]
