@@ -55,7 +55,7 @@ returns-clause-saved g c =
     let answered = sym (told-files (only_loads []) F.Save _ _ c.saved_in-saved.ensures.reply c.doubled-noted.ensures.copy) ∙ c.doubled-noted.ensures.same in
     let tracks = c.self.invariant.0.tracks ∙ ap (λ (l : Log). tracked l.start (events_in l)) c.self.view_is in
     subst (λ (m : Tracked). HasSaved (IsSavedOf g.M.EvictionManager.tracked g.M.SavedManager.written (AreSaved (g.R.NamedFiles.makes c.args.files.now) (g.R.NamedFiles.renames c.args.files.now) g.R.File.TriedWrite.contents g.R.File.TriedWrite.is_flushed c.args.dir.now) m) c.doubled-noted.result.1) tracks
-        (subst (HasSaved _) answered c.saved_in-saved.ensures.saved)
+    (subst (HasSaved _) answered c.saved_in-saved.ensures.saved)
 
 pub returns-clause-cause : goal.returns-clause-cause
 returns-clause-cause g c =
