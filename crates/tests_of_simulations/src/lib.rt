@@ -22,8 +22,6 @@ mod rows;
 #[cfg(test)]
 mod runs;
 #[cfg(test)]
-mod seeds;
-#[cfg(test)]
 mod simulations;
 #[cfg(test)]
 mod traces;
