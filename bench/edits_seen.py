@@ -24,7 +24,7 @@ of the forms that prove, writes the file; --sample tries first what has no such 
 It ends non-zero if any edit is not refused by itself. An edit outside a function, as of a constant, is tried alone and is
 refused by itself if anything is refused.
 
---compile-only proves nothing, and takes a reading of the crate for each file (one more for each edit of a file that does not
+--compile-only proves nothing, and takes a reading of the crate for each round (one more for each edit of a round that does not
 read). --sample takes the edits in an order that the text decides, each alone, and checks the function that it turns and those
 that this one calls, and no other; so an edit that only callers refuse counts as let through. What there was no time for, or what
 a check had no time for, is said and is no failure; an edit that is let through, that does not apply or that does not read is one,
@@ -424,7 +424,7 @@ def put_back(folder, crate):
 
 
 def unread(crate, edits, folder):
-    """The edits of one file that do not apply, or whose text does not read, each with why."""
+    """The edits of one round that do not apply, or whose text does not read, each with why."""
     found, applied = [], []
     for edit in edits:
         try:
@@ -450,13 +450,13 @@ def compile_all(crates):
         files, count = files_of(crate), 0
         if files:
             with copy_of(crate) as folder:
-                for file in files:
-                    edits = edits_in(f"{TOP}/crates/{crate}/{file}")
+                for tried in rounds_of(crate):
                     put_back(folder, crate)
-                    for edit, why in unread(crate, edits, folder):
-                        print(f"{crate}/{file}: {edit.name}: does not read: {why}", flush=True)
+                    of = {edit.name: file for file, edit in tried}
+                    for edit, why in unread(crate, [edit for _, edit in tried], folder):
+                        print(f"{crate}/{of[edit.name]}: {edit.name}: does not read: {why}", flush=True)
                         bad += 1
-                    count += len(edits)
+                    count += len(tried)
         print(f"{crate}: {count} wrong bodies in {len(files)} file(s) were read", flush=True)
     return 1 if bad else 0
 

@@ -55,9 +55,9 @@ def from_reference(text):
     """The words of C for a type of the sources."""
     if text == "Global":
         return []
-    slice_of = re.fullmatch(r"&(mut )?\[u8\]", text)
+    slice_of = re.fullmatch(r"&(mut )?\[(u8|u64)\]", text)
     if slice_of:
-        return ["*mut u8" if slice_of[1] else "*const u8", "usize"]
+        return [f"*{'mut' if slice_of[1] else 'const'} {slice_of[2]}", "usize"]
     to_pointer = re.fullmatch(r"&mut \*const (\w+)", text)
     if to_pointer:
         return [f"*mut *const {word(to_pointer[1])}"]

@@ -1,9 +1,10 @@
 #!/bin/sh
 # How many bytes an entry of a world's history takes, of a wrong call and of a look-up that finds nothing, and how many a stored
-# body of eight bytes takes in the store and in the manager's list together. The program is proved and built in a copy of the
-# repository.
+# body of eight bytes takes in the store and in the manager's list together; and how large an open request of a cache is. The
+# program is proved and built in a copy of the repository.
 . "$(dirname "$0")/in_a_copy.sh"
 build 'world_memory: pingora_cache bytes http'
+crates/world_memory/out/world_memory sizes 0
 python3 - <<'MEASURE'
 import os, sys
 

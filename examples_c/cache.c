@@ -272,7 +272,12 @@ static void served_on(void) {
     check("wait", pcache_request_wait(&cache, serving, 1, 0, &outcome), PCACHE_OK);
     printf("wait %u", (unsigned)outcome);
     check("wait", pcache_request_wait(&cache, serving, 1, 500000000, &outcome), PCACHE_OK);
-    printf(" and %u, ", (unsigned)outcome);
+    printf(" and %u", (unsigned)outcome);
+    uint64_t secs;
+    uint32_t nanos;
+    check("waited", pcache_request_waited(&cache, serving, &secs, &nanos), PCACHE_OK);
+    check("never waited", pcache_request_waited(&cache, renewing, &secs, &nanos), PCACHE_NONE);
+    printf(" after %u.%09u s, ", (unsigned)secs, (unsigned)nanos);
     check("updating", pcache_request_serve_updating(&cache, serving), PCACHE_OK);
     check("phase", pcache_request_phase(&cache, serving, &phase), PCACHE_OK);
     printf("phase %u ", (unsigned)phase);
@@ -308,6 +313,60 @@ static void handed_on(void) {
     finish(second);
     check("end", pcache_request_end(&cache, second), PCACHE_OK);
     check("end", pcache_request_end(&cache, waiter), PCACHE_OK);
+}
+
+/* A request that cannot use a fill waits no longer once the one that fills it says which it is. Another one waits on. */
+static void published(void) {
+    const uint64_t unusable[2] = {206, 501}, said[1] = {501};
+    uint64_t writer = request_for("hh"), other = request_for("hh"), picky, token;
+    uint32_t outcome;
+    check("open", pcache_request_new_with_unusable(&cache, bytes("hh"), 2, bytes("1"), 1, unusable, 2, &picky), PCACHE_OK);
+    look(writer);
+    look(other);
+    look(picky);
+    check("no permit", pcache_request_publish(&cache, picky, said, 1), PCACHE_NONE);
+    check("wait", pcache_request_wait(&cache, picky, 1, 0, &outcome), PCACHE_OK);
+    printf("wait %u, ", (unsigned)outcome);
+    check("not abandoned", pcache_request_abandoned(&cache, picky, &token), PCACHE_NONE);
+    check("publish", pcache_request_publish(&cache, writer, said, 1), PCACHE_OK);
+    check("wait", pcache_request_wait(&cache, other, 1, 0, &outcome), PCACHE_OK);
+    printf("published: wait %u", (unsigned)outcome);
+    check("wait", pcache_request_wait(&cache, picky, 1, 0, &outcome), PCACHE_OK);
+    check("abandoned", pcache_request_abandoned(&cache, picky, &token), PCACHE_OK);
+    printf(" and %u for %u held %u\n", (unsigned)outcome, (unsigned)token, (unsigned)held(picky));
+    check("end", pcache_request_end(&cache, picky), PCACHE_OK);
+    check("end", pcache_request_end(&cache, other), PCACHE_OK);
+    check("end", pcache_request_end(&cache, writer), PCACHE_OK);
+}
+
+static uint32_t within(uint64_t request, size_t count) {
+    uint32_t within;
+    check("count", pcache_request_count_body(&cache, request, count, &within), PCACHE_OK);
+    return within;
+}
+
+static uint32_t exceeds(uint64_t request) {
+    uint32_t exceeds;
+    check("exceeds", pcache_request_exceeds_head(&cache, request, &exceeds), PCACHE_OK);
+    return exceeds;
+}
+
+/* A response that is too large is not stored, as its request finds while it comes. */
+static void too_large(void) {
+    uint64_t request = request_for("hh");
+    check("limit", pcache_request_limit_body(&cache, request, 4), PCACHE_OK);
+    check("limit", pcache_request_limit_head(&cache, request, 10), PCACHE_OK);
+    look(request);
+    printf("head %u ", (unsigned)exceeds(request));
+    begin(request);
+    printf("then %u, ", (unsigned)exceeds(request));
+    printf("body %u ", (unsigned)within(request, 4));
+    printf("then %u, ", (unsigned)within(request, 1));
+    check("disable", pcache_request_disable(&cache, request, PCACHE_RESPONSE_TOO_LARGE), PCACHE_OK);
+    check("limit a disabled one", pcache_request_limit_body(&cache, request, 4), PCACHE_WRONG_CALL);
+    check("limit a disabled one", pcache_request_limit_head(&cache, request, 4), PCACHE_WRONG_CALL);
+    check("end", pcache_request_end(&cache, request), PCACHE_OK);
+    hit("hh");
 }
 
 /* What may not be called is refused. */
@@ -352,6 +411,8 @@ int main(void) {
     variants();
     served_on();
     handed_on();
+    published();
+    too_large();
     refused();
     /* A request that is open goes with its cache. */
     look(request_for("dd"));

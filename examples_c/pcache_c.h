@@ -379,6 +379,10 @@ uint32_t pcache_cache_totals(pcache_handle *cache, pcache_cache_counts *out);
 /* The tag is UTF-8. */
 uint32_t pcache_request_new(pcache_handle *cache, const uint8_t *key, size_t key_len,
                             const uint8_t *tag, size_t tag_len, uint64_t *request);
+/* The same for a request that cannot use the fills with these tokens, numbers to which the caller gives a meaning: it waits no longer
+ * for one that publishes such a token. */
+uint32_t pcache_request_new_with_unusable(pcache_handle *cache, const uint8_t *key, size_t key_len, const uint8_t *tag, size_t tag_len,
+                                          const uint64_t *tokens, size_t count, uint64_t *request);
 uint32_t pcache_request_end(pcache_handle *cache, uint64_t request);
 uint32_t pcache_request_phase(pcache_handle *cache, uint64_t request, uint32_t *phase);
 /* What was found stays with the request until it is taken or passed. */
@@ -409,6 +413,14 @@ uint32_t pcache_request_serve_updating(pcache_handle *cache, uint64_t request);
 uint32_t pcache_request_vary(pcache_handle *cache, uint64_t request, const uint8_t *variance,
                              size_t variance_len);
 uint32_t pcache_request_begin(pcache_handle *cache, uint64_t request);
+/* How many bytes the body that is filled, and the text of its head (the second of pcache_meta_write), have at most. Nothing is refused by
+ * them: who sets them counts each piece before it is written, and asks of the head once the write has begun; `within` 0, or `exceeds` 1,
+ * says to disable the request for PCACHE_RESPONSE_TOO_LARGE. Setting the body's limit counts from 0 again; without a limit each is within
+ * it. PCACHE_WRONG_CALL of the first two if the request is disabled, of the third if it was as one that was never enabled. */
+uint32_t pcache_request_limit_body(pcache_handle *cache, uint64_t request, size_t most);
+uint32_t pcache_request_limit_head(pcache_handle *cache, uint64_t request, size_t most);
+uint32_t pcache_request_count_body(pcache_handle *cache, uint64_t request, size_t count, uint32_t *within);
+uint32_t pcache_request_exceeds_head(pcache_handle *cache, uint64_t request, uint32_t *exceeds);
 uint32_t pcache_request_write(pcache_handle *cache, uint64_t request, const uint8_t *bytes,
                               size_t bytes_len, uint32_t eof);
 /* `stored` is what the entry weighs: the bytes of the body, or all that is kept for it, as the limit of the cache counts.
@@ -438,6 +450,13 @@ uint32_t pcache_request_wait(pcache_handle *cache, uint64_t request, uint64_t no
 /* At most so long a request waits for locks, over all its waits: set it before the look-up. PCACHE_WRONG_CALL if it holds a lock, or
  * fills the key. Then a wait ends by PCACHE_WAS_WAIT_TIMEOUT. */
 uint32_t pcache_request_limit_waits(pcache_handle *cache, uint64_t request, uint64_t most_millis);
+/* How long it waited for locks, over all its waits that ended. PCACHE_NONE if none ended. */
+uint32_t pcache_request_waited(pcache_handle *cache, uint64_t request, uint64_t *secs, uint32_t *nanos);
+/* Of the request with the permit: who waits for it, and cannot use a fill with one of these tokens, waits no longer. They stand in place
+ * of those that it published before; none take these back. PCACHE_NONE if the request does not hold the permit. */
+uint32_t pcache_request_publish(pcache_handle *cache, uint64_t request, const uint64_t *tokens, size_t count);
+/* The token for which the request's last wait that ended by PCACHE_WAS_ABANDONED was abandoned. PCACHE_NONE if none was. */
+uint32_t pcache_request_abandoned(pcache_handle *cache, uint64_t request, uint64_t *token);
 /* PCACHE_NONE if the request holds nothing. */
 uint32_t pcache_request_release(pcache_handle *cache, uint64_t request, uint32_t reason);
 /* The permit goes to another request of the same cache and for the same key (keys are not compared), which lets go of a lock that it

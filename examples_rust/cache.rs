@@ -23,6 +23,7 @@ fn number_of_end(end: Option<WaitEnd>) -> u32 {
         None => 0,
         Some(WaitEnd::Done) => 1,
         Some(WaitEnd::WaitTimeout) => 4,
+        Some(WaitEnd::Abandoned) => 7,
         Some(_) => 9,
     }
 }
@@ -220,7 +221,10 @@ fn served_on(cache: &Cache) -> Result<(), Error> {
     print!("held {} and {}, ", number_of(renewing.held()?), number_of(serving.held()?));
     assert_eq!(serving.limit_waits(Duration::from_millis(500)), Err(Error::WrongCall));
     let later = Moment { nanos: 500_000_000, ..NOW };
-    print!("wait {} and {}, ", number_of_end(serving.wait(NOW)?), number_of_end(serving.wait(later)?));
+    print!("wait {} and {}", number_of_end(serving.wait(NOW)?), number_of_end(serving.wait(later)?));
+    assert_eq!(renewing.waited()?, None);
+    let waited = serving.waited()?.unwrap_or_default();
+    print!(" after {}.{:09} s, ", waited.as_secs(), waited.subsec_nanos());
     serving.serve_updating()?;
     print!("phase {} ", serving.phase()? as u32);
     read_once(&mut serving)?;
@@ -263,6 +267,41 @@ fn handed_on(cache: &Cache) -> Result<(), Error> {
     Ok(())
 }
 
+/// A request that cannot use a fill waits no longer once the one that fills it says which it is. Another one waits on.
+fn published(cache: &Cache) -> Result<(), Error> {
+    let mut writer = cache.request(b"hh", "1")?;
+    let mut other = cache.request(b"hh", "1")?;
+    let mut picky = cache.request_with_unusable(b"hh", "1", &[206, 501])?;
+    assert_eq!(writer.look(NOW)?, Looked::Permit);
+    assert_eq!((other.look(NOW)?, picky.look(NOW)?), (Looked::Waits, Looked::Waits));
+    assert_eq!(picky.publish(&[501]), Err(Error::Nothing));
+    print!("wait {}, ", number_of_end(picky.wait(NOW)?));
+    assert_eq!(picky.abandoned()?, None);
+    writer.publish(&[501])?;
+    print!("published: wait {}", number_of_end(other.wait(NOW)?));
+    let outcome = number_of_end(picky.wait(NOW)?);
+    println!(" and {outcome} for {} held {}", picky.abandoned()?.unwrap_or(0), number_of(picky.held()?));
+    Ok(())
+}
+
+/// A response that is too large is not stored, as its request finds while it comes.
+fn too_large(cache: &Cache) -> Result<(), Error> {
+    let mut request = cache.request(b"hh", "1")?;
+    request.limit_body(4)?;
+    request.limit_head(10)?;
+    assert_eq!(request.look(NOW)?, Looked::Permit);
+    print!("head {} ", u32::from(request.exceeds_head()?));
+    let mut fill = begin(&mut request)?;
+    print!("then {}, ", u32::from(fill.exceeds_head()?));
+    print!("body {} ", u32::from(fill.count_body(4)?));
+    print!("then {}, ", u32::from(fill.count_body(1)?));
+    request.disable(Reason::ResponseTooLarge)?;
+    assert_eq!(request.limit_body(4), Err(Error::WrongCall));
+    assert_eq!(request.limit_head(4), Err(Error::WrongCall));
+    drop(request);
+    hit(cache, "hh")
+}
+
 /// What may not be called is refused.
 fn refused(cache: &Cache) -> Result<(), Error> {
     let mut request = cache.request(b"aa", "1")?;
@@ -296,6 +335,8 @@ fn main() -> Result<(), Error> {
     variants(&cache)?;
     served_on(&cache)?;
     handed_on(&cache)?;
+    published(&cache)?;
+    too_large(&cache)?;
     refused(&cache)?;
     assert_eq!(cache.request(b"dd", "1")?.look(NOW)?, Looked::Permit);
     Ok(())

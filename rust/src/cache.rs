@@ -158,6 +158,24 @@ impl Cache {
         Ok(Request::new(self.clone(), place, number))
     }
 
+    /// A request for a key that cannot use the fills with these tokens, numbers to which the caller gives a meaning: it stops waiting
+    /// for a request that publishes one of them ([`Request::publish`]).
+    ///
+    /// # Errors
+    /// As of [`Cache::request`].
+    pub fn request_with_unusable(&self, key: &[u8], tag: &str, tokens: &[u64]) -> Result<Request, Error> {
+        let mut number = 0;
+        let place = self.place(key);
+        let (key_len, tag_len, count) = (key.len(), tag.len(), tokens.len());
+        let (key, tag, tokens) = (key.as_ptr(), tag.as_ptr(), tokens.as_ptr());
+        // SAFETY: the slices hold what they say for the call, and the handle is this call's while it is locked.
+        done(unsafe {
+            let mut part = self.0[place].lock();
+            raw::pcache_request_new_with_unusable(part.raw(), key, key_len, tag, tag_len, tokens, count, &mut number)
+        })?;
+        Ok(Request::new(self.clone(), place, number))
+    }
+
     /// What it has. The parts are asked one after the other, so calls that are made meanwhile may be in some of the sums.
     ///
     /// # Errors

@@ -1,6 +1,6 @@
 //! What HTTP's rules of caching decide of a request and of its response (RFC 9111).
 
-use crate::error::done;
+use crate::error::{done, if_any};
 use crate::{raw, Error, Handle, Head, Meta, Moment};
 
 /// What a decision goes by besides heads.
@@ -243,11 +243,8 @@ impl Asked {
         let (mut none, mut out) = (Handle::new(), raw::PcacheOutcome::default());
         let original = original.map_or(&mut none.0, |it| &mut it.0 .0);
         // SAFETY: three handles, each of its own.
-        match done(unsafe { raw::pcache_decide_failed(&terms.raw(), &mut self.0 .0, &mut meta.0 .0, original, &mut out) }) {
-            Ok(()) => Ok(Some((answer_of(out.answer), out.age))),
-            Err(Error::Nothing) => Ok(None),
-            Err(error) => Err(error),
-        }
+        let given = done(unsafe { raw::pcache_decide_failed(&terms.raw(), &mut self.0 .0, &mut meta.0 .0, original, &mut out) });
+        if_any(given.map(|()| (answer_of(out.answer), out.age)))
     }
 }
 

@@ -71,6 +71,15 @@ impl fmt::Display for Error {
 
 impl std::error::Error for Error {}
 
+/// What a call gave, if there was something: that there is nothing is no error then.
+pub(crate) fn if_any<T>(given: Result<T, Error>) -> Result<Option<T>, Error> {
+    match given {
+        Ok(it) => Ok(Some(it)),
+        Err(Error::Nothing) => Ok(None),
+        Err(error) => Err(error),
+    }
+}
+
 pub(crate) fn done(code: u32) -> Result<(), Error> {
     if code == raw::OK {
         Ok(())

@@ -130,11 +130,8 @@ impl Variance {
     pub fn finish(mut self) -> Result<Option<Hash>, Error> {
         let mut out = [0; 16];
         // SAFETY: the buffer has 16 bytes.
-        match error::done(unsafe { raw::pcache_variance_finish(&mut self.0 .0, out.as_mut_ptr(), 16) }) {
-            Ok(()) => Ok(Some(out)),
-            Err(Error::Nothing) => Ok(None),
-            Err(error) => Err(error),
-        }
+        let given = error::done(unsafe { raw::pcache_variance_finish(&mut self.0 .0, out.as_mut_ptr(), 16) });
+        error::if_any(given.map(|()| out))
     }
 }
 

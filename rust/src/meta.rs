@@ -1,6 +1,6 @@
 //! Heads of responses, what their Cache-Control says, and metas of stored responses.
 
-use crate::error::done;
+use crate::error::{done, if_any};
 use crate::{raw, Error, Handle, Hash};
 use std::time::{Duration, SystemTime, UNIX_EPOCH};
 
@@ -86,11 +86,8 @@ impl Head {
     pub fn read(bytes: &[u8]) -> Result<Option<(Head, usize)>, Error> {
         let (mut handle, mut taken) = (Handle::new(), 0);
         // SAFETY: the handle has nothing, and the slice holds what it says for the call.
-        match done(unsafe { raw::pcache_head_read(&mut handle.0, bytes.as_ptr(), bytes.len(), &mut taken) }) {
-            Ok(()) => Ok(Some((Head(handle), taken))),
-            Err(Error::Nothing) => Ok(None),
-            Err(error) => Err(error),
-        }
+        let given = done(unsafe { raw::pcache_head_read(&mut handle.0, bytes.as_ptr(), bytes.len(), &mut taken) });
+        if_any(given.map(|()| (Head(handle), taken)))
     }
 
     /// Adds a field beside those of the same name.
@@ -159,13 +156,10 @@ impl Head {
         let mut meta = Handle::new();
         let head = &mut self.0 .0;
         // SAFETY: the handle of the meta has nothing, and the head is another.
-        match done(unsafe {
+        let given = done(unsafe {
             raw::pcache_resp_cacheable(&mut meta.0, head, u32::from(authorized), windows.0, windows.1, now.secs, now.nanos)
-        }) {
-            Ok(()) => Ok(Some(Meta(meta))),
-            Err(Error::Nothing) => Ok(None),
-            Err(error) => Err(error),
-        }
+        });
+        if_any(given.map(|()| Meta(meta)))
     }
 }
 
@@ -265,11 +259,8 @@ impl Meta {
     pub fn variance(&mut self) -> Result<Option<Hash>, Error> {
         let mut out = [0; 16];
         // SAFETY: the buffer has the length that is said.
-        match done(unsafe { raw::pcache_meta_variance(&mut self.0 .0, out.as_mut_ptr(), out.len()) }) {
-            Ok(()) => Ok(Some(out)),
-            Err(Error::Nothing) => Ok(None),
-            Err(error) => Err(error),
-        }
+        let given = done(unsafe { raw::pcache_meta_variance(&mut self.0 .0, out.as_mut_ptr(), out.len()) });
+        if_any(given.map(|()| out))
     }
 
     /// Sets that. A meta that renews a stored one has to have its variance: else that is found as another variant from then on.
@@ -431,11 +422,7 @@ fn value_in(handle: &mut Handle, name: &str, index: usize) -> Result<Option<Vec<
     let read = texts(256, 0, |out, _, len, _| unsafe {
         raw::pcache_head_value(&mut handle.0, name.as_ptr(), name.len(), index, out.as_mut_ptr(), out.len(), len)
     });
-    match read {
-        Ok((value, _)) => Ok(Some(value)),
-        Err(Error::Nothing) => Ok(None),
-        Err(error) => Err(error),
-    }
+    Ok(if_any(read)?.map(|(value, _)| value))
 }
 
 fn field_in(handle: &mut Handle, index: usize) -> Result<Option<(String, Vec<u8>)>, Error> {
@@ -443,11 +430,10 @@ fn field_in(handle: &mut Handle, index: usize) -> Result<Option<(String, Vec<u8>
         let (one, two) = (name.as_mut_ptr(), value.as_mut_ptr());
         raw::pcache_head_field(&mut handle.0, index, one, name.len(), two, value.len(), first, second)
     });
-    match read {
-        Ok((name, value)) => Ok(Some((String::from_utf8(name).map_err(|_| Error::Unreadable)?, value))),
-        Err(Error::Nothing) => Ok(None),
-        Err(error) => Err(error),
-    }
+    let Some((name, value)) = if_any(read)? else {
+        return Ok(None);
+    };
+    Ok(Some((String::from_utf8(name).map_err(|_| Error::Unreadable)?, value)))
 }
 
 /// Two texts that a call writes to two buffers, whose lengths it says: with more room, if there was too little.

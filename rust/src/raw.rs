@@ -349,14 +349,17 @@ extern "C" {
         internal_len: *mut usize,
         header_len: *mut usize,
     ) -> u32;
+    pub fn pcache_request_abandoned(cache: *mut PcacheHandle, request: u64, token: *mut u64) -> u32;
     pub fn pcache_request_begin(cache: *mut PcacheHandle, request: u64) -> u32;
     pub fn pcache_request_body_length(
         cache: *mut PcacheHandle,
         request: u64,
         len: *mut usize,
     ) -> u32;
+    pub fn pcache_request_count_body(cache: *mut PcacheHandle, request: u64, count: usize, within: *mut u32) -> u32;
     pub fn pcache_request_disable(cache: *mut PcacheHandle, request: u64, reason: u32) -> u32;
     pub fn pcache_request_end(cache: *mut PcacheHandle, request: u64) -> u32;
+    pub fn pcache_request_exceeds_head(cache: *mut PcacheHandle, request: u64, exceeds: *mut u32) -> u32;
     pub fn pcache_request_expire(
         cache: *mut PcacheHandle,
         request: u64,
@@ -373,6 +376,8 @@ extern "C" {
     pub fn pcache_request_finish_hit(cache: *mut PcacheHandle, request: u64) -> u32;
     pub fn pcache_request_hand_permit(cache: *mut PcacheHandle, request: u64, to: u64) -> u32;
     pub fn pcache_request_held(cache: *mut PcacheHandle, request: u64, held: *mut u32) -> u32;
+    pub fn pcache_request_limit_body(cache: *mut PcacheHandle, request: u64, most: usize) -> u32;
+    pub fn pcache_request_limit_head(cache: *mut PcacheHandle, request: u64, most: usize) -> u32;
     pub fn pcache_request_limit_waits(cache: *mut PcacheHandle, request: u64, most_millis: u64) -> u32;
     pub fn pcache_request_look(
         cache: *mut PcacheHandle,
@@ -402,8 +407,24 @@ extern "C" {
         tag_len: usize,
         request: *mut u64,
     ) -> u32;
+    pub fn pcache_request_new_with_unusable(
+        cache: *mut PcacheHandle,
+        key: *const u8,
+        key_len: usize,
+        tag: *const u8,
+        tag_len: usize,
+        tokens: *const u64,
+        count: usize,
+        request: *mut u64,
+    ) -> u32;
     pub fn pcache_request_pass(cache: *mut PcacheHandle, request: u64) -> u32;
     pub fn pcache_request_phase(cache: *mut PcacheHandle, request: u64, phase: *mut u32) -> u32;
+    pub fn pcache_request_publish(
+        cache: *mut PcacheHandle,
+        request: u64,
+        tokens: *const u64,
+        count: usize,
+    ) -> u32;
     pub fn pcache_request_purge(cache: *mut PcacheHandle, request: u64, was: *mut u32) -> u32;
     pub fn pcache_request_read(
         cache: *mut PcacheHandle,
@@ -465,6 +486,7 @@ extern "C" {
         now_nanos: u32,
         outcome: *mut u32,
     ) -> u32;
+    pub fn pcache_request_waited(cache: *mut PcacheHandle, request: u64, secs: *mut u64, nanos: *mut u32) -> u32;
     pub fn pcache_request_write(
         cache: *mut PcacheHandle,
         request: u64,

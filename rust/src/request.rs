@@ -1,7 +1,7 @@
 //! A request of a cache, what it found, and what it fills.
 
 use crate::cache::{Cache, Part};
-use crate::error::done;
+use crate::error::{done, if_any};
 use crate::{raw, Error, Handle, Hash, Head, Meta, Moment};
 use std::ops::Deref;
 use std::sync::PoisonError;
@@ -117,7 +117,7 @@ pub enum WaitEnd {
     AgeTimeout,
     /// The response is not to be stored: pass, that is ask the origin, and store nothing.
     GiveUp,
-    /// What was filled is of no use to this request: pass.
+    /// What is filled is of no use to this request, as its token says ([`Request::abandoned`]): pass.
     Abandoned,
 }
 
@@ -388,6 +388,45 @@ impl Request {
         Ok(Fill { request: self })
     }
 
+    /// Sets how many bytes the body that is filled has at most, and counts none so far. Nothing is refused by it: who sets it counts
+    /// each piece before it is written ([`Request::count_body`]).
+    ///
+    /// # Errors
+    /// [`Error::WrongCall`] if it is disabled.
+    pub fn limit_body(&mut self, most: usize) -> Result<(), Error> {
+        self.call(|cache, request| unsafe { raw::pcache_request_limit_body(cache, request, most) })
+    }
+
+    /// Counts so many bytes more of the body, and says whether those so far are within the limit. If not, the request is to be disabled
+    /// for [`Reason::ResponseTooLarge`]. Without a limit they are.
+    ///
+    /// # Errors
+    /// None of this crate's making.
+    pub fn count_body(&mut self, count: usize) -> Result<bool, Error> {
+        let mut within = 0;
+        self.call(|cache, request| unsafe { raw::pcache_request_count_body(cache, request, count, &mut within) })?;
+        Ok(within != 0)
+    }
+
+    /// Sets how many bytes the head of the response that is filled has at most, as the text that is stored. Nothing is refused by it:
+    /// who sets it asks once the write has begun ([`Request::exceeds_head`]).
+    ///
+    /// # Errors
+    /// [`Error::WrongCall`] if it is disabled.
+    pub fn limit_head(&mut self, most: usize) -> Result<(), Error> {
+        self.call(|cache, request| unsafe { raw::pcache_request_limit_head(cache, request, most) })
+    }
+
+    /// Whether the head that its write stores is longer than the limit. Without a limit, and before the write begins, it is not.
+    ///
+    /// # Errors
+    /// None of this crate's making.
+    pub fn exceeds_head(&mut self) -> Result<bool, Error> {
+        let mut exceeds = 0;
+        self.call(|cache, request| unsafe { raw::pcache_request_exceeds_head(cache, request, &mut exceeds) })?;
+        Ok(exceeds != 0)
+    }
+
     /// Serves a stale body on, of which the origin said that it is good, with this meta's moments, head and variance ([`Meta::vary`]).
     ///
     /// # Errors
@@ -455,11 +494,7 @@ impl Request {
     /// None of this crate's making.
     pub fn body_length(&mut self) -> Result<Option<usize>, Error> {
         let mut len = 0;
-        match self.call(|cache, request| unsafe { raw::pcache_request_body_length(cache, request, &mut len) }) {
-            Ok(()) => Ok(Some(len)),
-            Err(Error::Nothing) => Ok(None),
-            Err(error) => Err(error),
-        }
+        if_any(self.call(|cache, request| unsafe { raw::pcache_request_body_length(cache, request, &mut len) }).map(|()| len))
     }
 
     /// Reads a complete body again from `start` to before `end`, or to its end.
@@ -503,6 +538,37 @@ impl Request {
     /// [`Error::WrongCall`] without a read lock.
     pub fn wait_until(&mut self, deadline: Instant) -> Result<Option<WaitEnd>, Error> {
         self.until(deadline, |cache, request| wait_of(cache, request, Moment::now()))
+    }
+
+    /// How long it waited for locks, over all its waits that ended, if one did.
+    ///
+    /// # Errors
+    /// None of this crate's making.
+    pub fn waited(&mut self) -> Result<Option<Duration>, Error> {
+        let (mut secs, mut nanos) = (0, 0);
+        let given = self.call(|cache, request| unsafe { raw::pcache_request_waited(cache, request, &mut secs, &mut nanos) });
+        if_any(given.map(|()| Duration::new(secs, nanos)))
+    }
+
+    /// Publishes what was found out about the fill, as tokens: numbers to which the caller gives a meaning. Who waits for this request,
+    /// and cannot use a fill with one of them ([`Cache::request_with_unusable`]), waits no longer. They stand in place of those that it
+    /// published before.
+    ///
+    /// # Errors
+    /// [`Error::Nothing`] if it does not hold the permit, [`Error::NoMemory`].
+    pub fn publish(&mut self, tokens: &[u64]) -> Result<(), Error> {
+        self.change(|cache, request| unsafe {
+            raw::pcache_request_publish(cache, request, tokens.as_ptr(), tokens.len())
+        })
+    }
+
+    /// The token for which its last wait that ended by [`WaitEnd::Abandoned`] was abandoned, if one was.
+    ///
+    /// # Errors
+    /// None of this crate's making.
+    pub fn abandoned(&mut self) -> Result<Option<u64>, Error> {
+        let mut token = 0;
+        if_any(self.call(|cache, request| unsafe { raw::pcache_request_abandoned(cache, request, &mut token) }).map(|()| token))
     }
 
     /// Gives the permit back, with what the reason tells those who wait.
@@ -614,6 +680,22 @@ impl Fill<'_> {
             raw::pcache_request_finish(cache, request, &mut weight, &mut evicted)
         })?;
         Ok(Stored { weight, evicted })
+    }
+
+    /// As [`Request::count_body`], for a piece that is about to be written.
+    ///
+    /// # Errors
+    /// None of this crate's making.
+    pub fn count_body(&mut self, count: usize) -> Result<bool, Error> {
+        self.request.count_body(count)
+    }
+
+    /// As [`Request::exceeds_head`].
+    ///
+    /// # Errors
+    /// None of this crate's making.
+    pub fn exceeds_head(&mut self) -> Result<bool, Error> {
+        self.request.exceeds_head()
     }
 
     fn add(&mut self, bytes: &[u8], eof: bool) -> Result<(), Error> {

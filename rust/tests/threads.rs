@@ -62,6 +62,24 @@ fn a_permit_is_not_handed_to_another_cache() -> Result<(), Error> {
 }
 
 #[test]
+fn a_publication_wakes_who_cannot_use_the_fill() -> Result<(), Error> {
+    let cache = Cache::new(&Options::default())?;
+    let mut writer = cache.request(b"key", "")?;
+    let mut picky = cache.request_with_unusable(b"key", "", &[1, 2])?;
+    assert_eq!(writer.look(Moment::now())?, Looked::Permit);
+    assert_eq!(picky.look(Moment::now())?, Looked::Waits);
+    writer.publish(&[3])?;
+    let waiting = thread::spawn(move || -> Result<_, Error> {
+        let ended = picky.wait_until(soon())?;
+        Ok((ended, picky.abandoned()?))
+    });
+    writer.publish(&[2, 3])?;
+    let ended = waiting.join().map_err(|_| Error::Nothing)??;
+    assert_eq!(ended, (Some(WaitEnd::Abandoned), Some(2)));
+    Ok(())
+}
+
+#[test]
 fn eight_threads_make_a_million_calls() -> Result<(), Error> {
     const KEYS: usize = 64;
     const BODY: usize = 3000;

@@ -1,6 +1,7 @@
 pub mod Changed
 pub mod Copies
 pub mod Given
+pub mod Left
 pub mod Lent
 pub mod Lines
 pub mod ObjectSteps

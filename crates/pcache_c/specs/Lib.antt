@@ -2,6 +2,7 @@ pub mod Caches
 pub mod Codes
 pub mod Decisions
 pub mod Fields
+pub mod Fills
 pub mod Handle
 pub mod Handles
 pub mod Handing
@@ -13,5 +14,6 @@ pub mod Reached
 pub mod Received
 pub mod Requests
 pub mod Seats
+pub mod Sizes
 pub mod Taken
 pub mod Values

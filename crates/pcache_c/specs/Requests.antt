@@ -1,5 +1,5 @@
 -- What the calls on a request do: c is the cache before and d after, o the request before and p after (own).
-use Rattle.std.specs.Prelude.{◌≡◌, ◌⊎◌, ℕ, List, [], ◌∷◌, ◌++◌, ◌↔◌, Bool, true, false, Option, None, Some, Result, Ok, Err, IfSome, IsSome, IsTrue, ⊤, cond, drop, is_some, length, min, option_map, take}
+use Rattle.std.specs.Prelude.{◌≡◌, ◌⊎◌, ◌/◌, ◌%◌, ℕ, List, [], ◌∷◌, ◌++◌, ◌↔◌, Bool, true, false, Option, None, Some, Result, Ok, Err, IfSome, IsSome, IsTrue, ⊤, cond, drop, is_some, length, min, option_map, take}
 use Rattle.std.specs.Int.{from_bool}
 use Rattle.std.specs.Option.{option_and_then}
 use Rattle.pcache_base.specs.Key.{slot}
@@ -23,7 +23,7 @@ use Rattle.pcache_request.specs.NoBody.{LeavesNone}
 use Rattle.pcache_request.specs.Phases.{IsDisabled, IsFilling, IsOn, IsStale, MayFinishHit, MayLookUp, MayMiss, MayPurge}
 use Rattle.pcache_request.specs.Releasing.{MayDisable, MayRelease, disabled_for, status_for}
 use Rattle.pcache_request.specs.Renewals.{renewed, renewed_by}
-use Rattle.pcache_request.specs.Requests.{HoldsNothing, MayTakeMeta, MayWrite, Request, asks_for_hit, begin_followed, begun_for, dropped_by, found_for, found_row, is_removed_by, left_by, length_by, missed, settled, store_found, store_writing, table_found, tracked_gone_for, whole_by, with_meta, without_reader, writing}
+use Rattle.pcache_request.specs.Requests.{HoldsNothing, MayTakeMeta, MayWrite, Request, asks_for_hit, begin_followed, begun_for, counts_found, dropped_by, found_for, found_row, is_removed_by, left_by, length_by, missed, settled, store_found, store_writing, table_found, tracked_gone_for, whole_by, with_meta, without_reader, writing}
 use Rattle.pcache_request.specs.Stale.{MayRevalidate, uncacheable, updating}
 use Rattle.pcache_request.specs.Variants.{asks_unseen, hides_for, looked_for, looks_for_variance, same_variance, searched, seen_for, table_looked_for, table_varied, varied}
 use Rattle.pcache_request.specs.LockPasts.{end_deeds}
@@ -107,18 +107,19 @@ pub record TakesPair (status : HitStatus) (now : ℕ) (m : Meta) (h : Reader) (c
   pub store : d.store ≡ store_found status h o.request.cache c.store
   pub table : d.locks ≡ table_found status now o.request.cache c.locks
   pub tracked : d.tracked ≡ c.tracked
-  pub rest : (d.limits ≡ c.limits) × (d.evicted ≡ c.evicted)
+  pub rest : (d.weighing ≡ c.weighing) × (d.limits ≡ c.limits) × (d.evicted ≡ c.evicted)
   pub none : p.found ≡ None
   pub piece : p.piece ≡ []
 
 pub record RefusesPair (status : HitStatus) (h : Reader) (c d : Parts) (o p : Open) (e : ErrorType) : Type 0 where
   pub kind : MayFailLock c.locks e
   pub numbers : e ≡ NumbersExhausted → IsTrue (asks_for_hit status o.request.cache)
+  pub something : IsTrue (counts_found status h o.request.cache) ⊎ IsTrue (asks_for_hit status o.request.cache)
   pub request : p.request.cache ≡ o.request.cache
   pub store : d.store ≡ left c.store h
   pub table : d.locks ≡ c.locks
   pub tracked : d.tracked ≡ c.tracked
-  pub rest : (d.limits ≡ c.limits) × (d.evicted ≡ c.evicted)
+  pub rest : (d.weighing ≡ c.weighing) × (d.limits ≡ c.limits) × (d.evicted ≡ c.evicted)
   pub none : p.found ≡ None
   pub piece : (p.piece ≡ o.piece) × (p.next_byte ≡ o.next_byte)
 
@@ -481,6 +482,15 @@ waits_at_most nanos r = record r { uses = lock_used true r.uses; wait_timeout = 
 abbrev pub LimitsWaits : ℕ → Open → Open → ℕ → Type 0
 LimitsWaits nanos o p code = Outcome (MaySetLock o.request.cache) ((p.request.cache ≡ waits_at_most nanos o.request.cache) × KeepsFound o p) ⊥ (λ e. ⊥) (p ≡ o) code
 
+-- how long the request waited for locks, over all its waits that ended, is said in seconds and nanoseconds, if one ended
+
+abbrev pub SaysTime : Option ℕ → ℕ → ℕ → ℕ → Type 0
+SaysTime None secs nanos code = code ≡ nothing
+SaysTime (Some n) secs nanos code = (code ≡ ok) × (secs ≡ n / 1000000000) × (nanos ≡ n % 1000000000)
+
+abbrev pub SaysWaited : Parts → Parts → Open → Open → ℕ → ℕ → ℕ → Type 0
+SaysWaited c d o p secs nanos code = IsUnchanged c d o p × SaysTime o.request.cache.digest.waits secs nanos code
+
 -- what is held is released
 
 pub record Released (why : NoCacheReason) (c d : Parts) (o p : Open) : Type 0 where
@@ -505,7 +515,7 @@ pub record TurnedOff (why : NoCacheReason) (c d : Parts) (o p : Open) : Type 0 w
   pub held : HoldsNothing p.request.cache
   pub store : d.store ≡ left_by o.request.cache.reader (dropped_by o.request.cache.write (left_found (pair_found o) c.store))
   pub table : d.locks ≡ settled (status_for (λ text. GiveUp) why) o.request.cache.held c.locks
-  pub rest : (d.tracked ≡ c.tracked) × (d.limits ≡ c.limits) × (d.evicted ≡ c.evicted)
+  pub rest : (d.weighing ≡ c.weighing) × (d.tracked ≡ c.tracked) × (d.limits ≡ c.limits) × (d.evicted ≡ c.evicted)
   pub none : p.found ≡ None
   pub piece : p.piece ≡ []
 
@@ -521,7 +531,7 @@ pub record Purged (c d : Parts) (o p : Open) (was : ℕ) : Type 0 where
   pub says : was ≡ from_bool (is_removed_by (purge_outcome true c.store (slot_in o)))
   pub store : d.store ≡ purged_at c.store (slot_in o)
   pub tracked : d.tracked ≡ tracked_gone_for o.request.cache.uses.eviction o.request.cache.key (purge_outcome true c.store (slot_in o)) c.tracked
-  pub rest : (d.limits ≡ c.limits) × (d.evicted ≡ c.evicted) × (d.locks ≡ c.locks)
+  pub rest : (d.weighing ≡ c.weighing) × (d.limits ≡ c.limits) × (d.evicted ≡ c.evicted) × (d.locks ≡ c.locks)
   pub request : p.request.cache ≡ o.request.cache
   pub found : KeepsFound o p
 
@@ -529,7 +539,7 @@ pub record Expired (now : ℕ) (c d : Parts) (o p : Open) (was : ℕ) : Type 0 w
   pub says : was ≡ from_bool (is_removed_by (expire_outcome c.store (slot_in o)))
   pub store : d.store ≡ expired_at now c.store (slot_in o)
   pub tracked : d.tracked ≡ tracked_gone_for o.request.cache.uses.eviction o.request.cache.key (expire_outcome c.store (slot_in o)) c.tracked
-  pub rest : (d.limits ≡ c.limits) × (d.evicted ≡ c.evicted) × (d.locks ≡ c.locks)
+  pub rest : (d.weighing ≡ c.weighing) × (d.limits ≡ c.limits) × (d.evicted ≡ c.evicted) × (d.locks ≡ c.locks)
   pub request : p.request.cache ≡ o.request.cache
   pub found : KeepsFound o p
 
@@ -537,7 +547,7 @@ pub record RefusesRemoval (c d : Parts) (o p : Open) (e : ErrorType) : Type 0 wh
   pub kind : e ≡ OutOfMemory
   pub store : d.store ≡ c.store
   pub tracked : d.tracked ≡ c.tracked
-  pub rest : (d.limits ≡ c.limits) × (d.evicted ≡ c.evicted) × (d.locks ≡ c.locks)
+  pub rest : (d.weighing ≡ c.weighing) × (d.limits ≡ c.limits) × (d.evicted ≡ c.evicted) × (d.locks ≡ c.locks)
   pub request : p.request.cache ≡ o.request.cache
   pub found : KeepsFound o p
 

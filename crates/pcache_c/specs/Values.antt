@@ -1,5 +1,5 @@
 -- What the calls on values do: hashes, variances, heads and metas (own).
-use Rattle.std.specs.Prelude.{◌≡◌, ◌⊎◌, ◌↔◌, ◌+◌, ◌*◌, ◌≤◌, ◌/◌, ◌++◌, ℕ, Bool, List, [], Option, None, Some, codes, drop, length}
+use Rattle.std.specs.Prelude.{◌≡◌, ◌≢◌, ◌⊎◌, ◌↔◌, ◌≤◌, ◌/◌, ◌%◌, ◌++◌, ℕ, Bool, List, [], Option, None, Some, codes, drop, length}
 use Rattle.std.specs.FinMap.{empty, insert, len}
 use Rattle.std.specs.Int.{from_bool}
 use Rattle.http.specs.StatusCode.{IsStatusCode}
@@ -55,7 +55,7 @@ AddsTo name value old new code = OnText name code (new ≡ old) (Adds name value
 
 -- the hash of what was added, or that nothing was
 abbrev pub SaysVariance : Varied → List ℕ → List ℕ → ℕ → Type 0
-SaysVariance v old new code = ((code ≡ ok) × (new ≡ blake2b_128 (message v))) ⊎ ((code ≡ nothing) × (len v ≡ 0) × (new ≡ old))
+SaysVariance v old new code = ((code ≡ ok) × (len v ≢ 0) × (new ≡ blake2b_128 (message v))) ⊎ ((code ≡ nothing) × (len v ≡ 0) × (new ≡ old))
 
 -- its handle has nothing then
 abbrev pub EndsVariance : Option Object → Option Object → List ℕ → List ℕ → ℕ → Type 0
@@ -137,14 +137,15 @@ ReadsMeta internal header old new code = ((code ≡ no_memory) × IsSame old new
     ⊎ ((code ≡ unreadable) × ((m : Meta) → ¬ SpellsMeta internal header m) × IsSame old new)
     ⊎ ((m : Meta) × SpellsMeta internal header m × Fills (object.Meta m) old new code)
 
--- seconds and nanoseconds are a moment
-abbrev pub nanos_of : PcacheMoment → ℕ
-nanos_of m = m.secs * 1000000000 + m.nanos
+-- a moment is said: its whole seconds, and the nanoseconds past them
+pub record SaysMoment (t : ℕ) (out : PcacheMoment) : Type 0 where
+  pub secs : out.secs ≡ t / 1000000000
+  pub nanos : out.nanos ≡ t % 1000000000
 
 pub record SaysMeta (m : Meta) (out : PcacheMeta) : Type 0 where
-  pub created : nanos_of out.created ≡ m.created
-  pub updated : nanos_of out.updated ≡ m.updated
-  pub fresh : nanos_of out.fresh_until ≡ m.fresh_until
+  pub created : SaysMoment m.created out.created
+  pub updated : SaysMoment m.updated out.updated
+  pub fresh : SaysMoment m.fresh_until out.fresh_until
   pub revalidating : out.stale_while_revalidate_secs ≡ m.stale_while_revalidate_sec
   pub failing : out.stale_if_error_secs ≡ m.stale_if_error_sec
 
@@ -152,6 +153,8 @@ pub record SaysServable (m : Meta) (now : ℕ) (out : PcacheServable) : Type 0 w
   pub fresh : (out.fresh ≡ 1) ↔ (now ≤ m.fresh_until)
   pub revalidating : (out.while_revalidating ≡ 1) ↔ MayServeStale m.fresh_until m.stale_while_revalidate_sec now
   pub failing : (out.after_error ≡ 1) ↔ MayServeStale m.fresh_until m.stale_if_error_sec now
+  -- what is not 1 is 0
+  pub flags : (out.fresh ≤ 1) × (out.while_revalidating ≤ 1) × (out.after_error ≤ 1)
 
 -- a meta has a variance from then on, or none
 abbrev pub VariesMeta : Option (List ℕ) → Meta → Meta → ℕ → Type 0

@@ -1,6 +1,6 @@
 //! A cache with its requests: a store in memory, an eviction manager with one list, and a lock table.
 
-ghost use Rattle.std.specs.Prelude.{◌≡◌, ◌⊎◌, ◌*◌, IfErr, IfOk, IsUtf8, OnOk, Option};
+ghost use Rattle.std.specs.Prelude.{◌≡◌, ◌≢◌, ◌⊎◌, ◌*◌, IfErr, IfOk, IsUtf8, OnOk, Option};
 ghost use Rattle.pcache_base.specs.declared.reason.NoCacheReason.{NoCacheReason};
 ghost use Rattle.pcache_cache.specs.declared.weighing.Weighing.TheVariants.{Bodies, Entries};
 ghost use Rattle.pcache_c.specs.Caches.{CopiesMeta, MakesCache, SaysCounts, key_with};
@@ -167,7 +167,8 @@ pub extern "C" fn pcache_cache_totals(
     code
 }
 
-fn key_from(alloc: Global, key: &[u8], tag: &[u8]) -> Result<CacheKey, u32>
+/// A key of these bytes, for the user with this tag.
+pub(crate) fn key_from(alloc: Global, key: &[u8], tag: &[u8]) -> Result<CacheKey, u32>
     ensures key { IfOk result (λ k. k ≡ key_with key.now tag.now) }
     ensures text { OnOk result (IsUtf8 tag.now) }
     ensures refused { IfErr result (λ k.
@@ -269,8 +270,9 @@ pub extern "C" fn pcache_request_meta(
     request: u64,
     meta: &mut PcacheHandle,
 ) -> u32
-    ensures { OnRequest request cache.old cache.new result (λ c d o p.
+    ensures copies { OnRequest request cache.old cache.new result (λ c d o p.
         IsUnchanged c d o p × CopiesMeta (meta_shown o) meta.old meta.new result) }
+    ensures left { result ≢ 0 → IsSame meta.old meta.new }
 {
     let Some(mut object) = cache.take(alloc) else {
         return BAD_HANDLE;

@@ -1,5 +1,5 @@
 //! The calls on a request, for C.
-ghost use Rattle.std.specs.Prelude.{◌≡◌, ◌*◌, Option};
+ghost use Rattle.std.specs.Prelude.{◌≡◌, ◌≢◌, ◌*◌, Option};
 ghost use Rattle.pcache_base.specs.declared.reason.NoCacheReason.{NoCacheReason};
 ghost use Rattle.pcache_request.specs.declared.phase.HitStatus.{HitStatus};
 ghost use Rattle.pcache_c.specs.Codes.{OnGood, hash_at, is_flag, moment_at, nonempty, variance_at};
@@ -7,7 +7,7 @@ ghost use Rattle.pcache_c.specs.Handles.{IsSame, OnEmpty, OnHandle, object_of};
 ghost use Rattle.pcache_c.specs.Handing.{HandsPermit};
 ghost use Rattle.pcache_c.specs.Numbers.{IsNumber, reason_number, status_number};
 ghost use Rattle.pcache_c.specs.Reached.{OnRequest};
-ghost use Rattle.pcache_c.specs.Requests.{Adds, Begins, EndsHit, Expires, Finishes, LimitsWaits, Looks, LooksForVariant, Misses, Passes, Purges, Reads, Releases, SaysLength, Seeks, ServesUpdating, Takes, TurnsOff, Varies, Views, Waits};
+ghost use Rattle.pcache_c.specs.Requests.{Adds, Begins, EndsHit, Expires, Finishes, LimitsWaits, Looks, LooksForVariant, Misses, Passes, Purges, Reads, Releases, SaysLength, SaysWaited, Seeks, ServesUpdating, Takes, TurnsOff, Varies, Views, Waits};
 
 use crate::codes::{BAD_HANDLE, BAD_VALUE};
 use crate::handle::PcacheHandle;
@@ -232,9 +232,10 @@ pub extern "C" fn pcache_request_read(
     len: &mut usize,
     more: &mut u32,
 ) -> u32
-    ensures { OnGood (nonempty out.old) result (IsSame cache.old cache.new × (out.new ≡ out.old))
+    ensures reads { OnGood (nonempty out.old) result (IsSame cache.old cache.new)
         (λ room. OnRequest request cache.old cache.new result (λ c d o p.
         Reads room out.new len.new more.new c d o p result)) }
+    ensures left { result ≢ 0 → out.new ≡ out.old }
 {
     if out.is_empty() {
         return BAD_VALUE;
@@ -261,10 +262,10 @@ pub extern "C" fn pcache_request_view(
     len: &mut usize,
     more: &mut u32,
 ) -> u32
-    ensures { OnEmpty (object_of view.old) result
-        (IsSame cache.old cache.new × IsSame view.old view.new)
+    ensures views { OnEmpty (object_of view.old) result (IsSame cache.old cache.new)
         (OnRequest request cache.old cache.new result (λ c d o p.
         Views (object_of view.new) len.new more.new c d o p result)) }
+    ensures left { result ≢ 0 → IsSame view.old view.new }
 {
     if view.is_live() {
         return BAD_HANDLE;
@@ -377,6 +378,26 @@ pub extern "C" fn pcache_request_limit_waits(
         return BAD_HANDLE;
     };
     let code = reached::limit_waits(&mut *object, request, most_millis);
+    cache.put(object);
+    code
+}
+
+/// How long a request waited for locks, over all its waits that ended, in seconds and nanoseconds. There is none before a wait ended.
+#[unsafe(no_mangle)]
+pub extern "C" fn pcache_request_waited(
+    alloc: Global,
+    cache: &mut PcacheHandle,
+    request: u64,
+    secs: &mut u64,
+    nanos: &mut u32,
+) -> u32
+    ensures { OnRequest request cache.old cache.new result (λ c d o p.
+        SaysWaited c d o p secs.new nanos.new result) }
+{
+    let Some(mut object) = cache.take(alloc) else {
+        return BAD_HANDLE;
+    };
+    let code = reached::waited(&mut *object, request, secs, nanos);
     cache.put(object);
     code
 }

@@ -39,8 +39,8 @@ fn hand_on(served: &mut Served, from: u64, to: u64) -> u32
     OK
 }
 
-// Whether a request holds the permit.
-fn holds_permit(giver: &Open) -> bool
+/// Whether a request holds the permit.
+pub(crate) fn holds_permit(giver: &Open) -> bool
     ensures { IsTrue result ↔ IsSome (permit_in giver.now.request.cache.held) }
 {
     matches!(giver.request.cache.held(), Some(Locked::Write(_)))

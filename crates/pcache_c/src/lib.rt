@@ -20,6 +20,7 @@
 //! - `seats`: the numbers of open requests; `served`: a cache with its requests as one object
 //! - `reached`: the way from a number to its request; `requests`: the calls themselves
 //! - `handed`: a permit that goes from one request to another
+//! - `fills`: the fills that a request cannot use, and what is published of one; `sizes`: the limits on a body and on a head
 
 mod asked;
 mod caches;
@@ -29,6 +30,7 @@ mod decided;
 mod decisions;
 mod entries;
 mod fields;
+mod fills;
 mod handed;
 mod handle;
 mod hashes;
@@ -42,4 +44,5 @@ mod received;
 mod requests;
 mod seats;
 mod served;
+mod sizes;
 mod taken;

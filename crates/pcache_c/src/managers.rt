@@ -1,5 +1,5 @@
 //! The eviction managers.
-ghost use Rattle.std.specs.Prelude.{◌≡◌, [], None, is_some, length, ⊤};
+ghost use Rattle.std.specs.Prelude.{◌≡◌, ◌≢◌, [], None, is_some, length, ⊤};
 ghost use Rattle.pcache_c.specs.Codes.{OnGood, code_in, hash_at, hashes_at, moment_at, watermark_at};
 ghost use Rattle.pcache_c.specs.Handles.{AsksOf, ChangesOf, IsSame, OnHandle, OnKind, Turns};
 ghost use Rattle.pcache_c.specs.Managers.{Accesses, Admits, HandsFirst, Increments, IsFileOf, Loads, LoadsInto, MakesList, MakesShards, OnEntry, Peeks, Removes, Saves, SaysTotals, Shows, WritesTag, as_manager, list_saved, managing, with_list, with_shards};
@@ -128,9 +128,11 @@ impl<M: EvictionManager> Managed<M> {
     fn next(&mut self, primary: &mut [u8], variance: &mut [u8], out: &mut PcacheEntry) -> u32
         requires primary { length primary.old ≡ 16 }
         requires variance { length variance.old ≡ 16 }
-        ensures { HandsFirst (managing M.tracked M.limits M.evicted self.old)
+        ensures hands { HandsFirst (managing M.tracked M.limits M.evicted self.old)
             (managing M.tracked M.limits M.evicted self.new) primary.new variance.new variance.old
             out.new result }
+        ensures left { result ≢ 0
+            → (primary.new ≡ primary.old) × (variance.new ≡ variance.old) }
     {
         let Some(entry) = self.waiting.pop_front() else {
             return NONE;
@@ -505,8 +507,9 @@ pub extern "C" fn pcache_manager_totals(
 fn next(object: &mut Object, primary: &mut [u8], variance: &mut [u8], out: &mut PcacheEntry) -> u32
     requires primary { length primary.old ≡ 16 }
     requires variance { length variance.old ≡ 16 }
-    ensures { Turns as_manager object.old object.new result (λ m n.
+    ensures hands { Turns as_manager object.old object.new result (λ m n.
         HandsFirst m n primary.new variance.new variance.old out.new result) }
+    ensures left { result ≢ 0 → (primary.new ≡ primary.old) × (variance.new ≡ variance.old) }
 {
     match object {
         Object::Simple(managed) => managed.next(primary, variance, out),
@@ -525,9 +528,11 @@ pub extern "C" fn pcache_manager_next(
     variance: &mut [u8],
     out: &mut PcacheEntry,
 ) -> u32
-    ensures { OnGood (hashes_at primary.old variance.old) result (IsSame manager.old manager.new)
+    ensures hands { OnGood (hashes_at primary.old variance.old) result
+        (IsSame manager.old manager.new)
         (λ room. ChangesOf as_manager manager.old manager.new result (λ m n.
         HandsFirst m n primary.new variance.new variance.old out.new result)) }
+    ensures left { result ≢ 0 → (primary.new ≡ primary.old) × (variance.new ≡ variance.old) }
 {
     if primary.len() != 16 || variance.len() != 16 {
         return BAD_VALUE;

@@ -3,7 +3,7 @@ ghost use Rattle.std.specs.Prelude.{◌≡◌, length};
 ghost use Rattle.pcache_c.specs.Codes.{OnGood, hash_at, moment_at, variance_at};
 ghost use Rattle.pcache_c.specs.Handles.{AsksOf, ChangesOf, IsSame, OnKind, Turns};
 ghost use Rattle.pcache_c.specs.Objects.{as_head, as_meta};
-ghost use Rattle.pcache_c.specs.Values.{AreWritten, MakesMeta, ReadsMeta, SavesMeta, SaysHash, SaysMeta, SaysServable, VariesMeta, meta_said, nanos_of};
+ghost use Rattle.pcache_c.specs.Values.{AreWritten, MakesMeta, ReadsMeta, SavesMeta, SaysHash, SaysMeta, SaysMoment, SaysServable, VariesMeta, meta_said};
 
 use crate::codes::{BAD_HANDLE, BAD_VALUE, NONE, OK, WRONG_KIND, code_of};
 use crate::handle::PcacheHandle;
@@ -34,7 +34,7 @@ pub struct PcacheMoment {
 
 impl PcacheMoment {
     fn of(moment: Moment) -> PcacheMoment
-        ensures { nanos_of result ≡ moment }
+        ensures { SaysMoment moment result }
     {
         PcacheMoment {
             secs: moment.secs(),

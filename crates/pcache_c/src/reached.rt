@@ -1,17 +1,19 @@
 //! The calls on a request, by its number in the cache of an object.
-ghost use Rattle.std.specs.Prelude.{◌≡◌, ◌*◌, None};
+ghost use Rattle.std.specs.Prelude.{◌≡◌, ◌≢◌, ◌*◌, None};
 ghost use Rattle.pcache_meta.specs.Header.{shown};
 ghost use Rattle.pcache_c.specs.Codes.{code_in};
+ghost use Rattle.pcache_c.specs.Fills.{Publishes, SaysAbandoned};
 ghost use Rattle.pcache_c.specs.Opening.{Ends, Opens};
 ghost use Rattle.pcache_c.specs.Reached.{OnNumber};
-ghost use Rattle.pcache_c.specs.Requests.{Adds, Begins, CopyOf, EndsHit, Expires, Finishes, IsUnchanged, LimitsWaits, Looks, LooksForVariant, Misses, Passes, Purges, Reads, Releases, Renews, SaysHeld, SaysLength, SaysPhase, Seeks, ServesOn, ServesUpdating, SetsMeta, Takes, TurnsOff, Varies, Views, Waits, meta_shown};
+ghost use Rattle.pcache_c.specs.Requests.{Adds, Begins, CopyOf, EndsHit, Expires, Finishes, IsUnchanged, LimitsWaits, Looks, LooksForVariant, Misses, Passes, Purges, Reads, Releases, Renews, SaysHeld, SaysLength, SaysPhase, SaysWaited, Seeks, ServesOn, ServesUpdating, SetsMeta, Takes, TurnsOff, Varies, Views, Waits, meta_shown};
+ghost use Rattle.pcache_c.specs.Sizes.{CountsBody, LimitsBody, LimitsHead, SaysHeadIsTooLong};
 ghost use Rattle.pcache_c.specs.Handles.{object_of};
 
 use crate::codes::{BAD_HANDLE, OK, WRONG_KIND};
 use crate::handle::PcacheHandle;
 use crate::object::Object;
-use crate::requests;
 use crate::served::Served;
+use crate::{fills, requests, sizes};
 use pcache_base::key::{CacheKey, HashBinary};
 use pcache_base::moment::Moment;
 use pcache_base::reason::NoCacheReason;
@@ -273,8 +275,9 @@ pub(crate) fn read(
     len: &mut usize,
     more: &mut u32,
 ) -> u32
-    ensures { OnNumber number object.old object.new result (λ c d o p.
+    ensures reads { OnNumber number object.old object.new result (λ c d o p.
         Reads out.old out.new len.new more.new c d o p result) }
+    ensures left { result ≢ 0 → out.new ≡ out.old }
 {
     let Object::Cache(served) = object else {
         return WRONG_KIND;
@@ -296,8 +299,9 @@ pub(crate) fn view(
     more: &mut u32,
 ) -> u32
     requires { object_of view.old ≡ None }
-    ensures { OnNumber number object.old object.new result (λ c d o p.
+    ensures views { OnNumber number object.old object.new result (λ c d o p.
         Views (object_of view.new) len.new more.new c d o p result) }
+    ensures left { result ≢ 0 → object_of view.new ≡ None }
 {
     let Object::Cache(served) = object else {
         return WRONG_KIND;
@@ -377,6 +381,20 @@ pub(crate) fn limit_waits(object: &mut Object, number: u64, most_millis: u64) ->
     requests::limit_waits(request, most_millis)
 }
 
+/// How long the request waited.
+pub(crate) fn waited(object: &mut Object, number: u64, secs: &mut u64, nanos: &mut u32) -> u32
+    ensures { OnNumber number object.old object.new result (λ c d o p.
+        SaysWaited c d o p secs.new nanos.new result) }
+{
+    let Object::Cache(Served { cache: _, seats }) = object else {
+        return WRONG_KIND;
+    };
+    let Some(request) = seats.find(number) else {
+        return BAD_HANDLE;
+    };
+    requests::waited(request, secs, nanos)
+}
+
 /// Releases the permit.
 pub(crate) fn release(object: &mut Object, number: u64, reason: NoCacheReason) -> u32
     ensures { OnNumber number object.old object.new result (λ c d o p.
@@ -445,4 +463,89 @@ pub(crate) fn meta_of(object: &mut Object, number: u64) -> Result<CacheMeta, u32
         return Err(BAD_HANDLE);
     };
     requests::meta_of(request)
+}
+
+/// Publishes tokens of what was found out about the fill.
+pub(crate) fn publish(object: &mut Object, number: u64, tokens: &[u64]) -> u32
+    ensures { OnNumber number object.old object.new result (λ c d o p.
+        Publishes tokens.now c d o p result) }
+{
+    let Object::Cache(served) = object else {
+        return WRONG_KIND;
+    };
+    let Some(request) = served.seats.find(number) else {
+        return BAD_HANDLE;
+    };
+    fills::publish(&mut served.cache, request, tokens)
+}
+
+/// The token of the fill for which a wait was abandoned last.
+pub(crate) fn abandoned(object: &mut Object, number: u64, token: &mut u64) -> u32
+    ensures { OnNumber number object.old object.new result (λ c d o p.
+        SaysAbandoned c d o p token.new result) }
+{
+    let Object::Cache(Served { cache: _, seats }) = object else {
+        return WRONG_KIND;
+    };
+    let Some(request) = seats.find(number) else {
+        return BAD_HANDLE;
+    };
+    fills::abandoned(request, token)
+}
+
+/// Sets how many bytes a body has at most.
+pub(crate) fn limit_body(object: &mut Object, number: u64, most: usize) -> u32
+    ensures { OnNumber number object.old object.new result (λ c d o p.
+        (d ≡ c) × LimitsBody most o p result) }
+{
+    let Object::Cache(Served { cache: _, seats }) = object else {
+        return WRONG_KIND;
+    };
+    let Some(request) = seats.find(number) else {
+        return BAD_HANDLE;
+    };
+    sizes::limit_body(request, most)
+}
+
+/// Counts bytes of the body.
+pub(crate) fn count_body(object: &mut Object, number: u64, count: usize, within: &mut u32) -> u32
+    ensures { OnNumber number object.old object.new result (λ c d o p.
+        (d ≡ c) × CountsBody count within.new o p result) }
+{
+    let Object::Cache(Served { cache: _, seats }) = object else {
+        return WRONG_KIND;
+    };
+    let Some(request) = seats.find(number) else {
+        return BAD_HANDLE;
+    };
+    sizes::count_body(request, count, within)
+}
+
+/// Sets how many bytes a head has at most.
+pub(crate) fn limit_head(object: &mut Object, number: u64, most: usize) -> u32
+    ensures { OnNumber number object.old object.new result (λ c d o p.
+        (d ≡ c) × LimitsHead most o p result) }
+{
+    let Object::Cache(Served { cache: _, seats }) = object else {
+        return WRONG_KIND;
+    };
+    let Some(request) = seats.find(number) else {
+        return BAD_HANDLE;
+    };
+    sizes::limit_head(request, most)
+}
+
+/// Whether the head of the request's write is too long.
+pub(crate) fn exceeds_head(object: &mut Object, number: u64, out: &mut u32) -> u32
+    ensures { OnNumber number object.old object.new result (λ c d o p.
+        SaysHeadIsTooLong c d o p out.new result) }
+{
+    let Object::Cache(served) = object else {
+        return WRONG_KIND;
+    };
+    let Some(request) = served.seats.find(number) else {
+        return BAD_HANDLE;
+    };
+    *out = sizes::is_head_too_long(&served.cache, request);
+    OK
 }

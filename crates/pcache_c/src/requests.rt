@@ -1,7 +1,7 @@
 //! What the requests of a cache do. Each call tests what the call that it makes requires, and says by a code how it went.
 ghost use Rattle.std.specs.Prelude.{◌≡◌, ◌*◌, [], IfOk, None};
 ghost use Rattle.pcache_c.specs.Numbers.{IsNumber, held_number, outcome_number, phase_number, reason_number, status_number};
-ghost use Rattle.pcache_c.specs.Requests.{Adds, Begins, CopyOf, EndsHit, Expires, Fetches, Finishes, HandsOut, HandsOver, LimitsWaits, Looks, LooksForVariant, Misses, Passes, Purges, Reads, Releases, Renews, SaysKnown, Seeks, ServesOn, ServesUpdating, SetsMeta, Takes, TurnsOff, Varies, Views, Waits, end_number, meta_shown, rest_of};
+ghost use Rattle.pcache_c.specs.Requests.{Adds, Begins, CopyOf, EndsHit, Expires, Fetches, Finishes, HandsOut, HandsOver, LimitsWaits, Looks, LooksForVariant, Misses, Passes, Purges, Reads, Releases, Renews, SaysKnown, SaysTime, Seeks, ServesOn, ServesUpdating, SetsMeta, Takes, TurnsOff, Varies, Views, Waits, end_number, meta_shown, rest_of};
 ghost use Rattle.core.specs.Ptr.{as_ptr};
 ghost use Rattle.pcache_meta.specs.Header.{shown};
 ghost use Rattle.pcache_c.specs.Handles.{object_of};
@@ -607,6 +607,19 @@ pub(crate) fn limit_waits(open: &mut Open, most_millis: u64) -> u32
     };
     open.request.cache.set_cache_lock(true, Some(limits));
     OK
+}
+
+/// How long the request waited for locks, over all its waits that ended.
+pub(crate) fn waited(open: &Open, secs: &mut u64, nanos: &mut u32) -> u32
+    ensures { SaysTime open.now.request.cache.digest.waits secs.new nanos.new result }
+{
+    match open.request.cache.lock_duration() {
+        Some(waited) => {
+            (*secs, *nanos) = (waited.as_secs(), waited.subsec_nanos());
+            OK
+        }
+        None => NONE,
+    }
 }
 
 /// Releases the permit, with the status of the reason.

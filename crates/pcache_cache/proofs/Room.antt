@@ -1,5 +1,5 @@
 -- A body that has room beside the others evicts none.
-use Rattle.std.proofs.Common.{◌≡◌, ℕ, ◌+◌, ◌≤◌, Bool, true, false, cond, is_some, Option, None, Some, List, [], ◌∷◌, ◌++◌, inl, inr, Result, Ok, Err, IfSome, OnOk, refl, ap, sym, subst, ◌∙◌, arith}
+use Rattle.std.proofs.Common.{◌≡◌, ℕ, ◌+◌, ◌≤◌, Bool, true, false, cond, is_some, Option, None, Some, List, [], inl, inr, Result, Ok, Err, IfSome, OnOk, refl, ap, sym, subst, ◌∙◌, arith}
 use Rattle.std.specs.FinMap.{get, insert, len, remove}
 use Rattle.std.specs.Ordering.{nat_cmp, eq_by_cmp}
 use Rattle.pcache_base.proofs.Totals.{len-total, total-insert, total-remove}
@@ -8,8 +8,9 @@ use Rattle.pcache_base.specs.Key.{Key, slot}
 use Rattle.pcache_base.specs.Totals.{share, total}
 use Rattle.pcache_base.specs.declared.error.ErrorType.{ErrorType}
 use Rattle.pcache_evict.proofs.EntryOrder.{exact_entries}
+use Rattle.pcache_evict.proofs.Fair.{none-within}
 use Rattle.pcache_evict.specs.Entry.{entries_total}
-use Rattle.pcache_evict.specs.Tracked.{IsFair, IsWithin, Limits, Tracked, weight, without}
+use Rattle.pcache_evict.specs.Tracked.{IsWithin, Limits, Tracked, weight}
 use Rattle.pcache_evict.specs.declared.eviction.entry_key.CacheEntryKey.{CacheEntryKey}
 use Rattle.pcache_lock.specs.Locks.{Locks}
 use Rattle.pcache_lock.specs.declared.lock.status.LockStatus.{LockStatus}
@@ -36,7 +37,6 @@ use Rattle.pcache_cache.specs.Parts.{Parts, replaced_in}
 use Rattle.pcache_cache.specs.Renewing.{IsSet, Readmits, Renews, Stock, entry_at, meta_given, reweighs, stock, weight_at}
 use Rattle.pcache_cache.specs.Room.{HasRoom, IfRoom, KeepsBodies, beside, evicted_by_put, evicted_in, weight_with}
 use Rattle.pcache_cache.specs.Strays.{Account, IsItsKey, TracksOnly}
-use Rattle.pcache_cache.specs.Weighing.{stored_weight}
 use Rattle.pcache_cache.specs.declared.weighing.Weighing.{Weighing}
 use Rattle.pcache_cache.proofs.Ended.{EndsOf, ends-of}
 use Rattle.pcache_cache.proofs.Only.{only_before}
@@ -44,39 +44,6 @@ use Rattle.pcache_cache.proofs.Renewed.{body-set, given, slots-unset}
 use Rattle.pcache_cache.proofs.Standing.{same-key}
 use Rattle.pcache_cache.proofs.Strays.{only_but, only_purged}
 use Rattle.pcache_cache.proofs.SumsToStored.{tracked_less}
-
--- ---- a fair eviction
-
--- what is left of a map adds up to no more
-shrinks : (f : ℕ → ℕ) (out : List CacheEntryKey) (m : Tracked) → total f (without out m) ≤ total f m
-shrinks f [] m = omega arith
-shrinks f (e ∷ out) m =
-    let rest = shrinks f out (remove m e) in
-    let one : total f (remove m e) + share f (get m e) ≡ total f m = total-remove entries_total f exact_entries m e in
-    omega arith
-
-still-within : (limits : Limits) (out : List CacheEntryKey) (m : Tracked) → IsWithin limits m → IsWithin limits (without out m)
-still-within limits out m held = record {
-  weight = let less : weight (without out m) ≤ weight m = shrinks (λ x. x) out m in let most = held.weight in omega arith;
-  count = count limits.watermark held.count;
-}
-  where
-    count : (o : Option ℕ) → IfSome o (λ most. len m ≤ most) → IfSome o (λ most. len (without out m) ≤ most)
-    count None h = tt
-    count (Some most) h =
-        let less = shrinks (λ _. 1) out m in
-        let a = len-total m in
-        let b = len-total (without out m) in
-        omega arith
-
-front-last : (e : CacheEntryKey) (out : List CacheEntryKey) → (front : List CacheEntryKey) × (last : CacheEntryKey) × (e ∷ out ≡ front ++ last ∷ [])
-front-last e [] = ([], e, refl)
-front-last e (x ∷ out) = let p = front-last x out in (e ∷ p.0, p.1, ap (λ xs. e ∷ xs) p.2)
-
--- takes nothing if the limits hold
-none-within : (limits : Limits) (m : Tracked) (out : List CacheEntryKey) → IsFair limits m out → IsWithin limits m → out ≡ []
-none-within limits m [] fair held = refl
-none-within limits m (e ∷ out) fair held = let p = front-last e out in absurd (fair.needed p.0 p.1 p.2 (still-within limits p.0 m held))
 
 -- ---- an entry comes in
 

@@ -2,6 +2,7 @@ pub mod Chains
 pub mod Cuts
 pub mod EntryOrder
 pub mod Evictions
+pub mod Fair
 pub mod Maps
 pub mod Recency
 pub mod Reweighs

@@ -4,8 +4,6 @@ use Rattle.std.proofs.Math.Seq.{take-append_seam, drop-append_seam}
 use Rattle.pcache_meta.specs.Meta.{Meta}
 use Rattle.pcache_meta.specs.MetaBytes.{SpellsMeta}
 use Rattle.pcache_meta.specs.MetaKept.{meta_at, meta_of, AreOf, kept_at, IsKept}
-use Rattle.pcache_meta.specs.MetaWriting.{internal_written}
-use Rattle.pcache_meta.specs.HeaderText.{header_written}
 use Rattle.pcache_meta.proofs.HeaderExact.{header_again}
 use Rattle.pcache_meta.proofs.MetaExact.{internal_again}
 
@@ -30,11 +28,5 @@ is_kept text internal header split m whole at are = record {
 }
 
 -- what is kept, as it is read
-pub kept_said : (m : Meta) (split : ℕ) (text : List ℕ) → kept_at split text ≡ m → IsKept split text → take split text ≡ internal_written m.internal
-kept_said m split text is kept = rw (← is) kept.parts.said
-
-pub kept_head : (m : Meta) (split : ℕ) (text : List ℕ) → kept_at split text ≡ m → IsKept split text → drop split text ≡ header_written m.header
-kept_head m split text is kept = rw (← is) kept.parts.head
-
 pub kept_spelled : (m : Meta) (split : ℕ) (text : List ℕ) → kept_at split text ≡ m → IsKept split text → SpellsMeta (take split text) (drop split text) m
 kept_spelled m split text is kept = rw (← is) kept.parts.spelled

@@ -1,11 +1,10 @@
 -- A complete body that a look-up finds, read after the lock: the look-up was made when it was found.
-use Rattle.std.proofs.Common.{◌≡◌, inl, ℕ, Bool, true, false, List, Option, Some, None, Result, Ok, Err, ◌++◌, append_assoc, cond, refl, sym, ap, subst, ◌∙◌}
+use Rattle.std.proofs.Common.{◌≡◌, inl, ℕ, Bool, true, false, List, Option, Some, None, Result, Ok, Err, cond, refl, sym, ap, subst, ◌∙◌}
 use Rattle.std.specs.Prelude.{IfSome}
 use Rattle.pcache_base.specs.declared.error.ErrorType.{ErrorType}
 use Rattle.pcache_base.specs.declared.error.ErrorType.TheVariants.{OutOfMemory}
 use Rattle.pcache_cache.specs.Parts.{Parts}
 use Rattle.pcache_cache.proofs.Growing.{grew_same}
-use Rattle.pcache_evict.specs.Tracked.{Limits}
 use Rattle.pcache_meta.specs.Meta.{Meta}
 use Rattle.pcache_request.specs.LockPasts.{key_locked_deeds}
 use Rattle.pcache_request.specs.Requests.{Request, found_for}
@@ -17,9 +16,9 @@ use Rattle.pcache_store.specs.Past.{Note}
 use Rattle.pcache_store.specs.Store.{Part, Reader, Store, Whole, followed, followed_by, left}
 use Rattle.pcache_store.specs.declared.memory.hit.MemHitHandler.{MemHitHandler}
 use Rattle.pcache_shared_cache.specs.Calls.{LooksUp}
-use Rattle.pcache_shared_cache.specs.Seen.{Begins, Goes, Leads}
+use Rattle.pcache_shared_cache.specs.Seen.{Goes, Leads}
 use Rattle.pcache_shared_cache.specs.Shared.{Seated}
-use Rattle.pcache_shared_cache.proofs.Logs.{begins_more}
+use Rattle.pcache_shared_cache.proofs.Logs.{goes_begins, begins_then}
 
 -- what was found is a complete body, and the look-up finds it
 pub found_is : (x : Option (Meta × Reader)) (f : Meta × Reader) → if_complete x ≡ Some f → (x ≡ Some f) × (needs_no_store f.1 ≡ true)
@@ -81,22 +80,18 @@ read_not now r p q result e is why same =
 pub leads_nowhere : (p q : Parts) → q ≡ p → Leads p q
 leads_nowhere p q same = subst (λ (x : Parts). Leads p x) (sym same) (record { limits = refl; weighing = refl; past = grew_same p.past p.past refl; deeds = grew_same p.deeds p.deeds refl })
 
-begins_then : (named : Option ℕ) (a b c : List Parts) → Begins named a b → Begins named b c → Begins named a c
-begins_then None a b c ab bc = tt
-begins_then (Some n) a b c ab bc = (ab.0 ++ bc.0, sym (append_assoc a ab.0 bc.0) ∙ ap (λ (l : List Parts). l ++ bc.0) ab.1 ∙ bc.1)
-
 -- a call that looked at the part, and then was made, was made after all that had been seen
-pub goes_then : {P Q : Parts → Parts → Type 0} (limits : List Limits) (names : ℕ → Option ℕ) (place : ℕ) (old mid new : List Parts) → Goes limits names place old mid P → Goes limits names place mid new Q → Goes limits names place old new Q
-goes_then limits names place old mid new (p, q, at, (before, begins, ends, is), so) (p2, q2, at2, (before2, begins2, ends2, is2), so2) =
-    let first = subst (λ (l : List Parts). Begins (names place) old l) (sym is) (begins_more (names place) old before q begins) in
+pub goes_then : {P Q : Parts → Parts → Type 0} (firsts : List Parts) (names : ℕ → Option ℕ) (place : ℕ) (old mid new : List Parts) → Goes firsts names place old mid P → Goes firsts names place mid new Q → Goes firsts names place old new Q
+goes_then {P} {Q} firsts names place old mid new (p, q, at, (before, begins, ends, is), so) (p2, q2, at2, (before2, begins2, ends2, is2), so2) =
+    let first = goes_begins {P = P} firsts names place old mid (p, q, at, (before, begins, ends, is), so) in
     (p2, q2, at2, (before2, begins_then (names place) old mid before2 first begins2, ends2, is2), so2)
 
-pub goes_as : {P Q : Parts → Parts → Type 0} (limits : List Limits) (names : ℕ → Option ℕ) (place : ℕ) (old new : List Parts) → ((p q : Parts) → P p q → Q p q) → Goes limits names place old new P → Goes limits names place old new Q
-goes_as limits names place old new so (p, q, at, moves, is) = (p, q, at, moves, so p q is)
+pub goes_as : {P Q : Parts → Parts → Type 0} (firsts : List Parts) (names : ℕ → Option ℕ) (place : ℕ) (old new : List Parts) → ((p q : Parts) → P p q → Q p q) → Goes firsts names place old new P → Goes firsts names place old new Q
+goes_as firsts names place old new so (p, q, at, moves, is) = (p, q, at, moves, so p q is)
 
 -- the same for a request that stays as it is but for what it has seen
-pub looks_then : {P : Parts → Parts → Type 0} (Q : Request → Parts → Parts → Type 0) (limits : List Limits) (names : ℕ → Option ℕ) (r s : Seated) (new : List Parts) → s ≡ record r { seen = s.seen } → Goes limits names r.place r.seen s.seen P → Goes limits names s.place s.seen new (Q s.cache) → Goes limits names r.place r.seen new (Q r.cache)
-looks_then {P} Q limits names r s new is first second = goes_then limits names r.place r.seen s.seen new first (subst (λ (x : Seated). Goes limits names x.place s.seen new (Q x.cache)) is second)
+pub looks_then : {P : Parts → Parts → Type 0} (Q : Request → Parts → Parts → Type 0) (firsts : List Parts) (names : ℕ → Option ℕ) (r s : Seated) (new : List Parts) → s ≡ record r { seen = s.seen } → Goes firsts names r.place r.seen s.seen P → Goes firsts names s.place s.seen new (Q s.cache) → Goes firsts names r.place r.seen new (Q r.cache)
+looks_then {P} Q firsts names r s new is first second = goes_then firsts names r.place r.seen s.seen new first (subst (λ (x : Seated). Goes firsts names x.place s.seen new (Q x.cache)) is second)
 
 -- what is told of a result that is what was found
 pub some_found : (f x : Option (Meta × Reader)) → f ≡ x → IfSome f (λ y. x ≡ Some y)

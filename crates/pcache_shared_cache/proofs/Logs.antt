@@ -2,8 +2,7 @@
 use Rattle.std.proofs.Common.{◌≡◌, inl, inr, ℕ, Option, Some, None, List, [], ◌∷◌, ◌++◌, append_assoc, slice_get, refl, sym, ap, subst, ◌∙◌}
 use Rattle.std.proofs.lemmas.List.{append-nil}
 use Rattle.pcache_cache.specs.Parts.{Parts}
-use Rattle.pcache_evict.specs.Tracked.{Limits}
-use Rattle.pcache_shared_cache.specs.Seen.{Begins, Begun, EndsWith, Goes, Held, IsLog, IsSound, Leads, Looks, Moves, Sees, goes_on}
+use Rattle.pcache_shared_cache.specs.Seen.{Begins, Begun, EndsWith, Goes, Held, IsLog, IsSound, Leads, Looks, Moves, Sees, goes_on, limits_in}
 
 goes : (x : Parts) (l : List Parts) (p q : Parts) → goes_on x (l ++ p ∷ []) → Leads p q → IsSound q → goes_on x ((l ++ p ∷ []) ++ q ∷ [])
 goes x [] p q is leads sound = (is.0, ((leads, sound), tt))
@@ -50,20 +49,29 @@ pub begins_more : (named : Option ℕ) (old log : List Parts) (p : Parts) → Be
 begins_more None old log p is = tt
 begins_more (Some n) old log p is = (is.0 ++ p ∷ [], sym (append_assoc old is.0 (p ∷ [])) ∙ ap (λ (l : List Parts). l ++ p ∷ []) is.1)
 
+-- what was seen first is a beginning of what was seen last
+pub begins_then : (named : Option ℕ) (a b c : List Parts) → Begins named a b → Begins named b c → Begins named a c
+begins_then None a b c ab bc = tt
+begins_then (Some n) a b c ab bc = (ab.0 ++ bc.0, sym (append_assoc a ab.0 bc.0) ∙ ap (λ (l : List Parts). l ++ bc.0) ab.1 ∙ bc.1)
+
+-- a call sees all that its caller had seen
+pub goes_begins : {P : Parts → Parts → Type 0} (firsts : List Parts) (names : ℕ → Option ℕ) (place : ℕ) (old new : List Parts) → Goes firsts names place old new P → Begins (names place) old new
+goes_begins firsts names place old new (p, q, at, (before, begins, ends, is), so) = subst (λ (l : List Parts). Begins (names place) old l) (sym is) (begins_more (names place) old before q begins)
+
 -- the part that a lock lends is at the place that was asked for, and has its limits
-pub lent : (limits : List Limits) (lock : Begun) {asked place : ℕ} {guard part : Held} → slice_get limits asked ≡ Some lock.limits → lock.place ≡ asked → asked ≡ place → guard.place ≡ lock.place → guard.now.limits ≡ lock.limits → part ≡ guard → (slice_get limits place ≡ Some part.now.limits) × (part.place ≡ place)
-lent limits lock {asked} {place} {guard} {part} has at is there same lends = (
-  subst (λ (n : ℕ). slice_get limits n ≡ Some part.now.limits) is (has ∙ ap Some (sym (ap (λ (h : Held). h.now.limits) lends ∙ same))),
+pub lent : (firsts : List Parts) (lock : Begun) {asked place : ℕ} {guard part : Held} → slice_get (limits_in firsts) asked ≡ Some lock.first.limits → lock.place ≡ asked → asked ≡ place → guard.place ≡ lock.place → guard.now.limits ≡ lock.first.limits → part ≡ guard → (slice_get (limits_in firsts) place ≡ Some part.now.limits) × (part.place ≡ place)
+lent firsts lock {asked} {place} {guard} {part} has at is there same lends = (
+  subst (λ (n : ℕ). slice_get (limits_in firsts) n ≡ Some part.now.limits) is (has ∙ ap Some (sym (ap (λ (h : Held). h.now.limits) lends ∙ same))),
   ap (λ (h : Held). h.place) lends ∙ there ∙ at ∙ is,
 )
 
 -- a call that had the part at a place led from p to q, and its caller sees that
-pub goes_by : {P : Parts → Parts → Type 0} (limits : List Limits) (names : ℕ → Option ℕ) (at place : ℕ) (old seen new : List Parts) (p q : Parts) → (slice_get limits place ≡ Some p.limits) × (at ≡ place) → old ≡ seen → Moves (names at) old new p q → P p q → Goes limits names place seen new P
-goes_by limits names at place old seen new p q here same moves so = (p, q, here.0, subst (λ (n : ℕ). Moves (names n) seen new p q) here.1 (subst (λ (l : List Parts). Moves (names at) l new p q) same moves), so)
+pub goes_by : {P : Parts → Parts → Type 0} (firsts : List Parts) (names : ℕ → Option ℕ) (at place : ℕ) (old seen new : List Parts) (p q : Parts) → (slice_get (limits_in firsts) place ≡ Some p.limits) × (at ≡ place) → old ≡ seen → Moves (names at) old new p q → P p q → Goes firsts names place seen new P
+goes_by firsts names at place old seen new p q here same moves so = (p, q, here.0, subst (λ (n : ℕ). Moves (names n) seen new p q) here.1 (subst (λ (l : List Parts). Moves (names at) l new p q) same moves), so)
 
-pub sees_by : {P : Parts → Type 0} (limits : List Limits) (names : ℕ → Option ℕ) (at place : ℕ) (old seen new : List Parts) (p : Parts) → (slice_get limits place ≡ Some p.limits) × (at ≡ place) → old ≡ seen → Looks (names at) old new p → P p → Sees limits names place seen new P
-sees_by limits names at place old seen new p here same looks so = (p, inl here.0, subst (λ (n : ℕ). Looks (names n) seen new p) here.1 (subst (λ (l : List Parts). Looks (names at) l new p) same looks), so)
+pub sees_by : {P : Parts → Type 0} (firsts : List Parts) (names : ℕ → Option ℕ) (at place : ℕ) (old seen new : List Parts) (p : Parts) → (slice_get (limits_in firsts) place ≡ Some p.limits) × (at ≡ place) → old ≡ seen → Looks (names at) old new p → P p → Sees firsts names place seen new P
+sees_by firsts names at place old seen new p here same looks so = (p, inl here.0, subst (λ (n : ℕ). Looks (names n) seen new p) here.1 (subst (λ (l : List Parts). Looks (names at) l new p) same looks), so)
 
 -- nothing was asked of the part: what holds of each state holds of the last one that was seen
-pub sees_last : {P : Parts → Type 0} (limits : List Limits) (names : ℕ → Option ℕ) (place : ℕ) (seen : List Parts) → IsLog seen → ((p : Parts) → P p) → Sees limits names place seen seen P
-sees_last limits names place seen is so = let p = last seen is in (p.0, inr refl, (begins_self (names place) seen, p.1), so p.0)
+pub sees_last : {P : Parts → Type 0} (firsts : List Parts) (names : ℕ → Option ℕ) (place : ℕ) (seen : List Parts) → IsLog seen → ((p : Parts) → P p) → Sees firsts names place seen seen P
+sees_last firsts names place seen is so = let p = last seen is in (p.0, inr refl, (begins_self (names place) seen, p.1), so p.0)

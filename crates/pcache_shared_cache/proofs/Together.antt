@@ -4,12 +4,13 @@ use Rattle.std.specs.Prelude.{IfOk, IfSome, Option, None, Some, Result, Ok, Err,
 use Rattle.std.specs.List.{All, range_with_len}
 use Rattle.std.proofs.lemmas.List.{map-append, take_more}
 use Rattle.std.proofs.lemmas.List.Elements.{All-push}
+use Rattle.std.proofs.lemmas.Simd.{map-map}
 use Rattle.std.proofs.lemmas.List.Sums.{sum_by-append, sum_by-cons}
 use Rattle.pcache_evict.specs.Tracked.{Limits}
 use Rattle.pcache_cache.specs.Parts.{Parts, IsKept}
 use Rattle.pcache_store.specs.Totals.{slots, stored_bytes}
 use Rattle.pcache_shared_cache.specs.Portions.{added_watermark, portion, portion_at, portions, whole_watermark, whole_weight}
-use Rattle.pcache_shared_cache.specs.Seen.{Begun}
+use Rattle.pcache_shared_cache.specs.Seen.{Begun, begun_first, limits_in}
 use Rattle.pcache_shared_cache.specs.Shared.{OfPart}
 use Rattle.pcache_shared_cache.proofs.Adding.{add_up}
 
@@ -25,24 +26,27 @@ within (p ∷ ps) all =
     let right = sum_by-cons (λ (l : Limits). l.weight) p.limits (map (λ (p : Parts). p.limits) ps) in
     omega (arith, first, rest, left, right)
 
--- the limits of parts as they began
-abbrev pub limits_in : List Begun → List Limits
-limits_in = map (λ (b : Begun). b.limits)
+-- the limits with which parts began
+abbrev pub limits_begun : List Begun → List Limits
+limits_begun = map (λ (b : Begun). b.first.limits)
+
+pub begun-limits : (bs : List Begun) → limits_begun bs ≡ limits_in (map begun_first bs)
+begun-limits bs = sym (map-map (λ (p : Parts). p.limits) begun_first bs)
 
 -- so many parts were asked, and their results sum to this
 abbrev pub Told : List Begun → ℕ → (Parts → ℕ) → ℕ → Type 0
 Told parts i of total =
-    ((ps : List Parts) × (map (λ (p : Parts). p.limits) ps ≡ limits_in (take i parts)) × All Kept ps × (total ≡ sum_by of ps)) × (total ≤ i * (2 ^ 64 - 1))
+    ((ps : List Parts) × (map (λ (p : Parts). p.limits) ps ≡ limits_begun (take i parts)) × All Kept ps × (total ≡ sum_by of ps)) × (total ≤ i * (2 ^ 64 - 1))
 
 pub told-none : (parts : List Begun) (of : Parts → ℕ) → Told parts 0 of 0
 told-none parts of = (([], refl, (λ k d lt. absurd (omega arith)), refl), omega arith)
 
-pub told-more : (parts : List Begun) (i : ℕ) (of : Parts → ℕ) (total n : ℕ) (b : Begun) → i < length parts → b ≡ slice_index_or parts i b → n < 2 ^ 64 → Told parts i of total → OfPart b.limits (λ p. n ≡ of p) → Told parts (i + 1) of (total + n)
+pub told-more : (parts : List Begun) (i : ℕ) (of : Parts → ℕ) (total n : ℕ) (b : Begun) → i < length parts → b ≡ slice_index_or parts i b → n < 2 ^ 64 → Told parts i of total → OfPart b.first.limits (λ p. n ≡ of p) → Told parts (i + 1) of (total + n)
 told-more parts i of total n b lt at small t h =
     let ps = t.0.0 in
-    let more : map (λ (p : Parts). p.limits) (ps ++ h.0 ∷ []) ≡ limits_in (take (i + 1) parts) =
-    map-append (λ (p : Parts). p.limits) ps (h.0 ∷ []) ∙ ap (λ ls. ls ++ h.0.limits ∷ []) t.0.1 ∙ ap (λ (x : Limits). limits_in (take i parts) ++ x ∷ []) (h.1 ∙ ap (λ (x : Begun). x.limits) at)
-    ∙ sym (map-append (λ (x : Begun). x.limits) (take i parts) (slice_index_or parts i b ∷ [])) ∙ ap limits_in (sym (take_more parts i b lt)) in
+    let more : map (λ (p : Parts). p.limits) (ps ++ h.0 ∷ []) ≡ limits_begun (take (i + 1) parts) =
+    map-append (λ (p : Parts). p.limits) ps (h.0 ∷ []) ∙ ap (λ ls. ls ++ h.0.limits ∷ []) t.0.1 ∙ ap (λ (x : Limits). limits_begun (take i parts) ++ x ∷ []) (h.1 ∙ ap (λ (x : Begun). x.first.limits) at)
+    ∙ sym (map-append (λ (x : Begun). x.first.limits) (take i parts) (slice_index_or parts i b ∷ [])) ∙ ap limits_begun (sym (take_more parts i b lt)) in
     let sums : total + n ≡ sum_by of (ps ++ h.0 ∷ []) = let a = sum_by-append of ps (h.0 ∷ []) in let b = sum_by-cons of h.0 [] in let c = t.0.3 in let d = h.3 in omega (arith, a, b, c, d) in
     let bound : total + n ≤ (i + 1) * (2 ^ 64 - 1) = let b = t.1 in omega (arith, b, small) in
     ((ps ++ h.0 ∷ [], more, All-push Kept ps h.0 t.0.2 h.2, sums), bound)
@@ -60,7 +64,7 @@ pub portions-whole : (n limit : ℕ) (watermark : Option ℕ) → 0 < n → whol
 portions-whole n limit watermark some = sums-same (λ (l : Limits). l.weight) (portion_at n limit watermark) (portion limit n) (λ j. refl) 0 n ∙ add_up limit n some
 
 -- what a call that may fail makes has the whole, if its parts have their portions
-pub ok-whole : {E : Type 0} (n limit : ℕ) (watermark : Option ℕ) (result : Result (List Limits) E) → 0 < n → IfOk result (λ c. c ≡ portions n limit watermark) → IfOk result (λ c. whole_weight c ≡ limit)
+pub ok-whole : {E : Type 0} (n limit : ℕ) (watermark : Option ℕ) (result : Result (List Parts) E) → 0 < n → IfOk result (λ c. limits_in c ≡ portions n limit watermark) → IfOk result (λ c. whole_weight (limits_in c) ≡ limit)
 ok-whole n limit watermark (Ok c) some is = ap whole_weight is ∙ portions-whole n limit watermark some
 ok-whole n limit watermark (Err e) some is = tt
 

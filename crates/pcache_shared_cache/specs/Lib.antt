@@ -5,3 +5,4 @@ pub mod Seen
 pub mod SeenCode
 pub mod Shared
 pub mod SharedPuts
+pub mod Turns

@@ -1,7 +1,11 @@
--- What a contract sees of a manager with its limits (own).
-use Rattle.std.specs.Prelude.{ℕ}
+-- What a contract sees of a manager with its limits, and how a part with it begins (own).
+use Rattle.std.specs.Prelude.{ℕ, []}
+use Rattle.std.specs.FinMap.{empty}
 use Rattle.pcache_cache.specs.Parts.{Parts}
+use Rattle.pcache_cache.specs.declared.weighing.Weighing.TheVariants.{Entries}
+use Rattle.pcache_evict.specs.Listed.{Listed, map_of}
 use Rattle.pcache_evict.specs.Tracked.{Tracked, Limits, Evicted}
+use Rattle.pcache_lock.specs.Locks.{no_locks}
 
 -- a manager, together with its limits
 pub record Portioned (M : Type 0) : Type 0 where
@@ -35,3 +39,30 @@ unmade_portion u = u.portion
 
 abbrev pub unmade_limits : {M : Type 0} → Unmade M → Limits
 unmade_limits u = u.portion.limits
+
+abbrev pub unmade_managed : {M : Type 0} → (M → Tracked) → (M → Evicted) → Unmade M → Managed
+unmade_managed tracked evicted u = managed_in tracked evicted u.portion
+
+abbrev pub managed_limits : Managed → Limits
+managed_limits m = m.limits
+
+-- a manager with these limits that tracks nothing, and has evicted nothing
+abbrev pub no_entries : Limits → Managed
+no_entries limits = record { tracked = empty; limits = limits; evicted = record { weight = 0; count = 0 } }
+
+-- what a recency list with its limits shows
+abbrev pub listed : Portioned Listed → Managed
+listed p = managed_in (λ l. map_of l.entries) (λ l. l.evicted) p
+
+-- an empty part with this manager, whose permits are too old at this age, in nanoseconds
+abbrev pub opened : ℕ → Managed → Parts
+opened age_timeout m = record {
+  store = record { slots = empty; writes = empty; next = 0 };
+  past = [];
+  weighing = Entries;
+  tracked = m.tracked;
+  limits = m.limits;
+  evicted = m.evicted;
+  locks = no_locks age_timeout;
+  deeds = [];
+}

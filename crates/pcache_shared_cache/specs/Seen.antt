@@ -1,6 +1,6 @@
 -- What a thread has seen of a part. The log of a part has each state that the part had, the oldest first, and only grows; what was
 -- seen of it is a beginning of it (own).
-use Rattle.std.specs.Prelude.{◌≡◌, ◌⊎◌, ℕ, Option, Some, IfSome, List, [], ◌∷◌, ◌++◌, slice_get}
+use Rattle.std.specs.Prelude.{◌≡◌, ◌⊎◌, ℕ, Option, None, Some, IfSome, List, [], ◌∷◌, ◌++◌, map, slice_get}
 use mathlib.Core.List.{IsPrefix}
 use Rattle.pcache_cache.specs.Growing.{Grew}
 use Rattle.pcache_cache.specs.Parts.{Parts, IsBounded, TracksExactly}
@@ -8,6 +8,7 @@ use Rattle.pcache_cache.specs.Strays.{SumsToStored}
 use Rattle.pcache_cache.specs.declared.weighing.Weighing.TheVariants.{Entries}
 use Rattle.pcache_evict.specs.Tracked.{Limits}
 use Rattle.pcache_lock.specs.PastLaws.{AtMostOneWaits, GivesByPast, OneFetchAtATime}
+use Rattle.pcache_shared_cache.specs.Managed.{no_entries, opened}
 use Rattle.pcache_store.specs.PastLaws.{BodiesAreLast, BodiesGrow, Finds, Finishes, FoundIsOfItsWrite, NothingIsLost, PurgedIsGone, ReadsInOrder}
 
 -- a log, or what was seen of one, and the place of the part
@@ -21,15 +22,26 @@ pub record Held : Type 0 where
   pub log : List Parts
   pub now : Parts
 
--- a part's beginning: its place, its limits, and its log with one state
+-- a part's beginning: its place, and its first state
 pub record Begun : Type 0 where
   pub place : ℕ
-  pub limits : Limits
-  pub log : List Parts
+  pub first : Parts
 
--- the log of a part that just began, with these limits: nothing was done to its store and its locks yet
-abbrev pub StartsWith : List Parts → Limits → Type 0
-StartsWith log limits = (p : Parts) × (p.limits ≡ limits) × (p.past ≡ []) × (p.deeds ≡ []) × (log ≡ p ∷ [])
+abbrev pub begun_first : Begun → Parts
+begun_first b = b.first
+
+-- the log of a part that just began, in this state
+abbrev pub StartsWith : List Parts → Parts → Type 0
+StartsWith log first = log ≡ first ∷ []
+
+-- the first state of a log; the log of a part has one
+abbrev pub first_of : List Parts → Parts
+first_of [] = opened 0 (no_entries (record { weight = 0; watermark = None }))
+first_of (p ∷ later) = p
+
+-- the limits of these states
+abbrev pub limits_in : List Parts → List Limits
+limits_in ps = map (λ p. p.limits) ps
 
 -- a log ends with this state
 abbrev pub EndsWith : List Parts → Parts → Type 0
@@ -89,14 +101,14 @@ Looks named old new p = Begins named old new × EndsWith new p
 abbrev pub Moves : Option ℕ → List Parts → List Parts → Parts → Parts → Type 0
 Moves named old new p q = (before : List Parts) × Begins named old before × EndsWith before p × (new ≡ before ++ q ∷ [])
 
--- A call that found the part at this place in the state p and left it in the state q, of which P holds. p has the limits of the part,
--- and so has q, since no call changes them.
-abbrev pub Goes : List Limits → (ℕ → Option ℕ) → ℕ → List Parts → List Parts → (Parts → Parts → Type 0) → Type 0
-Goes limits names place old new P = (p q : Parts) × (slice_get limits place ≡ Some p.limits) × Moves (names place) old new p q × P p q
+-- A call that found the part at this place in the state p and left it in the state q, of which P holds. The parts began in these
+-- states; p has the limits with which its part began, and so has q, since no call changes them.
+abbrev pub Goes : List Parts → (ℕ → Option ℕ) → ℕ → List Parts → List Parts → (Parts → Parts → Type 0) → Type 0
+Goes firsts names place old new P = (p q : Parts) × (slice_get (limits_in firsts) place ≡ Some p.limits) × Moves (names place) old new p q × P p q
 
 -- A call that left the part as it was, in a state p, of which P holds. p has the limits of the part, or is one that was seen before.
-abbrev pub Sees : List Limits → (ℕ → Option ℕ) → ℕ → List Parts → List Parts → (Parts → Type 0) → Type 0
-Sees limits names place old new P = (p : Parts) × ((slice_get limits place ≡ Some p.limits) ⊎ (new ≡ old)) × Looks (names place) old new p × P p
+abbrev pub Sees : List Parts → (ℕ → Option ℕ) → ℕ → List Parts → List Parts → (Parts → Type 0) → Type 0
+Sees firsts names place old new P = (p : Parts) × ((slice_get (limits_in firsts) place ≡ Some p.limits) ⊎ (new ≡ old)) × Looks (names place) old new p × P p
 
 -- the keepers of these names, one for each place, are those that a mark names
 abbrev pub AreNamed : (ℕ → Option ℕ) → List ℕ → Type 0

@@ -1,6 +1,6 @@
 //! Parts over recency lists.
 ghost use Rattle.std.specs.Prelude.{◌≡◌, ◌<◌, IfErr, IfOk, length, map};
-ghost use Rattle.pcache_shared_cache.specs.Managed.{unmade_limits};
+ghost use Rattle.pcache_shared_cache.specs.Managed.{listed, no_entries, unmade_limits, unmade_portion};
 ghost use Rattle.pcache_base.specs.declared.error.ErrorType.TheVariants.{OutOfMemory};
 ghost use Rattle.pcache_shared_cache.specs.Portions.{portion_at, portions};
 
@@ -16,9 +16,12 @@ use std::alloc::Global;
 use std::time::Duration;
 
 impl<K: Mark, const N: usize> SharedCache<Manager, K, N> {
-    ghost use Rattle.std.specs.Prelude.{◌≡◌, ◌<◌, ℕ, None, IfErr, IfOk};
+    ghost use Rattle.std.specs.Prelude.{◌≡◌, ◌<◌, ℕ, None, IfErr, IfOk, map};
     ghost use Rattle.pcache_base.specs.declared.error.ErrorType.TheVariants.{OutOfMemory};
+    ghost use Rattle.std.specs.Duration.{as_nanos};
+    ghost use Rattle.pcache_shared_cache.specs.Managed.{no_entries, opened};
     ghost use Rattle.pcache_shared_cache.specs.Portions.{portions, whole_weight};
+    ghost use Rattle.pcache_shared_cache.specs.Seen.{limits_in};
 
     /// An empty cache whose parts evict the least recently used bodies. The limit on what is kept for all responses (body, head and
     /// 512 bytes beside them), and on their number if one is given, is split evenly; the first parts get one more each, for the
@@ -33,8 +36,10 @@ impl<K: Mark, const N: usize> SharedCache<Manager, K, N> {
     ) -> Result<SharedCache<Manager, K, N>>
         requires some { 0 < N }
         requires unnamed { (place : ℕ) → K.names place ≡ None }
-        ensures limits { IfOk result (λ c. c ≡ portions N limit watermark) }
-        ensures whole { IfOk result (λ c. whole_weight c ≡ limit) }
+        ensures begins { IfOk result (λ c. c
+            ≡ map (opened (as_nanos age_timeout)) (map no_entries (portions N limit watermark))) }
+        ensures limits { IfOk result (λ c. limits_in c ≡ portions N limit watermark) }
+        ensures whole { IfOk result (λ c. whole_weight (limits_in c) ≡ limit) }
         ensures kind { IfErr result (λ e. e ≡ OutOfMemory) }
     {
         let lists = new_lists(alloc, seed, limit, watermark, N)?;
@@ -55,6 +60,8 @@ pub fn new_lists(
     requires { 0 < parts }
     ensures limits { IfOk result (λ v.
         map unmade_limits v.items ≡ portions parts limit watermark) }
+    ensures empty { IfOk result (λ v. map listed (map unmade_portion v.items)
+        ≡ map no_entries (portions parts limit watermark)) }
     ensures count { IfOk result (λ v. length v.items ≡ parts) }
     ensures kind { IfErr result (λ e. e ≡ OutOfMemory) }
 {
@@ -76,6 +83,8 @@ fn list_at(
 ) -> Result<Portion<Manager>>
     requires { 0 < parts }
     ensures limits { IfOk result (λ p. p.limits ≡ portion_at parts limit watermark place) }
+    ensures empty { IfOk result (λ p.
+        listed p ≡ no_entries (portion_at parts limit watermark place)) }
     ensures kind { IfErr result (λ e. e ≡ OutOfMemory) }
 {
     let limit = portion_of(limit, parts, place);

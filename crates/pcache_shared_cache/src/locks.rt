@@ -25,6 +25,7 @@ impl<M: EvictionManager, K: Mark, const N: usize> SharedCache<M, K, N> {
     ghost use Rattle.pcache_request.specs.Reports.{name_of, released_as};
     ghost use Rattle.pcache_shared_cache.specs.Calls.{Publishes, Releases, TakesPermit, Waits};
     ghost use Rattle.pcache_shared_cache.specs.Seen.{Begins, Goes};
+    ghost use Rattle.pcache_shared_cache.specs.Turns.{AsksOfWait, InTurns};
 
     /// `Cache::cache_lock_wait`: whether the wait for the lock is over, and how it ended. Requires a read lock. The call itself
     /// does not wait.
@@ -59,12 +60,13 @@ impl<M: EvictionManager, K: Mark, const N: usize> SharedCache<M, K, N> {
         turns: u32,
     ) -> Result<Poll<LockWaitOutcome>>
         requires { IsSome (read_in request.old.cache.held) }
+        ensures turns { InTurns (AsksOfWait self.now K.names now) turns request.old request.new result }
         ensures follows { Begins (K.names request.old.place) request.old.seen request.new.seen }
         ensures goes_on { IfOk result (λ a. a ≡ Pending → IsSome (read_in request.new.cache.held)) }
         ensures kind { IfErr result (λ e. e ≡ OutOfMemory) }
         ensures place { request.new.place ≡ request.old.place }
     {
-        for _ in 0..turns {
+        for _turn in 0..turns {
             match self.cache_lock_wait(rt, request, now)? {
                 Poll::Pending => yield_now(),
                 told => return Ok(told),

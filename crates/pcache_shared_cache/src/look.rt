@@ -26,6 +26,7 @@ impl<M: EvictionManager, K: Mark, const N: usize> SharedCache<M, K, N> {
     ghost use Rattle.pcache_store.specs.Readers.{reader_of};
     ghost use Rattle.pcache_shared_cache.specs.Calls.{Disables, EndsHit, EndsRequest, FindsBody, LetsGo, LooksUp, Reads, TakesFound};
     ghost use Rattle.pcache_shared_cache.specs.Seen.{Begins, Goes, Sees};
+    ghost use Rattle.pcache_shared_cache.specs.Turns.{InTurns, ReadsBody};
 
     /// `Cache::cache_lookup` in the request's part: what its store has for the key; if nothing is handed on, the key's lock is
     /// asked for. No call of a shared request takes a policy into use, so there is none to ask. A pair that is handed on has to
@@ -211,13 +212,14 @@ impl<M: EvictionManager, K: Mark, const N: usize> SharedCache<M, K, N> {
         turns: u32,
     ) -> Result<Poll<Option<Bytes>>>
         requires { IsSome request.old.cache.reader }
+        ensures turns { InTurns (ReadsBody self.now K.names) turns request.old request.new result }
         ensures follows { Begins (K.names request.old.place) request.old.seen request.new.seen }
         ensures kind { IfErr result (λ e. e ≡ OutOfMemory) }
         ensures reader { IsSome request.new.cache.reader }
         ensures phase { request.new.cache.phase ≡ request.old.cache.phase }
         ensures place { request.new.place ≡ request.old.place }
     {
-        for _ in 0..turns {
+        for _turn in 0..turns {
             match self.read_body(rt, request)? {
                 Poll::Pending => yield_now(),
                 read => return Ok(read),

@@ -2,7 +2,7 @@
 ghost use Rattle.std.specs.Prelude.{◌≡◌, ℕ, [], List, None, IfErr, IfOk, map};
 ghost use Rattle.pcache_base.specs.declared.error.ErrorType.TheVariants.{OutOfMemory};
 ghost use Rattle.pcache_evict.specs.Tracked.{Limits};
-ghost use Rattle.pcache_shared_cache.specs.Managed.{unmade_limits, unmade_name, unmade_portion};
+ghost use Rattle.pcache_shared_cache.specs.Managed.{managed_limits, unmade_limits, unmade_managed, unmade_name, unmade_portion};
 ghost use Rattle.pcache_shared_cache.specs.Seen.{AreNamed};
 
 use crate::log::PartState;
@@ -69,7 +69,7 @@ pub fn new_parts<M: EvictionManager>(
     Ok(parts)
 }
 
-/// The parts of one cache with the mark `K`, not made yet, whose names the mark has, if it has any. A contract sees their limits.
+/// The parts of one cache with the mark `K`, not made yet, whose names the mark has, if it has any. A contract sees their managers.
 #[derive(Drop)]
 pub struct Unused<M: EvictionManager, K: Mark> {
     parts: Vec<NewPart<M>>,
@@ -78,13 +78,15 @@ pub struct Unused<M: EvictionManager, K: Mark> {
 
 impl<M: EvictionManager, K: Mark> Model for Unused<M, K> {
     ghost use Rattle.std.specs.Prelude.{List, map};
-    ghost use Rattle.pcache_evict.specs.Tracked.{Limits};
-    ghost use Rattle.pcache_shared_cache.specs.Managed.{unmade_limits, unmade_name};
+    ghost use Rattle.pcache_shared_cache.specs.Managed.{Managed, unmade_managed, unmade_name};
     ghost use Rattle.pcache_shared_cache.specs.Seen.{AreNamed};
+    ghost use Rattle.pcache_shared_cache.specs.SeenCode.{managers_code};
 
-    ghost Value = { List Limits };
+    ghost Value = { List Managed };
 
-    ghost view = { λ u. map unmade_limits u.parts.items };
+    ghost coded = { managers_code };
+
+    ghost view = { λ u. map (unmade_managed M.tracked M.evicted) u.parts.items };
 
     ghost invariant = { λ u. AreNamed K.names (map unmade_name u.parts.items) };
 }
@@ -93,7 +95,7 @@ impl<M: EvictionManager, K: Mark> Unused<M, K> {
     /// For a mark that names no place.
     pub fn unnamed(parts: Vec<NewPart<M>>) -> Unused<M, K>
         requires { (place : ℕ) → K.names place ≡ None }
-        ensures { result ≡ map unmade_limits parts.items }
+        ensures { result ≡ map (unmade_managed M.tracked M.evicted) parts.items }
     {
         Unused {
             parts,
@@ -103,7 +105,7 @@ impl<M: EvictionManager, K: Mark> Unused<M, K> {
 
     // The parts themselves.
     pub(crate) fn into_parts(self) -> Vec<NewPart<M>>
-        ensures limits { map unmade_limits result.items ≡ self }
+        ensures managers { map (unmade_managed M.tracked M.evicted) result.items ≡ self }
         ensures named { AreNamed K.names (map unmade_name result.items) }
     {
         let Unused { parts, of: _ } = self;
@@ -122,8 +124,8 @@ pub trait OverParts<M: EvictionManager> {
 
     /// Is called once, with the parts of a cache that is to be made by `SharedCache::over`.
     fn run<K: Mark>(self, parts: Unused<M, K>) -> Self::Out
-        requires { asks self parts }
-        ensures { gives self parts result };
+        requires { asks self (map managed_limits parts) }
+        ensures { gives self (map managed_limits parts) result };
 }
 
 /// Runs a program over the parts of one cache, under a mark that names each part. So what each call of the cache says of its part

@@ -48,7 +48,7 @@ impl<M: EvictionManager, K: Mark> Part<M, K> {
     }
 }
 
-// One part behind its lock, and its beginning. A contract sees the place and the limits of the part.
+// One part behind its lock, and its beginning. A contract sees the place of the part, and the state in which it began.
 //
 // Of the value that a lock lends only the type is known. Therefore the place and the limits are kept beside the lock too, and the
 // part is lent only if it has the same ones. It has them at the first try: `new` puts such a part under the lock, and no call
@@ -63,24 +63,26 @@ pub(crate) struct PartLock<M: EvictionManager, K: Mark> {
 
 impl<M: EvictionManager, K: Mark> Model for PartLock<M, K> {
     ghost use Rattle.pcache_evict.specs.Tracked.{limits_of};
-    ghost use Rattle.pcache_shared_cache.specs.Seen.{Begun, StartsWith};
+    ghost use Rattle.std.specs.Prelude.{◌≡◌};
+    ghost use Rattle.pcache_shared_cache.specs.Seen.{Begun, StartsWith, first_of};
     ghost use Rattle.pcache_shared_cache.specs.SeenCode.{begun_code};
 
     ghost Value = { Begun };
 
     ghost coded = { begun_code };
 
-    ghost view = { λ p. record { place = p.beginning.place; limits = limits_of p.limit p.watermark; log = p.beginning.log } };
+    ghost view = { λ p. record { place = p.beginning.place; first = first_of p.beginning.log } };
 
-    ghost invariant = { λ p. StartsWith p.beginning.log (limits_of p.limit p.watermark) };
+    ghost invariant = { λ p. StartsWith p.beginning.log (first_of p.beginning.log) × ((first_of p.beginning.log).limits ≡ limits_of p.limit p.watermark) };
 }
 
 impl<M: EvictionManager, K: Mark> PartLock<M, K> {
     ghost use Rattle.std.specs.Prelude.{◌≡◌, IfSome};
+    ghost use Rattle.std.specs.Duration.{as_nanos};
     ghost use Rattle.std.specs.Sync.Mutex.{mutex_guard_value};
     ghost use Rattle.pcache_cache.specs.Parts.{IsKept};
     ghost use Rattle.pcache_store.specs.Totals.{slots, stored_bytes};
-    ghost use Rattle.pcache_shared_cache.specs.Managed.{managed, managed_in};
+    ghost use Rattle.pcache_shared_cache.specs.Managed.{managed, managed_in, opened};
     ghost use Rattle.pcache_shared_cache.specs.Seen.{IsNamed, StartsWith};
     ghost use Rattle.pcache_shared_cache.specs.Shared.{OfPart};
 
@@ -94,7 +96,8 @@ impl<M: EvictionManager, K: Mark> PartLock<M, K> {
     ) -> PartLock<M, K>
         requires { IsNamed (K.names place) new_part.name }
         ensures place { result.place ≡ place }
-        ensures limits { result.limits ≡ new_part.portion.limits }
+        ensures first { result.first
+            ≡ opened (as_nanos age_timeout) (managed_in M.tracked M.evicted new_part.portion) }
     {
         let (portion, keeper) = new_part.into_both();
         let limit = portion.limit();
@@ -112,8 +115,7 @@ impl<M: EvictionManager, K: Mark> PartLock<M, K> {
     // What was seen of the part as it began.
     pub(crate) fn beginning(&self) -> Sight<K>
         ensures place { result.place ≡ self.now.place }
-        ensures log { result.log ≡ self.now.log }
-        ensures starts { StartsWith result.log self.now.limits }
+        ensures starts { StartsWith result.log self.now.first }
     {
         self.beginning.again()
     }
@@ -122,7 +124,7 @@ impl<M: EvictionManager, K: Mark> PartLock<M, K> {
     // the part.
     pub(crate) fn lock<R: Wait>(&self, rt: &R) -> MutexGuard<'_, Part<M, K>>
         ensures place { (mutex_guard_value result).place ≡ self.now.place }
-        ensures limits { (mutex_guard_value result).now.limits ≡ self.now.limits }
+        ensures limits { (mutex_guard_value result).now.limits ≡ self.now.first.limits }
         ensures kept { IsKept (mutex_guard_value result).now.weighing
             (mutex_guard_value result).now.limits
             (mutex_guard_value result).now.tracked (mutex_guard_value result).now.store }
@@ -155,7 +157,7 @@ impl<M: EvictionManager, K: Mark> PartLock<M, K> {
 
     // The part's manager, if it has the limits that stand beside the lock (see the type): it has.
     pub(crate) fn into_portion(self) -> Option<Portion<M>>
-        ensures { IfSome result (λ portion. OfPart self.limits (λ p.
+        ensures { IfSome result (λ portion. OfPart self.first.limits (λ p.
             managed_in M.tracked M.evicted portion ≡ managed p)) }
     {
         let PartLock {
@@ -176,7 +178,7 @@ impl<M: EvictionManager, K: Mark> PartLock<M, K> {
 
     // The lengths of the complete bodies, added up.
     pub(crate) fn stored_bytes<R: Wait>(&self, rt: &R) -> usize
-        ensures { OfPart self.now.limits (λ p. result ≡ stored_bytes p.store) }
+        ensures { OfPart self.now.first.limits (λ p. result ≡ stored_bytes p.store) }
     {
         let _limit = self.limit; // for the prover: the limit is a `usize`
         let guard = self.lock(rt);
@@ -186,7 +188,7 @@ impl<M: EvictionManager, K: Mark> PartLock<M, K> {
 
     // The number of complete bodies.
     pub(crate) fn slots<R: Wait>(&self, rt: &R) -> usize
-        ensures { OfPart self.now.limits (λ p. result ≡ slots p.store) }
+        ensures { OfPart self.now.first.limits (λ p. result ≡ slots p.store) }
     {
         let guard = self.lock(rt);
         let part = &*guard;

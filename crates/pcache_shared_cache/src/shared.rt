@@ -1,8 +1,9 @@
 //! The cache, and its getters.
 ghost use Rattle.std.specs.Prelude.{◌≡◌, ◌<◌, IfErr, IfOk, length, map};
 ghost use Rattle.pcache_base.specs.declared.error.ErrorType.TheVariants.{OutOfMemory};
-ghost use Rattle.pcache_shared_cache.specs.Managed.{unmade_limits, unmade_name};
-ghost use Rattle.pcache_shared_cache.specs.Seen.{AreNamed, ArePlaced, Begun};
+ghost use Rattle.std.specs.Duration.{as_nanos};
+ghost use Rattle.pcache_shared_cache.specs.Managed.{opened, unmade_managed, unmade_name};
+ghost use Rattle.pcache_shared_cache.specs.Seen.{AreNamed, ArePlaced, begun_first};
 
 use crate::mark::Mark;
 use crate::opening::{NewPart, Unused, new_parts};
@@ -23,7 +24,7 @@ use std::time::Duration;
 
 /// A cache in `N` parts, each a `Cache` behind a lock of its own. A key is in the part of its primary hash. Each part has at all
 /// times the invariant of a `Cache`, with the part's own limits, against which an entry counts with all that is kept for it
-/// (`Weighing::Entries`). A contract sees the limits of the parts.
+/// (`Weighing::Entries`). A contract sees the states in which the parts began.
 ///
 /// `K` is a mark, a type of the caller's that nothing else uses: a request of one cache cannot be used with the parts
 /// of another.
@@ -36,12 +37,15 @@ pub struct SharedCache<M: EvictionManager, K: Mark, const N: usize> {
 
 impl<M: EvictionManager, K: Mark, const N: usize> Model for SharedCache<M, K, N> {
     ghost use Rattle.std.specs.Prelude.{◌≡◌, ◌<◌, ◌≤◌, [], List, length, map, vec_capacity};
-    ghost use Rattle.pcache_evict.specs.Tracked.{Limits};
-    ghost use Rattle.pcache_shared_cache.specs.Seen.{ArePlaced, Begun};
+    ghost use Rattle.pcache_cache.specs.Parts.{Parts};
+    ghost use Rattle.pcache_shared_cache.specs.Seen.{ArePlaced, begun_first};
+    ghost use Rattle.pcache_shared_cache.specs.SeenCode.{firsts_code};
 
-    ghost Value = { List Limits };
+    ghost Value = { List Parts };
 
-    ghost view = { λ c. map (λ (p : Begun). p.limits) c.parts.items };
+    ghost coded = { firsts_code };
+
+    ghost view = { λ c. map begun_first c.parts.items };
 
     ghost invariant = { λ c. (0 < N) × (length c.parts.items ≡ N) × ArePlaced c.parts.items × (c.room.items ≡ []) × (N ≤ vec_capacity c.room) };
 }
@@ -53,9 +57,10 @@ impl<M: EvictionManager, K: Mark, const N: usize> SharedCache<M, K, N> {
     ghost use Rattle.pcache_put_ctx.specs.State.{HasTaken, InHead};
     ghost use Rattle.pcache_request.specs.Requests.{enabled_with, new_request, with_key};
     ghost use Rattle.pcache_store.specs.Totals.{slots, stored_bytes};
-    ghost use Rattle.pcache_shared_cache.specs.Managed.{managed, managed_in};
+    ghost use Rattle.std.specs.Duration.{as_nanos};
+    ghost use Rattle.pcache_shared_cache.specs.Managed.{managed, managed_in, opened};
     ghost use Rattle.pcache_shared_cache.specs.Portions.{place_of, whole_watermark, whole_weight};
-    ghost use Rattle.pcache_shared_cache.specs.Seen.{StartsWith};
+    ghost use Rattle.pcache_shared_cache.specs.Seen.{StartsWith, limits_in};
     ghost use Rattle.pcache_shared_cache.specs.Shared.{InParts};
 
     /// An empty cache with a part for each of `N` managers, under a mark that names no place. Permits age out after `age_timeout`.
@@ -69,7 +74,8 @@ impl<M: EvictionManager, K: Mark, const N: usize> SharedCache<M, K, N> {
         requires some { 0 < N }
         requires count { length portions.items ≡ N }
         requires unnamed { (place : ℕ) → K.names place ≡ None }
-        ensures limits { IfOk result (λ c. c ≡ map (λ p. p.limits) portions.items) }
+        ensures begins { IfOk result (λ c. c
+            ≡ map (opened (as_nanos age_timeout)) (map (managed_in M.tracked M.evicted) portions.items)) }
         ensures kind { IfErr result (λ e. e ≡ OutOfMemory) }
     {
         let new_parts = new_parts(alloc, portions)?;
@@ -85,7 +91,7 @@ impl<M: EvictionManager, K: Mark, const N: usize> SharedCache<M, K, N> {
     ) -> Result<SharedCache<M, K, N>>
         requires some { 0 < N }
         requires count { length unused ≡ N }
-        ensures limits { IfOk result (λ c. c ≡ unused) }
+        ensures begins { IfOk result (λ c. c ≡ map (opened (as_nanos age_timeout)) unused) }
         ensures kind { IfErr result (λ e. e ≡ OutOfMemory) }
     {
         let new_parts = unused.into_parts();
@@ -98,9 +104,9 @@ impl<M: EvictionManager, K: Mark, const N: usize> SharedCache<M, K, N> {
     /// bodies are gone. It takes no memory and does not wait. It would fail as an internal error if a part's manager had not its
     /// part's limits; it has, but what lies behind a lock no contract knows.
     pub fn into_portions(self) -> Result<Vec<Portion<M>>>
-        ensures portions { IfOk result (λ v. InParts self (λ ps.
+        ensures portions { IfOk result (λ v. InParts (limits_in self) (λ ps.
             map (managed_in M.tracked M.evicted) v.items ≡ map managed ps)) }
-        ensures limits { IfOk result (λ v. map (λ p. p.limits) v.items ≡ self) }
+        ensures limits { IfOk result (λ v. map (λ p. p.limits) v.items ≡ limits_in self) }
         ensures kind { IfErr result (λ e. e ≡ InternalError) }
     {
         let SharedCache {
@@ -157,8 +163,9 @@ impl<M: EvictionManager, K: Mark, const N: usize> SharedCache<M, K, N> {
 
     /// The sum of the lengths of the complete bodies, each part asked in turn: at most the whole limit.
     pub fn stored_bytes<R: Wait>(&self, rt: &R) -> u128
-        ensures value { InParts self.now (λ ps. result ≡ sum_by (λ p. stored_bytes p.store) ps) }
-        ensures within { result ≤ whole_weight self.now }
+        ensures value { InParts (limits_in self.now) (λ ps.
+            result ≡ sum_by (λ p. stored_bytes p.store) ps) }
+        ensures within { result ≤ whole_weight (limits_in self.now) }
     {
         let mut total = 0u128;
         for part in &self.parts {
@@ -169,8 +176,9 @@ impl<M: EvictionManager, K: Mark, const N: usize> SharedCache<M, K, N> {
 
     /// The number of complete bodies, each part asked in turn: at most the whole watermark, if each part has one.
     pub fn slots<R: Wait>(&self, rt: &R) -> u128
-        ensures value { InParts self.now (λ ps. result ≡ sum_by (λ p. slots p.store) ps) }
-        ensures within { IfSome (whole_watermark self.now) (λ most. result ≤ most) }
+        ensures value { InParts (limits_in self.now) (λ ps.
+            result ≡ sum_by (λ p. slots p.store) ps) }
+        ensures within { IfSome (whole_watermark (limits_in self.now)) (λ most. result ≤ most) }
     {
         let mut total = 0u128;
         for part in &self.parts {
@@ -182,7 +190,8 @@ impl<M: EvictionManager, K: Mark, const N: usize> SharedCache<M, K, N> {
     // The part of a request.
     pub(crate) fn part(&self, place: usize) -> &PartLock<M, K>
         requires { place < N }
-        ensures limits { slice_get self.now place ≡ Some result.now.limits }
+        ensures begun { slice_get self.now place ≡ Some result.now.first }
+        ensures limits { slice_get (limits_in self.now) place ≡ Some result.now.first.limits }
         ensures place { result.now.place ≡ place }
     {
         let parts = &self.parts;
@@ -200,8 +209,8 @@ fn locks_of<M: EvictionManager, K: Mark>(
     requires { AreNamed K.names (map unmade_name new_parts.items) }
     ensures made { IfOk result (λ v. (length v.items ≡ length new_parts.items)
         × ArePlaced v.items
-        × (map (λ (p : Begun). p.limits) v.items
-        ≡ map unmade_limits new_parts.items)) }
+        × (map begun_first v.items
+        ≡ map (opened (as_nanos age_timeout)) (map (unmade_managed M.tracked M.evicted) new_parts.items))) }
     ensures kind { IfErr result (λ e. e ≡ OutOfMemory) }
 {
     let mut parts = Vec::with_capacity(alloc, new_parts.len())?;

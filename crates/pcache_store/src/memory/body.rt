@@ -71,7 +71,7 @@ impl Body {
     {
         let meta = self.meta.copied()?;
         let bytes = self.bytes.clone()?;
-        Ok(FoundBody::new(meta, self.entry_id(), bytes))
+        Ok(FoundBody::new(meta, bytes))
     }
 
     // The number of the write that stored the body.

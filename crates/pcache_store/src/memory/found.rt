@@ -6,7 +6,6 @@ ghost use Rattle.pcache_store.specs.Store.{Whole};
 
 use crate::memory::hit::{CompleteHit, MemHitHandler};
 use bytes::Bytes;
-use pcache_base::entry_id::CacheEntryId;
 use pcache_base::error::Result;
 use pcache_meta::meta::CacheMeta;
 use pcache_meta::meta::spelled::SpelledMeta;
@@ -20,7 +19,6 @@ use std::marker::Model;
 #[derive(Drop)]
 pub struct FoundBody {
     meta: SpelledMeta,
-    number: Option<CacheEntryId>,
     body: Bytes,
 }
 
@@ -31,14 +29,14 @@ impl Model for FoundBody {
 
     ghost Value = { Meta × Reader };
 
-    ghost view = { λ f. (f.meta, Whole f.number f.body 0 (length f.body) false) };
+    ghost view = { λ f. (f.meta, Whole f.meta.entry_id f.body 0 (length f.body) false) };
 }
 
 impl FoundBody {
-    pub(crate) fn new(meta: SpelledMeta, number: Option<CacheEntryId>, body: Bytes) -> FoundBody
-        ensures { result ≡ (meta, Whole number body 0 (length body) false) }
+    pub(crate) fn new(meta: SpelledMeta, body: Bytes) -> FoundBody
+        ensures { result ≡ (meta, Whole meta.entry_id body 0 (length body) false) }
     {
-        FoundBody { meta, number, body }
+        FoundBody { meta, body }
     }
 
     /// Reads the meta, as `CacheMeta::deserialize` of its bytes, and returns it with a reader of the body. Fails only when memory
@@ -47,7 +45,8 @@ impl FoundBody {
         ensures read { IfOk result (λ p. (p.0, reader_of p.1) ≡ self) }
         ensures kind { IfErr result (λ e. e ≡ OutOfMemory) }
     {
-        let FoundBody { meta, number, body } = self;
+        let FoundBody { meta, body } = self;
+        let number = meta.entry_id();
         let meta = meta.meta(alloc)?;
         let hit = CompleteHit::new(number, body);
         Ok((meta, MemHitHandler::Complete(hit)))

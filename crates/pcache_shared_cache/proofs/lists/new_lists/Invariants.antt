@@ -1,7 +1,7 @@
 use Rattle.std.proofs.Common.{◌≡◌, ◌≤◌, length, map}
 use Rattle.std.specs.Prelude.{vec_capacity}
 use Rattle.std.specs.List.{range_with_len}
-use Rattle.pcache_shared_cache.specs.Managed.{unmade_limits}
+use Rattle.pcache_shared_cache.specs.Managed.{listed, no_entries, unmade_limits, unmade_portion}
 use Rattle.pcache_shared_cache.specs.Portions.{portion_at}
 use Rattle.pcache_shared_cache.proofs.lists.new_lists.Given as goal
 
@@ -9,5 +9,6 @@ use Rattle.pcache_shared_cache.proofs.lists.new_lists.Given as goal
 abbrev pub invariant-loop-place : goal.invariant-loop-place
 invariant-loop-place l =
     (map unmade_limits l.lists.items ≡ map (portion_at l.fn.parts l.fn.limit l.fn.watermark) (range_with_len 0 l.place))
+    × (map listed (map unmade_portion l.lists.items) ≡ map no_entries (map (portion_at l.fn.parts l.fn.limit l.fn.watermark) (range_with_len 0 l.place)))
     × (length l.lists.items ≡ l.place)
     × (l.fn.parts ≤ vec_capacity l.lists)

@@ -4,5 +4,5 @@ use Rattle.pcache_shared_cache.proofs.part.PartLock.into_portion.Goals as goal
 pub returns-then-eq : goal.returns-then-eq
 returns-then-eq g c =
     let e = c.into_manager-portion.ensures in
-    let limits : c.into_manager-portion.result.limits ≡ c.args.self.limits = search rules in
+    let limits : c.into_manager-portion.result.limits ≡ c.args.self.first.limits = search rules in
     (c.into_cache-cache.result, sym e.limits ∙ limits, c.is_kept.ensures, λ i. record { tracked = e.tracked i; limits = e.limits i; evicted = e.evicted i })

@@ -2,7 +2,7 @@ use Rattle.std.proofs.Common.{◌≡◌, false, Ok, Some, ap, subst, sym, ◌∙
 use Rattle.std.proofs.lemmas.Result.{err_from_is_err_and}
 use Rattle.pcache_request.specs.Requests.{Request, found_for}
 use Rattle.pcache_request.specs.Variants.{is_hidden}
-use Rattle.pcache_store.specs.Readers.{needs_no_store, reader_of}
+use Rattle.pcache_store.specs.Readers.{needs_no_store}
 use Rattle.pcache_shared_cache.specs.Calls.{LooksUp}
 use Rattle.pcache_shared_cache.specs.Seen.{Goes}
 use Rattle.pcache_shared_cache.specs.Shared.{Seated}

@@ -1,7 +1,12 @@
-use Rattle.std.proofs.Common.{◌≡◌, IfOk, List, subst, ◌∙◌}
-use Rattle.pcache_evict.specs.Tracked.{Limits}
-use Rattle.pcache_shared_cache.proofs.Placing.{new_limits}
+use Rattle.std.proofs.Common.{◌≡◌, List, ap, map, subst, ◌∙◌}
+use Rattle.std.specs.Duration.{as_nanos}
+use Rattle.std.specs.Prelude.{IfOk}
+use Rattle.pcache_cache.specs.Parts.{Parts}
+use Rattle.pcache_shared_cache.specs.Managed.{opened}
+use Rattle.pcache_shared_cache.proofs.Placing.{new_managers}
 use Rattle.pcache_shared_cache.proofs.shared.SharedCache.new.Goals as goal
 
-pub returns-clause-limits : goal.returns-clause-limits
-returns-clause-limits g c = subst (λ (l : List Limits). IfOk c.over.result (λ (x : List Limits). x ≡ l)) (c.unnamed.ensures ∙ new_limits c.in_ok-new_parts.new_parts.items c.args.portions.items c.in_ok-new_parts.ensures.parts) c.over.ensures.limits
+pub returns-clause-begins : goal.returns-clause-begins
+returns-clause-begins g c =
+    subst (λ (l : List Parts). IfOk c.over.result (λ (x : List Parts). x ≡ l))
+    (ap (map (opened (as_nanos c.args.age_timeout))) (c.unnamed.ensures ∙ new_managers g.M.EvictionManager.tracked g.M.EvictionManager.evicted c.in_ok-new_parts.new_parts.items c.args.portions.items c.in_ok-new_parts.ensures.parts)) c.over.ensures.begins

@@ -5,7 +5,8 @@ use Rattle.std.proofs.lemmas.List.{take_all}
 use Rattle.pcache_shared_cache.specs.Portions.{whole_watermark}
 use Rattle.pcache_cache.specs.Parts.{Parts}
 use Rattle.pcache_store.specs.Totals.{slots}
-use Rattle.pcache_shared_cache.proofs.Together.{limits_in, told-more, told-none, within-count}
+use Rattle.pcache_shared_cache.specs.Seen.{limits_in}
+use Rattle.pcache_shared_cache.proofs.Together.{begun-limits, limits_begun, told-more, told-none, within-count}
 use Rattle.pcache_shared_cache.proofs.shared.SharedCache.slots.Goals as goal
 
 pub loop-part-init : goal.loop-part-init
@@ -24,12 +25,14 @@ loop-part-preserved g c = told-more c.deref-part-items.result.now c.loop-part.pa
 pub returns-clause-value : goal.returns-clause-value
 returns-clause-value g c =
     let t = c.loop-part.invariant.0 in
-    let all : limits_in (take c.loop-part.part-index c.deref-part-items.result.now) ≡ c.args.self.now = ap limits_in (take_all c.loop-part.part-index c.deref-part-items.result.now (omega arith) ∙ c.deref-part-items.ensures.value) ∙ c.self.view_is in
+    let all : limits_begun (take c.loop-part.part-index c.deref-part-items.result.now) ≡ limits_in c.args.self.now =
+    ap limits_begun (take_all c.loop-part.part-index c.deref-part-items.result.now (omega arith) ∙ c.deref-part-items.ensures.value) ∙ begun-limits c.self.inside.parts.items ∙ ap limits_in c.self.view_is in
     (t.0, t.1 ∙ all, t.2, t.3)
 
 pub returns-clause-within : goal.returns-clause-within
 returns-clause-within g c =
     let t = c.loop-part.invariant.0 in
-    let all : limits_in (take c.loop-part.part-index c.deref-part-items.result.now) ≡ c.args.self.now = ap limits_in (take_all c.loop-part.part-index c.deref-part-items.result.now (omega arith) ∙ c.deref-part-items.ensures.value) ∙ c.self.view_is in
-    subst (λ (n : ℕ). IfSome (whole_watermark c.args.self.now) (λ most. n ≤ most)) (sym t.3)
+    let all : limits_begun (take c.loop-part.part-index c.deref-part-items.result.now) ≡ limits_in c.args.self.now =
+    ap limits_begun (take_all c.loop-part.part-index c.deref-part-items.result.now (omega arith) ∙ c.deref-part-items.ensures.value) ∙ begun-limits c.self.inside.parts.items ∙ ap limits_in c.self.view_is in
+    subst (λ (n : ℕ). IfSome (whole_watermark (limits_in c.args.self.now)) (λ most. n ≤ most)) (sym t.3)
     (subst (λ (ls : List Limits). IfSome (whole_watermark ls) (λ most. sum_by (λ (p : Parts). slots p.store) t.0 ≤ most)) (t.1 ∙ all) (within-count t.0 t.2))

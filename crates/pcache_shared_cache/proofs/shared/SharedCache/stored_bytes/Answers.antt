@@ -2,7 +2,8 @@ use Rattle.std.proofs.Common.{◌≡◌, take, arith, ap, ◌∙◌}
 use Rattle.std.proofs.lemmas.List.{take_all}
 use Rattle.pcache_shared_cache.specs.Portions.{whole_weight}
 use Rattle.pcache_store.specs.Totals.{stored_bytes}
-use Rattle.pcache_shared_cache.proofs.Together.{limits_in, told-more, told-none, within}
+use Rattle.pcache_shared_cache.specs.Seen.{limits_in}
+use Rattle.pcache_shared_cache.proofs.Together.{begun-limits, limits_begun, told-more, told-none, within}
 use Rattle.pcache_shared_cache.proofs.shared.SharedCache.stored_bytes.Goals as goal
 
 pub loop-part-init : goal.loop-part-init
@@ -21,13 +22,15 @@ loop-part-preserved g c = told-more c.deref-part-items.result.now c.loop-part.pa
 pub returns-clause-value : goal.returns-clause-value
 returns-clause-value g c =
     let t = c.loop-part.invariant.0 in
-    let all : limits_in (take c.loop-part.part-index c.deref-part-items.result.now) ≡ c.args.self.now = ap limits_in (take_all c.loop-part.part-index c.deref-part-items.result.now (omega arith) ∙ c.deref-part-items.ensures.value) ∙ c.self.view_is in
+    let all : limits_begun (take c.loop-part.part-index c.deref-part-items.result.now) ≡ limits_in c.args.self.now =
+    ap limits_begun (take_all c.loop-part.part-index c.deref-part-items.result.now (omega arith) ∙ c.deref-part-items.ensures.value) ∙ begun-limits c.self.inside.parts.items ∙ ap limits_in c.self.view_is in
     (t.0, t.1 ∙ all, t.2, t.3)
 
 pub returns-clause-within : goal.returns-clause-within
 returns-clause-within g c =
     let t = c.loop-part.invariant.0 in
-    let all : limits_in (take c.loop-part.part-index c.deref-part-items.result.now) ≡ c.args.self.now = ap limits_in (take_all c.loop-part.part-index c.deref-part-items.result.now (omega arith) ∙ c.deref-part-items.ensures.value) ∙ c.self.view_is in
+    let all : limits_begun (take c.loop-part.part-index c.deref-part-items.result.now) ≡ limits_in c.args.self.now =
+    ap limits_begun (take_all c.loop-part.part-index c.deref-part-items.result.now (omega arith) ∙ c.deref-part-items.ensures.value) ∙ begun-limits c.self.inside.parts.items ∙ ap limits_in c.self.view_is in
     let w = within t.0 t.2 in
     let is = ap whole_weight (t.1 ∙ all) in
     omega (arith, w, is, t.3)

@@ -1,0 +1,42 @@
+use Rattle.std.proofs.Common.{rules, ◌≡◌, ◌+◌, suc, List, Ok, Option, Result, arith, inr, subst}
+use Rattle.std.specs.Prelude.{OnOk, ℕ}
+use Rattle.pcache_base.specs.declared.error.ErrorType.{ErrorType}
+use Rattle.pcache_base.specs.declared.poll.Poll.{Poll}
+use Rattle.pcache_base.specs.declared.poll.Poll.TheVariants.{Pending}
+use Rattle.pcache_shared_cache.specs.Seen.{Begins}
+use Rattle.pcache_shared_cache.specs.Turns.{ReadsBody, asked}
+use Rattle.pcache_shared_cache.proofs.Logs.{begins_then}
+use Rattle.pcache_shared_cache.proofs.shared.SharedCache.read_in_turns.Goals as goal
+
+pub returns-in_err-read-clause-turns : goal.returns-in_err-read-clause-turns
+returns-in_err-read-clause-turns g c =
+    let same : c.read_body.result ≡ c.from_residual.result = search rules in
+    let failed : OnOk c.from_residual.result ⊥ = search rules in (
+      c.loop-turn._turn,
+      c.loop-turn.request,
+      c.loop-turn.invariant.4,
+      inr (
+        omega (arith, c.loop-turn-test.true),
+        subst (λ (x : Result (Poll (Option (List ℕ))) ErrorType). ReadsBody c.args.self.now g.K.Mark.names c.loop-turn.request c.read_body.new.request x) same (c.read_body.ensures.sees, c.read_body.ensures.place),
+        λ is. subst (λ (x : Result (Poll (Option (List ℕ))) ErrorType). OnOk x ⊥) is failed,
+      ),
+    )
+
+pub returns-in_err-read-clause-follows : goal.returns-in_err-read-clause-follows
+returns-in_err-read-clause-follows g c =
+    let names = g.K.Mark.names in
+    let i = c.loop-turn.invariant in
+    begins_then (names c.args.request.now.place) c.args.request.now.seen c.loop-turn.request.seen c.read_body.new.request.seen i.3 (subst (λ (n : ℕ). Begins (names n) c.loop-turn.request.seen c.read_body.new.request.seen) i.2 c.read_body.ensures.sees.2.0)
+
+pub loop-turn-preserved : goal.loop-turn-preserved
+loop-turn-preserved g c =
+    let names = g.K.Mark.names in
+    let i = c.loop-turn.invariant in
+    let more : suc c.loop-turn._turn ≡ c.loop-turn._turn + 1 = omega arith in
+    let pending : c.read_body.result ≡ Ok Pending = search rules in (
+      search rules,
+      search rules,
+      search rules,
+      begins_then (names c.args.request.now.place) c.args.request.now.seen c.loop-turn.request.seen c.read_body.new.request.seen i.3 (subst (λ (n : ℕ). Begins (names n) c.loop-turn.request.seen c.read_body.new.request.seen) i.2 c.read_body.ensures.sees.2.0),
+      subst (λ (k : ℕ). asked (ReadsBody c.args.self.now names) k c.args.request.now c.read_body.new.request) more (c.loop-turn.request, i.4, subst (λ (x : Result (Poll (Option (List ℕ))) ErrorType). ReadsBody c.args.self.now names c.loop-turn.request c.read_body.new.request x) pending (c.read_body.ensures.sees, c.read_body.ensures.place)),
+    )
