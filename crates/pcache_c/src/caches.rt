@@ -108,8 +108,9 @@ fn cache_weighing(
     age_timeout_millis: u64,
     weighing: Weighing,
 ) -> u32
-    ensures { OnGood (hash_at seed.now) result (IsSame cache.old cache.new) (λ s. MakesCache weighing
-        limit (watermark_at watermark) (age_timeout_millis * 1000000) cache.old cache.new result) }
+    ensures { OnGood (hash_at seed.now) result (IsSame cache.old cache.new) (λ s. MakesCache
+        weighing limit (watermark_at watermark) (age_timeout_millis * 1000000) cache.old cache.new
+        result) }
 {
     let Some(seed) = seed_of(seed) else {
         return BAD_VALUE;

@@ -60,7 +60,8 @@ fn original_in<'a>(
     request: &'a RequestHeader,
     original: &'a Option<Box<Object>>,
 ) -> Option<&'a HeaderMap>
-    ensures { option_copied result ≡ original_of (option_map (λ o. o.value) original.now) request.now }
+    ensures { option_copied result
+        ≡ original_of (option_map (λ o. o.value) original.now) request.now }
 {
     let Some(original) = original else {
         return Some(&request.headers);

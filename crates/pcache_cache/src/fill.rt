@@ -140,11 +140,11 @@ impl<M: EvictionManager, K> Cache<M, K> {
         requires phase { IsFilling request.old.cache.phase }
         requires own { MayEnd self.old.store request.old.cache }
         ensures request { request.new.cache ≡ after_finish request.old.cache }
-        ensures ended { EndsAs result (λ end. Ends in_memory request.old.cache request.old.cache.key
-            request.old.cache.write (entered self.old.weighing self.old.store request.old.cache.write)
-            self.old.limits end self.old.store self.new.store
-            (tracked_at_end self.old request.old.cache end) self.new.tracked self.old.locks
-            self.new.locks
+        ensures ended { EndsAs result (λ end. Ends in_memory request.old.cache
+            request.old.cache.key request.old.cache.write
+            (entered self.old.weighing self.old.store request.old.cache.write) self.old.limits
+            end self.old.store self.new.store (tracked_at_end self.old request.old.cache end)
+            self.new.tracked self.old.locks self.new.locks
             × EndsRequestPast in_memory request.old.cache.key request.old.cache.write end
             (Some self.old.past) (Some self.new.past)
             × Adds (end_deeds request.old.cache.write request.old.cache.held end) self.old.deeds

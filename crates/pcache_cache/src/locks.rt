@@ -63,8 +63,8 @@ impl<M: EvictionManager, K> Cache<M, K> {
         ensures table { self.new.locks
             ≡ settled (status_for (λ text. GiveUp) reason) request.old.cache.held self.old.locks }
         ensures deeds { Adds
-            (settled_deeds (status_for (λ text. GiveUp) reason) request.old.cache.held) self.old.deeds
-            self.new.deeds }
+            (settled_deeds (status_for (λ text. GiveUp) reason) request.old.cache.held)
+            self.old.deeds self.new.deeds }
         ensures released { result
             ≡ option_map (released_as (status_for (λ text. GiveUp) reason)) request.old.cache.held }
         ensures rest { self.new

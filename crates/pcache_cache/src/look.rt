@@ -290,8 +290,8 @@ impl<M: EvictionManager, K> Cache<M, K> {
         ensures table { self.new.locks
             ≡ settled (status_for (λ text. GiveUp) reason) request.old.cache.held self.old.locks }
         ensures deeds { Adds
-            (settled_deeds (status_for (λ text. GiveUp) reason) request.old.cache.held) self.old.deeds
-            self.new.deeds }
+            (settled_deeds (status_for (λ text. GiveUp) reason) request.old.cache.held)
+            self.old.deeds self.new.deeds }
         ensures released { result ≡ option_map name_of request.old.cache.held }
         ensures rest { self.new
             ≡ record self.old {
@@ -311,7 +311,8 @@ impl<M: EvictionManager, K> Cache<M, K> {
         ensures let_go { result ≡ option_map name_of request.cache.held }
         ensures store { self.new.store
             ≡ left_by request.cache.reader (dropped_by request.cache.write self.old.store) }
-        ensures past { Adds (λ p. left_past request.cache.reader (dropped_past request.cache.write p))
+        ensures past { Adds
+            (λ p. left_past request.cache.reader (dropped_past request.cache.write p))
             self.old.past self.new.past }
         ensures table { self.new.locks ≡ let_go_by request.cache.held self.old.locks }
         ensures deeds { Adds (let_go_deeds request.cache.held) self.old.deeds self.new.deeds }

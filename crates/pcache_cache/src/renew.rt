@@ -48,7 +48,8 @@ impl<M: EvictionManager, K> Cache<M, K> {
             request.old.cache.key self.old.store) self.old
             (KeepsBodies self.old.store self.new.store)) }
         ensures table { self.new.locks ≡ settled Done request.old.cache.held self.old.locks }
-        ensures deeds { Adds (settled_deeds Done request.old.cache.held) self.old.deeds self.new.deeds }
+        ensures deeds { Adds (settled_deeds Done request.old.cache.held) self.old.deeds
+            self.new.deeds }
         ensures rest { self.new
             ≡ record self.old {
               store = self.new.store;
@@ -91,8 +92,8 @@ impl<M: EvictionManager, K> Cache<M, K> {
         ensures table { self.new.locks
             ≡ settled (status_for (λ text. GiveUp) reason) request.old.cache.held self.old.locks }
         ensures deeds { Adds
-            (settled_deeds (status_for (λ text. GiveUp) reason) request.old.cache.held) self.old.deeds
-            self.new.deeds }
+            (settled_deeds (status_for (λ text. GiveUp) reason) request.old.cache.held)
+            self.old.deeds self.new.deeds }
         ensures released { result ≡ option_map name_of request.old.cache.held }
         ensures rest { self.new
             ≡ record self.old { locks = self.new.locks; deeds = self.new.deeds } }
@@ -111,7 +112,8 @@ impl<M: EvictionManager, K> Cache<M, K> {
         requires { MayWrite request.old.cache }
         ensures request { request.new.cache ≡ varied variance request.old.cache }
         ensures table { self.new.locks ≡ table_varied variance request.old.cache self.old.locks }
-        ensures deeds { Adds (varied_deeds variance request.old.cache) self.old.deeds self.new.deeds }
+        ensures deeds { Adds (varied_deeds variance request.old.cache) self.old.deeds
+            self.new.deeds }
         ensures released { result ≡ released_by_variance variance request.old.cache }
         ensures rest { self.new
             ≡ record self.old { locks = self.new.locks; deeds = self.new.deeds } }

@@ -131,9 +131,9 @@ own-by f g m n y false e = refl
 own-by f g m n y true e = ap (λ k. f (g k)) (let is : m ≡ n = grind (arith, nat_tests) in is)
 
 -- The age at which permits are too old stays.
-age-read : (t : Locks) (m : ℕ) (o : Option Core) → (with_read_lock t m o).age_timeout ≡ t.age_timeout
-age-read t m None = refl
-age-read t m (Some c) = refl
+pub age_read : (t : Locks) (m : ℕ) (o : Option Core) → (with_read_lock t m o).age_timeout ≡ t.age_timeout
+age_read t m None = refl
+age_read t m (Some c) = refl
 
 age-kept : (b : Bool) (t : Locks) (m : ℕ) (d : Core) → (cond b (record t { cores = insert t.cores m d }) (record t { cores = remove t.cores m; current = without_entry m d.slot t.current })).age_timeout ≡ t.age_timeout
 age-kept true t m d = refl
@@ -143,40 +143,40 @@ age-left : (b : Bool) (t : Locks) (current : FinMap nat_cmp ℕ) → (cond b t (
 age-left true t current = refl
 age-left false t current = refl
 
-age-released : (t : Locks) (m : ℕ) (reason : LockStatus) (o : Option Core) → (released_on t m reason o).age_timeout ≡ t.age_timeout
-age-released t m reason None = refl
-age-released t m reason (Some c) =
+pub age_released : (t : Locks) (m : ℕ) (reason : LockStatus) (o : Option Core) → (released_on t m reason o).age_timeout ≡ t.age_timeout
+age_released t m reason None = refl
+age_released t m reason (Some c) =
     let d : Core = spent c (released_status reason c.status) in
     age-kept (is_named d) (left t m c) m d ∙ age-left (is_aged c.status) t (without_entry m c.slot t.current)
 
-age-dropped : (t : Locks) (m : ℕ) (o : Option Core) → (permit_dropped t m o).age_timeout ≡ t.age_timeout
-age-dropped t m None = refl
-age-dropped t m (Some c) = let d : Core = spent c (dropped_status c.status) in age-kept (is_named d) t m d
+pub age_dropped : (t : Locks) (m : ℕ) (o : Option Core) → (permit_dropped t m o).age_timeout ≡ t.age_timeout
+age_dropped t m None = refl
+age_dropped t m (Some c) = let d : Core = spent c (dropped_status c.status) in age-kept (is_named d) t m d
 
-age-unread : (t : Locks) (m : ℕ) (o : Option Core) → (reader_dropped t m o).age_timeout ≡ t.age_timeout
-age-unread t m None = refl
-age-unread t m (Some c) = age-kept (is_named (without_reader c)) t m (without_reader c)
+pub age_unread : (t : Locks) (m : ℕ) (o : Option Core) → (reader_dropped t m o).age_timeout ≡ t.age_timeout
+age_unread t m None = refl
+age_unread t m (Some c) = age-kept (is_named (without_reader c)) t m (without_reader c)
 
 age-stage : (s : PermitState) (t : Locks) (m : ℕ) (c : Core) → (table_at s t m c).age_timeout ≡ t.age_timeout
 age-stage stage.Over t m c = refl
 age-stage stage.Old t m c = refl
 age-stage stage.Held t m c = refl
 
-age-polled : (t : Locks) (now m : ℕ) (o : Option Core) → (after_poll t now m o).age_timeout ≡ t.age_timeout
-age-polled t now m None = refl
-age-polled t now m (Some c) = age-stage (permit_state now c) t m c
+pub age_polled : (t : Locks) (now m : ℕ) (o : Option Core) → (after_poll t now m o).age_timeout ≡ t.age_timeout
+age_polled t now m None = refl
+age_polled t now m (Some c) = age-stage (permit_state now c) t m c
 
 age-then : (deed : Deed) (s t : Locks) → Does deed s t → t.age_timeout ≡ s.age_timeout
 age-then (Granted slot m stale now) s t h = ap (λ u. u.age_timeout) h.2
-age-then (Joined slot m now) s t h = ap (λ u. u.age_timeout) h.1 ∙ age-read s m (get s.cores m)
-age-then (Released m reason) s t h = ap (λ u. u.age_timeout) h.1 ∙ age-released s m reason (get s.cores m)
-age-then (LetGo m) s t h = ap (λ u. u.age_timeout) h ∙ age-dropped s m (get s.cores m)
-age-then (Aged m now) s t h = ap (λ u. u.age_timeout) h.1 ∙ age-polled s now m (get s.cores m)
-age-then (Left m) s t h = ap (λ u. u.age_timeout) h ∙ age-unread s m (get s.cores m)
+age-then (Joined slot m now) s t h = ap (λ u. u.age_timeout) h.1 ∙ age_read s m (get s.cores m)
+age-then (Released m reason) s t h = ap (λ u. u.age_timeout) h.1 ∙ age_released s m reason (get s.cores m)
+age-then (LetGo m) s t h = ap (λ u. u.age_timeout) h ∙ age_dropped s m (get s.cores m)
+age-then (Aged m now) s t h = ap (λ u. u.age_timeout) h.1 ∙ age_polled s now m (get s.cores m)
+age-then (Left m) s t h = ap (λ u. u.age_timeout) h ∙ age_unread s m (get s.cores m)
 age-then (Polled m now) s t h = ap (λ u. u.age_timeout) h.1
 age-then (Published m tokens) s t h = ap (λ u. u.age_timeout) h
 age-then (Made m own stale now) s t h = ap (λ u. u.age_timeout) h.1
-age-then (ReadLocked m) s t h = ap (λ u. u.age_timeout) h ∙ age-read s m (get s.cores m)
+age-then (ReadLocked m) s t h = ap (λ u. u.age_timeout) h ∙ age_read s m (get s.cores m)
 age-then (Unlocked m reason) s t h = ap (λ u. u.age_timeout) h.1
 
 age-said : (past : List Deed) (start age : ℕ) (t : Locks) → PastLeads past (no_locks_from start age) t → t.age_timeout ≡ age

@@ -501,8 +501,10 @@ impl<C: CachePut, S: Storage> CachePutCtx<C, S> {
 
     /// Ends the put, and drops a write that is still in flight.
     pub fn end(self, storage: &mut S)
-        ensures store { S.state storage.new ≡ dropped_by (write_in self.stage) (S.state storage.old) }
-        ensures past { S.past storage.new ≡ dropped_past (write_in self.stage) (S.past storage.old) }
+        ensures store { S.state storage.new
+            ≡ dropped_by (write_in self.stage) (S.state storage.old) }
+        ensures past { S.past storage.new
+            ≡ dropped_past (write_in self.stage) (S.past storage.old) }
     {
         let writer = self.into_writer();
         drop_writer(storage, writer);

@@ -60,7 +60,8 @@ impl<M: EvictionManager, K: Mark, const N: usize> SharedCache<M, K, N> {
         turns: u32,
     ) -> Result<Poll<LockWaitOutcome>>
         requires { IsSome (read_in request.old.cache.held) }
-        ensures turns { InTurns (AsksOfWait self.now K.names now) turns request.old request.new result }
+        ensures turns { InTurns (AsksOfWait self.now K.names now) turns request.old request.new
+            result }
         ensures follows { Begins (K.names request.old.place) request.old.seen request.new.seen }
         ensures goes_on { IfOk result (λ a. a ≡ Pending → IsSome (read_in request.new.cache.held)) }
         ensures kind { IfErr result (λ e. e ≡ OutOfMemory) }

@@ -111,7 +111,8 @@ impl<M: EvictionManager, K: Mark, const N: usize> SharedCache<M, K, N> {
     ) -> Result<()>
         requires { MayLookUp request.old.cache.phase }
         ensures goes { Goes self.now K.names request.old.place request.old.seen request.new.seen
-            (TakesFound result status meta (reader_of hit) now request.old.cache request.new.cache) }
+            (TakesFound result status meta (reader_of hit) now request.old.cache
+            request.new.cache) }
         ensures numbers { IfErr result (λ e.
             e ≡ NumbersExhausted → IsTrue (asks_for_hit status request.old.cache)) }
         ensures same { OnErr result (request.new.cache ≡ request.old.cache) }

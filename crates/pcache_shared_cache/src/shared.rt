@@ -75,7 +75,8 @@ impl<M: EvictionManager, K: Mark, const N: usize> SharedCache<M, K, N> {
         requires count { length portions.items ≡ N }
         requires unnamed { (place : ℕ) → K.names place ≡ None }
         ensures begins { IfOk result (λ c. c
-            ≡ map (opened (as_nanos age_timeout)) (map (managed_in M.tracked M.evicted) portions.items)) }
+            ≡ map (opened (as_nanos age_timeout))
+            (map (managed_in M.tracked M.evicted) portions.items)) }
         ensures kind { IfErr result (λ e. e ≡ OutOfMemory) }
     {
         let new_parts = new_parts(alloc, portions)?;
@@ -210,7 +211,8 @@ fn locks_of<M: EvictionManager, K: Mark>(
     ensures made { IfOk result (λ v. (length v.items ≡ length new_parts.items)
         × ArePlaced v.items
         × (map begun_first v.items
-        ≡ map (opened (as_nanos age_timeout)) (map (unmade_managed M.tracked M.evicted) new_parts.items))) }
+        ≡ map (opened (as_nanos age_timeout))
+        (map (unmade_managed M.tracked M.evicted) new_parts.items))) }
     ensures kind { IfErr result (λ e. e ≡ OutOfMemory) }
 {
     let mut parts = Vec::with_capacity(alloc, new_parts.len())?;

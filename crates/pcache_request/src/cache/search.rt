@@ -226,7 +226,8 @@ impl<S: Storage> HttpCache<S> {
         ensures table { OnOk result (L.table lock.new
             ≡ table_looked_for (S.state storage.old) now self.old (L.table lock.old)) }
         ensures deeds { OnOk result (L.past lock.new
-            ≡ looked_deeds (S.state storage.old) now (L.table lock.old) self.old (L.past lock.old)) }
+            ≡ looked_deeds (S.state storage.old) now (L.table lock.old) self.old
+            (L.past lock.old)) }
         ensures same_request { OnErr result (self.new ≡ self.old) }
         ensures left { OnErr result (FailsToLook (S.state storage.old) self.old (S.past storage.old)
             (S.state storage.new) (S.past storage.new)) }
