@@ -78,7 +78,7 @@ read_not now r p q result e is why same =
 
 -- the part is as it was, and so nothing is forgotten
 pub leads_nowhere : (p q : Parts) → q ≡ p → Leads p q
-leads_nowhere p q same = subst (λ (x : Parts). Leads p x) (sym same) (record { limits = refl; weighing = refl; past = grew_same p.past p.past refl; deeds = grew_same p.deeds p.deeds refl })
+leads_nowhere p q same = subst (λ (x : Parts). Leads p x) (sym same) (record { limits = refl; weighing = refl; age = refl; past = grew_same p.past p.past refl; deeds = grew_same p.deeds p.deeds refl })
 
 -- a call that looked at the part, and then was made, was made after all that had been seen
 pub goes_then : {P Q : Parts → Parts → Type 0} (firsts : List Parts) (names : ℕ → Option ℕ) (place : ℕ) (old mid new : List Parts) → Goes firsts names place old mid P → Goes firsts names place mid new Q → Goes firsts names place old new Q

@@ -1,12 +1,14 @@
--- Each call led from the state that it found to the one that it left: the limits stay, and of the two pasts nothing is forgotten.
-use Rattle.std.proofs.Common.{◌≡◌, ⊎_elim, inl, inr, ℕ, Bool, true, List, Option, None, Some, Result, Ok, Err, OnErr, OnOk, ap, option_map, sym, subst}
+-- Each call led from the state that it found to the one that it left: the limits and the age of permits stay, and of the two pasts
+-- nothing is forgotten.
+use Rattle.std.proofs.Common.{◌≡◌, ⊎_elim, inl, inr, ℕ, Bool, true, List, Option, None, Some, Result, Ok, Err, OnErr, OnOk, ap, option_map, refl, sym, subst}
 use Rattle.pcache_base.specs.Key.{slot}
 use Rattle.pcache_base.specs.declared.error.ErrorType.{ErrorType}
 use Rattle.pcache_cache.proofs.Adding.{dropped_keeps, end_keeps, ends_request_keeps, found_keeps, handed_keeps, left_keeps, let_go_keeps, looked_keeps, published_keeps, renews_keeps, searched_keeps, settled_keeps, taken_keeps, varied_keeps, waited_keeps, writing_keeps, begun_keeps, written_keeps}
 use Rattle.pcache_cache.proofs.Growing.{GrewFrom, grew_by, grew_if, grew_not, grew_same, kept_by_deeds, kept_by_notes}
 use Rattle.pcache_cache.specs.Growing.{Grew}
 use Rattle.pcache_cache.specs.Renewing.{stock}
-use Rattle.pcache_cache.specs.Parts.{Adds, MayEnd, Parts, written_past}
+use Rattle.pcache_cache.specs.Parts.{Adds, MayEnd, Parts, tracked_at_end, written_past}
+use Rattle.pcache_cache.specs.Weighing.{entered}
 use Rattle.pcache_lock.specs.declared.lock.outcome.LockWaitOutcome.{LockWaitOutcome}
 use Rattle.pcache_lock.specs.declared.lock.permit.WritePermit.{WritePermit}
 use Rattle.pcache_lock.specs.declared.lock.status.LockStatus.{LockStatus}
@@ -15,10 +17,13 @@ use Rattle.pcache_base.specs.declared.poll.Poll.{Poll}
 use Rattle.pcache_base.specs.declared.reason.NoCacheReason.{NoCacheReason}
 use Rattle.pcache_meta.specs.Meta.{Meta}
 use Rattle.pcache_request.specs.LockPasts.{end_deeds, found_deeds, handed_deeds, let_go_deeds, looked_deeds, published_deeds, settled_deeds, varied_deeds, waited_deeds}
+use Rattle.pcache_request.specs.LockUse.{published_by, table_handed}
+use Rattle.pcache_request.specs.LockWaits.{table_waited}
 use Rattle.pcache_request.specs.Releasing.{status_for}
 use Rattle.pcache_request.specs.Renewals.{renewed_by}
-use Rattle.pcache_request.specs.Requests.{Request}
+use Rattle.pcache_request.specs.Requests.{Request, let_go_by, table_found}
 use Rattle.pcache_request.specs.StorePasts.{begun_past, dropped_past, expired_past, left_past, purged_past, searched_past, taken_past, writing_past}
+use Rattle.pcache_request.specs.Variants.{table_looked_for, table_varied}
 use Rattle.pcache_request.specs.WriteEnds.{EndsAs}
 use Rattle.pcache_request.specs.declared.cache.finish.FinishReport.{FinishReport}
 use Rattle.pcache_request.specs.declared.cache.finish.WriteEnd.{WriteEnd}
@@ -29,6 +34,7 @@ use Rattle.pcache_store.specs.Past.{Purged}
 use Rattle.pcache_store.specs.Readers.{in_memory}
 use Rattle.pcache_store.specs.Store.{Reader}
 use Rattle.pcache_store.specs.declared.memory.hit.MemHitHandler.{MemHitHandler}
+use Rattle.pcache_shared_cache.proofs.Ages.{HasAgeOf, age_as, age_ended, age_found, age_handed, age_if, age_let_go, age_looked, age_published, age_varied, age_waited, settled_at}
 use Rattle.pcache_shared_cache.specs.Calls.{BeginsWrite, Disables, EndsHit, EndsRequest, EndsWriteOf, Expires, LetsGo, LooksUp, Publishes, Purges, Releases, Revalidates, TakesFound, TakesPermit, Varies, Waits, Writes}
 use Rattle.pcache_shared_cache.specs.Seen.{Leads}
 
@@ -44,6 +50,7 @@ pub purged : (result : Result Bool ErrorType) (r : Request) (p q : Parts) → Pu
 purged result r p q row = record {
   limits = ap (λ (x : Parts). x.limits) row.rest;
   weighing = ap (λ (x : Parts). x.weighing) row.rest;
+  age = ap (λ (x : Parts). x.locks.age_timeout) row.rest;
   past = grew_if result (purged_past r.key) p.past q.past (kept_by_notes p.past (option_map (λ k. Purged (slot k)) r.key)) row.past (err_ap (λ (x : Parts). x.past) result q p row.same);
   deeds = grew_same p.deeds q.deeds (ap (λ (x : Parts). x.deeds) row.rest);
 }
@@ -52,6 +59,7 @@ pub expired : (result : Result Bool ErrorType) (now : ℕ) (r : Request) (p q : 
 expired result now r p q row = record {
   limits = ap (λ (x : Parts). x.limits) row.rest;
   weighing = ap (λ (x : Parts). x.weighing) row.rest;
+  age = ap (λ (x : Parts). x.locks.age_timeout) row.rest;
   past = grew_if result (expired_past now r.key) p.past q.past (kept_by_notes p.past (expiry_noted now (option_map slot r.key))) row.past (err_ap (λ (x : Parts). x.past) result q p row.same);
   deeds = grew_same p.deeds q.deeds (ap (λ (x : Parts). x.deeds) row.rest);
 }
@@ -60,6 +68,7 @@ pub written : (result : Result Bool ErrorType) (bytes : List ℕ) (eof : Bool) (
 written result bytes eof r p q row = record {
   limits = ap (λ (x : Parts). x.limits) row.rest;
   weighing = ap (λ (x : Parts). x.weighing) row.rest;
+  age = ap (λ (x : Parts). x.locks.age_timeout) row.rest;
   past = grew_if result (written_past p.store r.write bytes eof) p.past q.past (written_keeps (kept_by_notes p.past) p.store r.write bytes eof) row.past (err_ap (λ (x : Parts). x.past) result q p row.same);
   deeds = grew_same p.deeds q.deeds (ap (λ (x : Parts). x.deeds) row.rest);
 }
@@ -77,7 +86,13 @@ looked_table (Ok f) now r s p q row = grew_by (looked_deeds p.store now p.locks 
 looked_table (Err e) now r s p q row = grew_same p.deeds q.deeds row.same_deeds
 
 pub looked : (result : Result (Option (Meta × MemHitHandler)) ErrorType) (now : ℕ) (r s : Request) (p q : Parts) → LooksUp result now r s p q → Leads p q
-looked result now r s p q row = record { limits = ap (λ (x : Parts). x.limits) row.rest; weighing = ap (λ (x : Parts). x.weighing) row.rest; past = looked_past result now r s p q row; deeds = looked_table result now r s p q row }
+looked result now r s p q row = record {
+  limits = ap (λ (x : Parts). x.limits) row.rest;
+  weighing = ap (λ (x : Parts). x.weighing) row.rest;
+  age = age_if result p.locks (table_looked_for p.store now r p.locks) q.locks row.locks (age_looked p.store now r p.locks) row.same_locks;
+  past = looked_past result now r s p q row;
+  deeds = looked_table result now r s p q row;
+}
 
 grew_either : {A R : Type 0} (result : Result R ErrorType) (f h : Option (List A) → Option (List A)) (p q : List A) → ((x : Option (List A)) → GrewFrom (Some p) x → GrewFrom (Some p) (f x)) → ((x : Option (List A)) → GrewFrom (Some p) x → GrewFrom (Some p) (h x))
     → OnOk result (Adds f p q) → OnErr result (Adds h p q) → Grew p q
@@ -88,6 +103,7 @@ pub taken : (result : Result (Unit {0}) ErrorType) (status : HitStatus) (m : Met
 taken result status m h now r s p q row = record {
   limits = row.limits;
   weighing = row.weighing;
+  age = age_if result p.locks (table_found status now r p.locks) q.locks row.locks (age_found status now r p.locks) row.same_locks;
   past = grew_either result (taken_past status h r) (noted (leave_noted h)) p.past q.past (taken_keeps (kept_by_notes p.past) status h r) (kept_by_notes p.past (leave_noted h)) row.past row.left_past;
   deeds = grew_if result (found_deeds status now p.locks r) p.deeds q.deeds (found_keeps (kept_by_deeds p.deeds) status now p.locks r) row.deeds row.same_deeds;
 }
@@ -96,6 +112,7 @@ pub let_go : (h : Reader) (p q : Parts) → LetsGo h p q → Leads p q
 let_go h p q row = record {
   limits = ap (λ (x : Parts). x.limits) row.rest;
   weighing = ap (λ (x : Parts). x.weighing) row.rest;
+  age = ap (λ (x : Parts). x.locks.age_timeout) row.rest;
   past = grew_by (noted (leave_noted h)) p.past q.past (kept_by_notes p.past (leave_noted h)) row.past;
   deeds = grew_same p.deeds q.deeds (ap (λ (x : Parts). x.deeds) row.rest);
 }
@@ -104,6 +121,7 @@ pub hit_ended : (r : Request) (p q : Parts) → EndsHit r p q → Leads p q
 hit_ended r p q row = record {
   limits = ap (λ (x : Parts). x.limits) row.rest;
   weighing = ap (λ (x : Parts). x.weighing) row.rest;
+  age = ap (λ (x : Parts). x.locks.age_timeout) row.rest;
   past = grew_by (left_past r.reader) p.past q.past (left_keeps (kept_by_notes p.past) r.reader) row.past;
   deeds = grew_same p.deeds q.deeds (ap (λ (x : Parts). x.deeds) row.rest);
 }
@@ -112,6 +130,7 @@ pub request_ended : (r : Request) (p q : Parts) → EndsRequest r p q → Leads 
 request_ended r p q row = record {
   limits = ap (λ (x : Parts). x.limits) row.rest;
   weighing = ap (λ (x : Parts). x.weighing) row.rest;
+  age = age_as p.locks (let_go_by r.held p.locks) q.locks row.locks (age_let_go r.held p.locks);
   past = grew_by (λ l. left_past r.reader (dropped_past r.write l)) p.past q.past (λ x is. left_keeps (kept_by_notes p.past) r.reader (dropped_past r.write x) (dropped_keeps (kept_by_notes p.past) r.write x is)) row.past;
   deeds = grew_by (let_go_deeds r.held) p.deeds q.deeds (let_go_keeps (kept_by_deeds p.deeds) r.held) row.deeds;
 }
@@ -120,6 +139,7 @@ pub disabled : (reason : NoCacheReason) (r : Request) (p q : Parts) → Disables
 disabled reason r p q row = record {
   limits = ap (λ (x : Parts). x.limits) row.rest;
   weighing = ap (λ (x : Parts). x.weighing) row.rest;
+  age = settled_at (status_for (λ text. GiveUp) reason) r.held p.locks q.locks row.locks;
   past = grew_by (λ l. left_past r.reader (dropped_past r.write l)) p.past q.past (λ x is. left_keeps (kept_by_notes p.past) r.reader (dropped_past r.write x) (dropped_keeps (kept_by_notes p.past) r.write x is)) row.past;
   deeds = grew_by (settled_deeds (status_for (λ text. GiveUp) reason) r.held) p.deeds q.deeds (settled_keeps (kept_by_deeds p.deeds) (status_for (λ text. GiveUp) reason) r.held) row.deeds;
 }
@@ -128,6 +148,7 @@ pub asked_on : (result : Result (Poll LockWaitOutcome) ErrorType) (now : ℕ) (r
 asked_on result now r s p q row = record {
   limits = ap (λ (x : Parts). x.limits) row.rest;
   weighing = ap (λ (x : Parts). x.weighing) row.rest;
+  age = age_if result p.locks (table_waited p.locks now r.held r) q.locks row.locks (age_waited p.locks now r.held r) (err_ap (λ (x : Parts). x.locks) result q p row.same);
   past = grew_same p.past q.past (ap (λ (x : Parts). x.past) row.rest);
   deeds = grew_if result (waited_deeds p.locks now r.held r) p.deeds q.deeds (waited_keeps (kept_by_deeds p.deeds) p.locks now r.held r) row.deeds (err_ap (λ (x : Parts). x.deeds) result q p row.same);
 }
@@ -136,6 +157,7 @@ pub released : (status : LockStatus) (r : Request) (p q : Parts) → Releases st
 released status r p q row = record {
   limits = ap (λ (x : Parts). x.limits) row.rest;
   weighing = ap (λ (x : Parts). x.weighing) row.rest;
+  age = settled_at status r.held p.locks q.locks row.locks;
   past = grew_same p.past q.past (ap (λ (x : Parts). x.past) row.rest);
   deeds = grew_by (settled_deeds status r.held) p.deeds q.deeds (settled_keeps (kept_by_deeds p.deeds) status r.held) row.deeds;
 }
@@ -144,6 +166,7 @@ pub permit_taken : (permit : WritePermit) (r : Request) (p q : Parts) → TakesP
 permit_taken permit r p q row = record {
   limits = ap (λ (x : Parts). x.limits) row.rest;
   weighing = ap (λ (x : Parts). x.weighing) row.rest;
+  age = age_as p.locks (table_handed permit r p.locks) q.locks row.locks (age_handed permit r p.locks);
   past = grew_same p.past q.past (ap (λ (x : Parts). x.past) row.rest);
   deeds = grew_by (handed_deeds permit r) p.deeds q.deeds (handed_keeps (kept_by_deeds p.deeds) permit r) row.deeds;
 }
@@ -152,6 +175,7 @@ pub published : {A : Type 0} (result : Result A ErrorType) (tokens : List ℕ) (
 published result tokens r p q row = record {
   limits = ap (λ (x : Parts). x.limits) row.rest;
   weighing = ap (λ (x : Parts). x.weighing) row.rest;
+  age = age_if result p.locks (published_by tokens r.held p.locks) q.locks row.locks (age_published tokens r.held p.locks) (err_ap (λ (x : Parts). x.locks) result q p row.same);
   past = grew_same p.past q.past (ap (λ (x : Parts). x.past) row.rest);
   deeds = grew_if result (published_deeds tokens r.held) p.deeds q.deeds (published_keeps (kept_by_deeds p.deeds) tokens r.held) row.deeds (err_ap (λ (x : Parts). x.deeds) result q p row.same);
 }
@@ -160,6 +184,7 @@ pub renewed_body : (result : Result Bool ErrorType) (m : Meta) (r : Request) (p 
 renewed_body result m r p q row = record {
   limits = ap (λ (x : Parts). x.limits) row.rest;
   weighing = ap (λ (x : Parts). x.weighing) row.rest;
+  age = settled_at Done r.held p.locks q.locks row.locks;
   past = renews_keeps (kept_by_notes p.past) p.weighing p.limits (renewed_by m r.meta) r.key result (stock p) (stock q) row.renews (grew_not p.past);
   deeds = grew_by (settled_deeds Done r.held) p.deeds q.deeds (settled_keeps (kept_by_deeds p.deeds) Done r.held) row.deeds;
 }
@@ -168,6 +193,7 @@ pub varied_on : (variance : Option (List ℕ)) (r : Request) (p q : Parts) → V
 varied_on variance r p q row = record {
   limits = ap (λ (x : Parts). x.limits) row.rest;
   weighing = ap (λ (x : Parts). x.weighing) row.rest;
+  age = age_as p.locks (table_varied variance r p.locks) q.locks row.locks (age_varied variance r p.locks);
   past = grew_same p.past q.past (ap (λ (x : Parts). x.past) row.rest);
   deeds = grew_by (varied_deeds variance r) p.deeds q.deeds (varied_keeps (kept_by_deeds p.deeds) variance r) row.deeds;
 }
@@ -182,8 +208,18 @@ begun_deeds (Ok a) r s p q row = grew_by (settled_deeds Done r.held) p.deeds q.d
 begun_deeds (Err e) r s p q row = ⊎_elim (λ same. grew_as p.deeds q.deeds (Some p.deeds) same.4 (grew_not p.deeds))
     (λ gone. grew_as p.deeds q.deeds (settled_deeds Done r.held (Some p.deeds)) gone.4 (settled_keeps (kept_by_deeds p.deeds) Done r.held (Some p.deeds) (grew_not p.deeds))) row.failed
 
+begun_age : (result : Result (Unit {0}) ErrorType) (r s : Request) (p q : Parts) → BeginsWrite result r s p q → HasAgeOf p.locks q.locks
+begun_age (Ok a) r s p q row = settled_at Done r.held p.locks q.locks row.locks
+begun_age (Err e) r s p q row = ⊎_elim (λ same. age_as p.locks p.locks q.locks same.3 refl) (λ gone. settled_at Done r.held p.locks q.locks gone.3) row.failed
+
 pub begun : (result : Result (Unit {0}) ErrorType) (r s : Request) (p q : Parts) → BeginsWrite result r s p q → Leads p q
-begun result r s p q row = record { limits = ap (λ (x : Parts). x.limits) row.rest; weighing = ap (λ (x : Parts). x.weighing) row.rest; past = begun_notes result r s p q row; deeds = begun_deeds result r s p q row }
+begun result r s p q row = record {
+  limits = ap (λ (x : Parts). x.limits) row.rest;
+  weighing = ap (λ (x : Parts). x.weighing) row.rest;
+  age = begun_age result r s p q row;
+  past = begun_notes result r s p q row;
+  deeds = begun_deeds result r s p q row;
+}
 
 -- what holds of each way in which a write can have ended
 ended_any : {X : Type 0} {P : WriteEnd → Type 0} (result : Result (Option FinishReport) ErrorType) → EndsAs result P → ((how : WriteEnd) → P how → X) → X
@@ -196,10 +232,17 @@ pub ended : (result : Result (Option FinishReport) ErrorType) (r : Request) (p q
 ended result r p q row may = record {
   limits = row.limits;
   weighing = row.weighing;
+  age = ended_any result (row.ended may) (λ how is. age_ended in_memory r r.key r.write (entered p.weighing p.store r.write) p.limits how p.store q.store (tracked_at_end p r how) q.tracked p.locks q.locks is.0);
   past = ended_any result (row.ended may) (λ how is. ends_request_keeps (kept_by_notes p.past) in_memory r.key r.write how (Some p.past) (Some q.past) is.1 (grew_not p.past));
   deeds = ended_any result (row.ended may) (λ how is. grew_by (end_deeds r.write r.held how) p.deeds q.deeds (end_keeps (kept_by_deeds p.deeds) r.write r.held how) is.2);
 }
 
 -- nothing changed
 pub stayed : (p q : Parts) → q ≡ p → Leads p q
-stayed p q same = record { limits = ap (λ (x : Parts). x.limits) same; weighing = ap (λ (x : Parts). x.weighing) same; past = grew_same p.past q.past (ap (λ (x : Parts). x.past) same); deeds = grew_same p.deeds q.deeds (ap (λ (x : Parts). x.deeds) same) }
+stayed p q same = record {
+  limits = ap (λ (x : Parts). x.limits) same;
+  weighing = ap (λ (x : Parts). x.weighing) same;
+  age = ap (λ (x : Parts). x.locks.age_timeout) same;
+  past = grew_same p.past q.past (ap (λ (x : Parts). x.past) same);
+  deeds = grew_same p.deeds q.deeds (ap (λ (x : Parts). x.deeds) same);
+}

@@ -1,4 +1,5 @@
 pub mod Adding
+pub mod Ages
 pub mod FoundAlone
 pub mod InPart
 pub mod Led

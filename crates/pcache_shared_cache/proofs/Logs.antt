@@ -1,8 +1,10 @@
 -- Logs that go on, and what was seen of them.
-use Rattle.std.proofs.Common.{◌≡◌, inl, inr, ℕ, Option, Some, None, List, [], ◌∷◌, ◌++◌, append_assoc, slice_get, refl, sym, ap, subst, ◌∙◌}
+use Rattle.std.proofs.Common.{◌≡◌, ◌<◌, inl, inr, ℕ, suc, zero, Option, Some, None, List, [], ◌∷◌, ◌++◌, append_assoc, length, slice_get, refl, sym, ap, subst, ◌∙◌, arith}
+use Rattle.std.specs.List.{All}
+use Rattle.std.specs.Prelude.{slice_index_or}
 use Rattle.std.proofs.lemmas.List.{append-nil}
 use Rattle.pcache_cache.specs.Parts.{Parts}
-use Rattle.pcache_shared_cache.specs.Seen.{Begins, Begun, EndsWith, Goes, Held, IsLog, IsSound, Leads, Looks, Moves, Sees, goes_on, limits_in}
+use Rattle.pcache_shared_cache.specs.Seen.{Begins, Begun, EndsWith, Goes, Held, IsLog, IsSound, Leads, Looks, Moves, Sees, first_of, goes_on, limits_in}
 
 goes : (x : Parts) (l : List Parts) (p q : Parts) → goes_on x (l ++ p ∷ []) → Leads p q → IsSound q → goes_on x ((l ++ p ∷ []) ++ q ∷ [])
 goes x [] p q is leads sound = (is.0, ((leads, sound), tt))
@@ -27,6 +29,20 @@ sound_in (x ∷ l) p is = sound_on x l p is.1
 
 pub sound_last : (log : List Parts) (p : Parts) → EndsWith log p → IsLog log → IsSound p
 sound_last log p ends is = sound_in ends.0 p (subst IsLog ends.1 is)
+
+-- what no call changes is of each state of a log as it is of the first
+kept_on : {X : Type 0} (f : Parts → X) → ((p q : Parts) → Leads p q → f q ≡ f p) → (p : Parts) (l : List Parts) → goes_on p l → (k : ℕ) (d : Parts) → k < length l → f (slice_index_or l k d) ≡ f p
+kept_on f same p [] is k d lt = absurd (omega arith)
+kept_on f same p (q ∷ l) is zero d lt = same p q is.0.0
+kept_on f same p (q ∷ l) is (suc k) d lt = kept_on f same q l is.1 k d (omega arith) ∙ same p q is.0.0
+
+kept_from : {X : Type 0} (f : Parts → X) → ((p q : Parts) → Leads p q → f q ≡ f p) → (p : Parts) (l : List Parts) → goes_on p l → (k : ℕ) (d : Parts) → k < length (p ∷ l) → f (slice_index_or (p ∷ l) k d) ≡ f p
+kept_from f same p l is zero d lt = refl
+kept_from f same p l is (suc k) d lt = kept_on f same p l is k d (omega arith)
+
+pub kept_in : {X : Type 0} (f : Parts → X) → ((p q : Parts) → Leads p q → f q ≡ f p) → (log : List Parts) → IsLog log → All (λ p. f p ≡ f (first_of log)) log
+kept_in f same [] is = absurd is
+kept_in f same (p ∷ l) is = kept_from f same p l is.1
 
 pub log_as : (a b : List Parts) → a ≡ b → IsLog b → IsLog a
 log_as a b e is = subst IsLog (sym e) is

@@ -42,6 +42,7 @@ pub piece_taken : {C : Type 0} (result : Result (Option NoCacheReason) ErrorType
 piece_taken result says x y piece p q row = record {
   limits = ap (λ (r : Parts). r.limits) row.rest;
   weighing = ap (λ (r : Parts). r.weighing) row.rest;
+  age = ap (λ (r : Parts). r.locks.age_timeout) row.rest;
   past = grew_by (put_past x row.step.0 result p.store) p.past q.past (put_keeps (kept_by_notes p.past) x row.step.0 result p.store) row.step.3;
   deeds = grew_same p.deeds q.deeds (ap (λ (r : Parts). r.deeds) row.rest);
 }
@@ -59,6 +60,7 @@ pub put_ended : {C : Type 0} (result : Result PutOutcome ErrorType) (x y : Put C
 put_ended result x y p q row may = record {
   limits = ap (λ (r : Parts). r.limits) row.rest;
   weighing = ap (λ (r : Parts). r.weighing) row.rest;
+  age = ap (λ (r : Parts). r.locks.age_timeout) row.rest;
   past = put_any result (row.ended may) (λ how is. ends_put_keeps (kept_by_notes p.past) in_memory x.key x.stage how (Some p.past) (Some q.past) is.1 (grew_not p.past));
   deeds = grew_same p.deeds q.deeds (ap (λ (r : Parts). r.deeds) row.rest);
 }
@@ -68,6 +70,7 @@ pub left_dropped : (w : Option ℕ) (p q : Parts) → DropsLeft w p q → Leads 
 left_dropped w p q row = record {
   limits = ap (λ (r : Parts). r.limits) row.rest;
   weighing = ap (λ (r : Parts). r.weighing) row.rest;
+  age = ap (λ (r : Parts). r.locks.age_timeout) row.rest;
   past = grew_by (dropped_past w) p.past q.past (dropped_keeps (kept_by_notes p.past) w) row.past;
   deeds = grew_same p.deeds q.deeds (ap (λ (r : Parts). r.deeds) row.rest);
 }

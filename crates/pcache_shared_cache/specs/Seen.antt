@@ -66,11 +66,12 @@ pub record IsSound (p : Parts) : Type 0 where
   pub fetches : OneFetchAtATime p.deeds
   pub weighing : p.weighing ≡ Entries
 
--- a call led from the state p to q: no call changes a part's limits or what its entries weigh, and of what was done to the store and to the locks nothing is
--- forgotten
+-- a call led from the state p to q: no call changes a part's limits, what its entries weigh or the age at which its permits are too
+-- old, and of what was done to the store and to the locks nothing is forgotten
 pub record Leads (p q : Parts) : Type 0 where
   pub limits : q.limits ≡ p.limits
   pub weighing : q.weighing ≡ p.weighing
+  pub age : q.locks.age_timeout ≡ p.locks.age_timeout
   pub past : Grew p.past q.past
   pub deeds : Grew p.deeds q.deeds
 

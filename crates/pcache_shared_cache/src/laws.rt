@@ -4,6 +4,7 @@ ghost use Rattle.std.specs.List.{range_with_len};
 ghost use Rattle.pcache_cache.specs.Parts.{IsKept, Parts};
 ghost use Rattle.pcache_store.specs.Totals.{slots, stored_bytes};
 ghost use Rattle.pcache_shared_cache.specs.Portions.{portion, portions, whole_watermark, whole_weight};
+ghost use Rattle.pcache_shared_cache.specs.Seen.{IsLog, first_of};
 
 /// The portions of a whole sum to the whole.
 pub fn portions_add_up()
@@ -25,4 +26,18 @@ pub fn parts_keep_the_whole()
         → All (λ p. IsKept p.weighing p.limits p.tracked p.store) ps
         → IfSome (whole_watermark (map (λ p. p.limits) ps)) (λ most.
         sum_by (λ p. slots p.store) ps ≤ most) }
+{}
+
+/// A part keeps the settings with which it began: each state of its log has the limits of the first one, weighs entries as that
+/// one, and has the age at which its permits are too old. No call changes them.
+pub fn a_part_keeps_its_settings()
+    ensures limits { (log : List Parts)
+        → IsLog log
+        → All (λ p. p.limits ≡ (first_of log).limits) log }
+    ensures weighing { (log : List Parts)
+        → IsLog log
+        → All (λ p. p.weighing ≡ (first_of log).weighing) log }
+    ensures age { (log : List Parts)
+        → IsLog log
+        → All (λ p. p.locks.age_timeout ≡ (first_of log).locks.age_timeout) log }
 {}
