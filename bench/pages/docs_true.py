@@ -1,11 +1,11 @@
 #!/usr/bin/env python3
 """Sees that the documents say what is so: README.md, CHANGELOG.md, CONTRIBUTING.md and the pages of docs/.
 
-  bench/docs_true.py             prints what is wrong, and fails if anything is
-  bench/docs_true.py --write     writes the counts of AUDIT.md as they are today, and then does the same
-  bench/docs_true.py --run       also runs the commands of README.md and GUIDE.md that take seconds, over the programs that are built
-  bench/docs_true.py --use-it    runs the block "Use it" of README.md in a copy of the tree, which takes some minutes
-  bench/docs_true.py --lies      plants a lie of each kind in the pages, in memory, and fails if one is not caught
+  bench/pages/docs_true.py             prints what is wrong, and fails if anything is
+  bench/pages/docs_true.py --write     writes the counts of AUDIT.md as they are today, and then does the same
+  bench/pages/docs_true.py --run       also runs the commands of README.md and GUIDE.md that take seconds, over the programs that are built
+  bench/pages/docs_true.py --use-it    runs the block "Use it" of README.md in a copy of the tree, which takes some minutes
+  bench/pages/docs_true.py --lies      plants a lie of each kind in the pages, in memory, and fails if one is not caught
 
 - each relative link leads to a file, and its anchor to a heading of it
 - each path of the repository in backticks exists
@@ -17,7 +17,7 @@
 - each block of output in README.md and GUIDE.md is what a program's file stdout has
 - in a picture of the crates none stands above one that uses it
 - where a number of tests, crates, public functions or wrong bodies is said, it is today's; so in AUDIT.md's counts
-- bench/definitions_of.py reads each clause that begins in a source
+- bench/contracts/definitions_of.py reads each clause that begins in a source
 - README.md has at most 140 lines, and dev/PERFORMANCE.md 80
 """
 import functools
@@ -30,10 +30,11 @@ import sys
 import tempfile
 import traceback
 
-sys.path.insert(0, os.path.dirname(os.path.realpath(__file__)))
+BENCH = os.path.dirname(os.path.dirname(os.path.realpath(__file__)))
+sys.path.insert(0, f"{BENCH}/contracts")
 import definitions_of  # noqa: E402
 
-TOP = os.path.dirname(os.path.dirname(os.path.realpath(__file__)))
+TOP = os.path.dirname(BENCH)
 ABSENT = {"async_lru", "lru"}  # of the Rust, and said to be absent
 OUTSIDE = {"std", "core", "fs", "http", "bytes", "rt", "crate", "Rattle", "kit", "env", "io", "Self", "BUILD"}
 BLOCK = re.compile(r"^```(\w*)\n(.*?)^```$", re.S | re.M)
@@ -268,7 +269,7 @@ def reached(wanted):
     return len(order), definitions_of.lines_of(order)
 
 
-PRINTED = re.compile(r"(`bench/definitions_of\.py ([\w:.]+)` prints the )\d+( definitions)")
+PRINTED = re.compile(r"(`bench/contracts/definitions_of\.py ([\w:.]+)` prints the )\d+( definitions)")
 COUNTED = re.compile(r"(?m)^(\| [^|\n]* \| (?:`(\w+)`(?: of `([\w:]+)`)?)? ?\| )([\d,]+) \| ([\d,]+) \|$")
 
 
@@ -377,7 +378,7 @@ def run_commands():
     said = subprocess.run(["sh", "-c", blocks[at]], cwd=TOP, capture_output=True, text=True, timeout=300).stdout
     if said != blocks[at + 1]:
         wrong.append(f"README.md: the first run prints {said!r}")
-    for words in (["python3", "bench/definitions_of.py", "World::headline", "--count"], ["python3", "bench/api_pages.py", "--check"]):
+    for words in (["python3", "bench/contracts/definitions_of.py", "World::headline", "--count"], ["python3", "bench/pages/api_pages.py", "--check"]):
         ran = subprocess.run(words, cwd=TOP, capture_output=True, text=True, timeout=120)
         if ran.returncode:
             wrong.append(f"{' '.join(words)} ends with {ran.returncode}: {ran.stdout[-300:]}")
@@ -403,7 +404,7 @@ def use_block(block):
     with tempfile.TemporaryDirectory(prefix="use-it-") as room:
         for it in ("crates.txt", "HANDLES"):
             shutil.copy(f"{TOP}/{it}", f"{room}/{it}")
-        shutil.copytree(f"{TOP}/bench", f"{room}/bench")
+        shutil.copytree(BENCH, f"{room}/bench")
         shutil.copytree(f"{TOP}/crates", f"{room}/crates", ignore=shutil.ignore_patterns("out"))
         return subprocess.run(["sh", "-ec", block], cwd=room, input="/news\n/news\n", capture_output=True, text=True)
 
@@ -420,7 +421,7 @@ def main():
     if "--lies" in sys.argv[1:]:
         sys.exit(1 if lies() else 0)
     wrong = [f"{page}: {it}" for page, text in pages().items() for it in wrong_in(page, text)]
-    wrong += [f"bench/definitions_of.py: {it}" for it in definitions_of.unread_clauses()]
+    wrong += [f"bench/contracts/definitions_of.py: {it}" for it in definitions_of.unread_clauses()]
     wrong += [f"docs/PROMISES.md: {it}" for it in made_seeds()]
     wrong += run_commands() if "--run" in sys.argv[1:] else []
     wrong += use_it() if "--use-it" in sys.argv[1:] else []
