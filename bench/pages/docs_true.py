@@ -1,5 +1,5 @@
 #!/usr/bin/env python3
-"""Sees that the documents say what is so: README.md, CHANGELOG.md, CONTRIBUTING.md and the pages of docs/.
+"""Sees that the documents say what is so: README.md, CHANGELOG.md, CONTRIBUTING.md, bench/README.md and the pages of docs/.
 
   bench/pages/docs_true.py             prints what is wrong, and fails if anything is
   bench/pages/docs_true.py --write     writes the counts of AUDIT.md as they are today, and then does the same
@@ -18,6 +18,7 @@
 - in a picture of the crates none stands above one that uses it
 - where a number of tests, crates, public functions or wrong bodies is said, it is today's; so in AUDIT.md's counts
 - bench/contracts/definitions_of.py reads each clause that begins in a source
+- bench/README.md names each script of bench/ in the part of its folder (or dev/PERFORMANCE.md, if it measures), and no other
 - README.md has at most 140 lines, and dev/PERFORMANCE.md 80
 """
 import functools
@@ -44,7 +45,7 @@ NOT_COMMANDS = {"rt", "is", "and"}
 
 
 def pages():
-    out = [f"{TOP}/{it}" for it in ("README.md", "CHANGELOG.md", "CONTRIBUTING.md") if os.path.exists(f"{TOP}/{it}")]
+    out = [f"{TOP}/{it}" for it in ("README.md", "CHANGELOG.md", "CONTRIBUTING.md", "bench/README.md") if os.path.exists(f"{TOP}/{it}")]
     for folder, _folders, files in os.walk(f"{TOP}/docs"):
         out += [f"{folder}/{it}" for it in files if it.endswith(".md")]
     return {os.path.relpath(it, TOP): read(it) for it in sorted(out)}
@@ -307,6 +308,22 @@ def made_seeds(change=lambda text: text):
             yield f"{found[0]} makes a seed"
 
 
+def wrong_scripts(text):
+    """Scripts of a folder of bench/ that its part of the page does not name (nor docs/dev/PERFORMANCE.md, if it measures), and those
+    that are named and are not there."""
+    folders = {it for it in os.listdir(BENCH) if os.path.isdir(f"{BENCH}/{it}") and not it.startswith("_")}
+    parts = {folder: part for folder, part in re.findall(r"(?ms)^## (.*?)\n(.*?)(?=^## |\Z)", text)}
+    yield from (f"nothing says what is in {it}" for it in sorted(folders - parts.keys()))
+    for folder, part in parts.items():
+        at = f"{BENCH}/{folder}" if folder in folders else BENCH
+        named = set(re.findall(r"[\w/]+\.(?:py|sh)\b", part))
+        yield from (f"no script in {folder}: {it}" for it in sorted(named) if not os.path.exists(f"{at}/{it}"))
+        if folder == "speed":
+            named |= set(re.findall(r"\w+\.sh\b", read(f"{TOP}/docs/dev/PERFORMANCE.md")))
+        there = {os.path.basename(it) for it in glob.glob(f"{at}/*.py") + glob.glob(f"{at}/*.sh")}
+        yield from (f"nothing says what {folder}/{it} does" for it in sorted(there - named))
+
+
 # Pages of one screen or little more stay so.
 MOST_LINES = {"README.md": 140, "docs/dev/PERFORMANCE.md": 80}
 
@@ -330,6 +347,8 @@ def wrong_in(page, text):
         yield from wrong_figures(text)
     if base == "AUDIT.md":
         yield from wrong_counts(text)
+    if page == "bench/README.md":
+        yield from wrong_scripts(text)
 
 
 def with_output_changed(text):
@@ -354,6 +373,8 @@ LIES = [
     ("a page that is too long", "README.md", lambda text: text + "\n" * 9),
     ("a crate above one that uses it", "README.md", lambda text: re.sub(r"(?m)^( values .*)\n", "", text).replace("```\n programs", "```\n values  pcache_base  pcache_meta  pcache_control  pcache_table\n programs", 1)),
     ("a wrong count of definitions", "docs/AUDIT.md", with_count_changed),
+    ("a script that no page names", "bench/README.md", lambda text: re.sub(r"(?m)^\| `unused\.py`.*\n", "", text)),
+    ("a script in another folder", "bench/README.md", lambda text: text.replace("| `prove.py", "| `clauses.py` | | |\n| `prove.py", 1)),
 ]
 
 
