@@ -10,7 +10,7 @@
  * handles may run at once, also on a cache, a view of one of its bodies and a meta of one of its requests.
  * A request is a number of its cache, so its calls are calls on the cache's handle.
  *
- * bench/archives.py makes what is linked, proved or not, which pcache_is_proved tells:
+ * bench/make/archives.py makes what is linked, proved or not, which pcache_is_proved tells:
  *   gcc program.c -I build/c build/c/libpcache_c.a build/c/libpcache_heap.a */
 #ifndef PCACHE_C_H
 #define PCACHE_C_H

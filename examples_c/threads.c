@@ -1,6 +1,6 @@
 /* Caches that eight threads use, each cache behind a mutex of its own: a million calls, in which requests move between threads, bodies
  * are read along while they are written, and views are let go by another thread without a mutex. Each byte that is read is compared
- * with what was written. `bench/from_c.sh` plays it under ThreadSanitizer too. */
+ * with what was written. `bench/plays/from_c.sh` plays it under ThreadSanitizer too. */
 #include "pcache_c.h"
 
 #include <pthread.h>

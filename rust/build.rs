@@ -11,7 +11,7 @@ fn main() {
         let archive = folder.join(format!("lib{name}.a"));
         println!("cargo:rerun-if-changed={}", archive.display());
         if !archive.exists() {
-            eprintln!("{} is missing: make it by bench/archives.py, or set PCACHE_LIB", archive.display());
+            eprintln!("{} is missing: make it by bench/make/archives.py, or set PCACHE_LIB", archive.display());
             process::exit(1);
         }
         println!("cargo:rustc-link-lib=static={name}");

@@ -1,5 +1,6 @@
-//! The functions of the library as `pcache_c.h` declares them, its structs and its codes, and nothing else: `bench/exports.py --check`
-//! compares this file and the header with the sources. All is unsafe; the rest of the crate is a safe way to it.
+//! The functions of the library as `pcache_c.h` declares them, its structs and its codes, and nothing else:
+//! `bench/pages/exports.py --check` compares this file and the header with the sources. All is unsafe; the rest of the crate is a
+//! safe way to it.
 #![allow(missing_docs, dead_code)]
 
 /// A handle: the library's two words.

@@ -6,9 +6,9 @@ mkdir -p crates/hostile_line/src
 # The names are those of the 15th variant of a key, whose number is hashed first, in eight bytes.
 python3 - <<'BEGINNING'
 import sys
-sys.path.insert(0, "bench")
+sys.path.insert(0, "bench/speed")
 from colliding_names import prefix
-with open("bench/hostile_line.rt.txt", encoding="utf-8") as it:
+with open("bench/speed/hostile_line.rt.txt", encoding="utf-8") as it:
     text = it.read()
 with open("crates/hostile_line/src/main.rt", "w", encoding="utf-8") as it:
     it.write(text.replace("THE BEGINNING OF NAMES", prefix(14, 8).decode()))

@@ -1,11 +1,11 @@
 #!/usr/bin/env python3
-"""Sees that the documents say what is so: README.md, CHANGELOG.md, CONTRIBUTING.md and the pages of docs/.
+"""Sees that the documents say what is so: README.md, CHANGELOG.md, CONTRIBUTING.md, bench/README.md and the pages of docs/.
 
-  bench/docs_true.py             prints what is wrong, and fails if anything is
-  bench/docs_true.py --write     writes the counts of AUDIT.md as they are today, and then does the same
-  bench/docs_true.py --run       also runs the commands of README.md and GUIDE.md that take seconds, over the programs that are built
-  bench/docs_true.py --use-it    runs the block "Use it" of README.md in a copy of the tree, which takes some minutes
-  bench/docs_true.py --lies      plants a lie of each kind in the pages, in memory, and fails if one is not caught
+  bench/pages/docs_true.py             prints what is wrong, and fails if anything is
+  bench/pages/docs_true.py --write     writes the counts of AUDIT.md as they are today, and then does the same
+  bench/pages/docs_true.py --run       also runs the commands of README.md and GUIDE.md that take seconds, over the programs that are built
+  bench/pages/docs_true.py --use-it    runs the block "Use it" of README.md in a copy of the tree, which takes some minutes
+  bench/pages/docs_true.py --lies      plants a lie of each kind in the pages, in memory, and fails if one is not caught
 
 - each relative link leads to a file, and its anchor to a heading of it
 - each path of the repository in backticks exists
@@ -17,7 +17,8 @@
 - each block of output in README.md and GUIDE.md is what a program's file stdout has
 - in a picture of the crates none stands above one that uses it
 - where a number of tests, crates, public functions or wrong bodies is said, it is today's; so in AUDIT.md's counts
-- bench/definitions_of.py reads each clause that begins in a source
+- bench/contracts/definitions_of.py reads each clause that begins in a source
+- bench/README.md names each script of bench/ in the part of its folder (or dev/PERFORMANCE.md, if it measures), and no other
 - README.md has at most 140 lines, and dev/PERFORMANCE.md 80
 """
 import functools
@@ -30,10 +31,11 @@ import sys
 import tempfile
 import traceback
 
-sys.path.insert(0, os.path.dirname(os.path.realpath(__file__)))
+BENCH = os.path.dirname(os.path.dirname(os.path.realpath(__file__)))
+sys.path.insert(0, f"{BENCH}/contracts")
 import definitions_of  # noqa: E402
 
-TOP = os.path.dirname(os.path.dirname(os.path.realpath(__file__)))
+TOP = os.path.dirname(BENCH)
 ABSENT = {"async_lru", "lru"}  # of the Rust, and said to be absent
 OUTSIDE = {"std", "core", "fs", "http", "bytes", "rt", "crate", "Rattle", "kit", "env", "io", "Self", "BUILD"}
 BLOCK = re.compile(r"^```(\w*)\n(.*?)^```$", re.S | re.M)
@@ -43,7 +45,7 @@ NOT_COMMANDS = {"rt", "is", "and"}
 
 
 def pages():
-    out = [f"{TOP}/{it}" for it in ("README.md", "CHANGELOG.md", "CONTRIBUTING.md") if os.path.exists(f"{TOP}/{it}")]
+    out = [f"{TOP}/{it}" for it in ("README.md", "CHANGELOG.md", "CONTRIBUTING.md", "bench/README.md") if os.path.exists(f"{TOP}/{it}")]
     for folder, _folders, files in os.walk(f"{TOP}/docs"):
         out += [f"{folder}/{it}" for it in files if it.endswith(".md")]
     return {os.path.relpath(it, TOP): read(it) for it in sorted(out)}
@@ -268,7 +270,7 @@ def reached(wanted):
     return len(order), definitions_of.lines_of(order)
 
 
-PRINTED = re.compile(r"(`bench/definitions_of\.py ([\w:.]+)` prints the )\d+( definitions)")
+PRINTED = re.compile(r"(`bench/contracts/definitions_of\.py ([\w:.]+)` prints the )\d+( definitions)")
 COUNTED = re.compile(r"(?m)^(\| [^|\n]* \| (?:`(\w+)`(?: of `([\w:]+)`)?)? ?\| )([\d,]+) \| ([\d,]+) \|$")
 
 
@@ -306,6 +308,22 @@ def made_seeds(change=lambda text: text):
             yield f"{found[0]} makes a seed"
 
 
+def wrong_scripts(text):
+    """Scripts of a folder of bench/ that its part of the page does not name (nor docs/dev/PERFORMANCE.md, if it measures), and those
+    that are named and are not there."""
+    folders = {it for it in os.listdir(BENCH) if os.path.isdir(f"{BENCH}/{it}") and not it.startswith("_")}
+    parts = {folder: part for folder, part in re.findall(r"(?ms)^## (.*?)\n(.*?)(?=^## |\Z)", text)}
+    yield from (f"nothing says what is in {it}" for it in sorted(folders - parts.keys()))
+    for folder, part in parts.items():
+        at = f"{BENCH}/{folder}" if folder in folders else BENCH
+        named = set(re.findall(r"[\w/]+\.(?:py|sh)\b", part))
+        yield from (f"no script in {folder}: {it}" for it in sorted(named) if not os.path.exists(f"{at}/{it}"))
+        if folder == "speed":
+            named |= set(re.findall(r"\w+\.sh\b", read(f"{TOP}/docs/dev/PERFORMANCE.md")))
+        there = {os.path.basename(it) for it in glob.glob(f"{at}/*.py") + glob.glob(f"{at}/*.sh")}
+        yield from (f"nothing says what {folder}/{it} does" for it in sorted(there - named))
+
+
 # Pages of one screen or little more stay so.
 MOST_LINES = {"README.md": 140, "docs/dev/PERFORMANCE.md": 80}
 
@@ -329,6 +347,8 @@ def wrong_in(page, text):
         yield from wrong_figures(text)
     if base == "AUDIT.md":
         yield from wrong_counts(text)
+    if page == "bench/README.md":
+        yield from wrong_scripts(text)
 
 
 def with_output_changed(text):
@@ -353,6 +373,8 @@ LIES = [
     ("a page that is too long", "README.md", lambda text: text + "\n" * 9),
     ("a crate above one that uses it", "README.md", lambda text: re.sub(r"(?m)^( values .*)\n", "", text).replace("```\n programs", "```\n values  pcache_base  pcache_meta  pcache_control  pcache_table\n programs", 1)),
     ("a wrong count of definitions", "docs/AUDIT.md", with_count_changed),
+    ("a script that no page names", "bench/README.md", lambda text: re.sub(r"(?m)^\| `unused\.py`.*\n", "", text)),
+    ("a script in another folder", "bench/README.md", lambda text: text.replace("| `prove.py", "| `clauses.py` | | |\n| `prove.py", 1)),
 ]
 
 
@@ -377,7 +399,7 @@ def run_commands():
     said = subprocess.run(["sh", "-c", blocks[at]], cwd=TOP, capture_output=True, text=True, timeout=300).stdout
     if said != blocks[at + 1]:
         wrong.append(f"README.md: the first run prints {said!r}")
-    for words in (["python3", "bench/definitions_of.py", "World::headline", "--count"], ["python3", "bench/api_pages.py", "--check"]):
+    for words in (["python3", "bench/contracts/definitions_of.py", "World::headline", "--count"], ["python3", "bench/pages/api_pages.py", "--check"]):
         ran = subprocess.run(words, cwd=TOP, capture_output=True, text=True, timeout=120)
         if ran.returncode:
             wrong.append(f"{' '.join(words)} ends with {ran.returncode}: {ran.stdout[-300:]}")
@@ -403,7 +425,7 @@ def use_block(block):
     with tempfile.TemporaryDirectory(prefix="use-it-") as room:
         for it in ("crates.txt", "HANDLES"):
             shutil.copy(f"{TOP}/{it}", f"{room}/{it}")
-        shutil.copytree(f"{TOP}/bench", f"{room}/bench")
+        shutil.copytree(BENCH, f"{room}/bench")
         shutil.copytree(f"{TOP}/crates", f"{room}/crates", ignore=shutil.ignore_patterns("out"))
         return subprocess.run(["sh", "-ec", block], cwd=room, input="/news\n/news\n", capture_output=True, text=True)
 
@@ -420,7 +442,7 @@ def main():
     if "--lies" in sys.argv[1:]:
         sys.exit(1 if lies() else 0)
     wrong = [f"{page}: {it}" for page, text in pages().items() for it in wrong_in(page, text)]
-    wrong += [f"bench/definitions_of.py: {it}" for it in definitions_of.unread_clauses()]
+    wrong += [f"bench/contracts/definitions_of.py: {it}" for it in definitions_of.unread_clauses()]
     wrong += [f"docs/PROMISES.md: {it}" for it in made_seeds()]
     wrong += run_commands() if "--run" in sys.argv[1:] else []
     wrong += use_it() if "--use-it" in sys.argv[1:] else []

@@ -6,13 +6,13 @@ of wrong bodies say, and what is left to a proxy. `--check` only says whether th
 wrong body breaks, and ends with 1 if there is one."""
 import pathlib, re, sys
 
-TOP = pathlib.Path(__file__).resolve().parent.parent
+TOP = pathlib.Path(__file__).resolve().parents[2]
 CRATES = ["pcache_http", "pcache_validation", "pcache_decisions"]
 DEMANDS = ["MUST NOT", "MUST", "SHOULD NOT", "SHOULD", "MAY", "should", "ought to", "encouraged", "prefers", "accepts"]
 SECTION = re.compile(r"(RFC \d+ )?\b(\d+(?:\.\d+)*)\b")
 HEAD = """# RFC 9111, demand by demand
 
-Made by `bench/rfc9111.py` from the definitions in `specs/` of {crates}; do not edit it here. A section without a name is one of RFC 9111. A function is proved to decide as the definitions in its contract say; the rows are tests beside that.
+Made by `bench/pages/rfc9111.py` from the definitions in `specs/` of {crates}; do not edit it here. A section without a name is one of RFC 9111. A function is proved to decide as the definitions in its contract say; the rows are tests beside that.
 
 | Section | Demand | Definition | In words | Decided by | Rows |
 |---|---|---|---|---|---|
@@ -21,7 +21,7 @@ Made by `bench/rfc9111.py` from the definitions in `specs/` of {crates}; do not 
 BROKEN = """
 ## What breaks each MUST
 
-For each section that a MUST above names there is a body of the function that decides it which breaks this demand, and which the prover refuses (`wrong-bodies/` of the crate; `bench/edits_seen.py` tries them). `bench/rfc9111.py --unturned` lists those without one.
+For each section that a MUST above names there is a body of the function that decides it which breaks this demand, and which the prover refuses (`wrong-bodies/` of the crate; `bench/contracts/edits_seen.py` tries them). `bench/pages/rfc9111.py --unturned` lists those without one.
 
 | Section | Definition | Wrong bodies that break it |
 |---|---|---|

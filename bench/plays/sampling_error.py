@@ -1,19 +1,21 @@
 #!/usr/bin/env python3
 """Measures how far the ratio of hits of `cache_sim --sample` is from that of all keys, as it is read and corrected.
 
-    bench/sampling_error.py               # prints the table of docs/SIMULATOR.md, in about two minutes
-    bench/sampling_error.py PROGRAM       # compares the rows of the program with those counted here
+    bench/plays/sampling_error.py               # prints the table of docs/SIMULATOR.md, in about two minutes
+    bench/plays/sampling_error.py PROGRAM       # compares the rows of the program with those counted here
 
 Over traces of Zipf popularity, at rates of 0.1, 0.01 and 0.001: of ten parts of that size and of caches of 1, 10 and 50 percent
-of the bytes of all bodies, the mean and the largest difference. The caches are those of simulators.py.
+of the bytes of all bodies, the mean and the largest difference. The caches are those of bench/simulators.py.
 """
 import csv
 import hashlib
 import io
+import os
 import subprocess
 import sys
 
-import simulators
+sys.path.insert(0, os.path.dirname(os.path.dirname(os.path.realpath(__file__))))
+import simulators  # noqa: E402
 
 MILLION = 1_000_000
 RATES = (100_000, 10_000, 1_000)

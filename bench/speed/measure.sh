@@ -3,7 +3,7 @@
 # over 100, each the least of six runs.
 set -eu
 cd "$(dirname "$0")"
-printf 'open 1\n' | ../cache_replay 4 >/dev/null
+printf 'open 1\n' | ../../cache_replay 4 >/dev/null
 python3 - <<'MEASURE'
 import os, resource, subprocess, sys, tempfile
 
@@ -13,7 +13,7 @@ def milliseconds(script):
         return used.ru_utime + used.ru_stime
     script.seek(0)
     before = spent()
-    subprocess.run(["../cache_replay", "1000000000"], stdin=script, stdout=subprocess.DEVNULL, check=True)
+    subprocess.run(["../../cache_replay", "1000000000"], stdin=script, stdout=subprocess.DEVNULL, check=True)
     return 1000 * (spent() - before)
 
 for keys in (0, 100):

@@ -4,15 +4,15 @@
 # compiler, and it and the crate are compared with the exports. It wants gcc, g++, rustc and cargo (Debian: apt-get install gcc g++
 # rustc cargo), fetches nothing, and ends with 2 where one is missing, and with 1 where something differs.
 #
-#   bench/from_c.sh                    over build/c, where the library is built without a proof first (two to three minutes), if it
-#                                      does not stand there
-#   bench/from_c.sh proved             the same, proved
-#   bench/from_c.sh threads            a million calls of eight threads under ThreadSanitizer, which takes some minutes
-#   bench/from_c.sh border             what a call over the border takes
-#   bench/from_c.sh memory             what a cache takes of memory, with bodies and heads of several lengths
-#   bench/from_c.sh proxy              the proxy (bench/proxy.py)
+#   bench/plays/from_c.sh                    over build/c, where the library is built without a proof first (two to three minutes), if it
+#                                            does not stand there
+#   bench/plays/from_c.sh proved             the same, proved
+#   bench/plays/from_c.sh threads            a million calls of eight threads under ThreadSanitizer, which takes some minutes
+#   bench/plays/from_c.sh border             what a call over the border takes
+#   bench/plays/from_c.sh memory             what a cache takes of memory, with bodies and heads of several lengths
+#   bench/plays/from_c.sh proxy              the proxy (bench/plays/proxy.py)
 set -eu
-cd "$(dirname "$0")/.."
+cd "$(dirname "$0")/../.."
 for tool in gcc g++ rustc cargo; do
     command -v "$tool" >/dev/null || {
         echo "from_c: there is no $tool"
@@ -24,8 +24,8 @@ kind=unproved
 made=build/c
 [ "${1:-}" != proved ] || kind=proved
 [ "${1:-}" != threads ] || kind=sanitized made=build/c-sanitized
-bench/exports.py --check
-bench/archives.py "$kind"
+bench/pages/exports.py --check
+bench/make/archives.py "$kind"
 PCACHE_LIB=$(realpath "$made")
 CARGO_TARGET_DIR=$(pwd)/build/rust
 export PCACHE_LIB CARGO_TARGET_DIR
@@ -56,7 +56,7 @@ border | memory)
     ;;
 proxy)
     (cd rust && cargo build --quiet --offline --release --example proxy)
-    bench/proxy.py build/rust/release/examples/proxy
+    bench/plays/proxy.py build/rust/release/examples/proxy
     ;;
 *)
     g++ -x c++ -std=c++11 -Wall -Wextra -Werror -fsyntax-only -include examples_c/pcache_c.h /dev/null

@@ -1,7 +1,7 @@
 #!/usr/bin/env python3
-"""Sees that the programs of bench/ still read: puts them into one crate of a copy of this tree, each as a module, and compiles it.
+"""Sees that the programs of bench/speed/ still read: puts them into one crate of a copy of this tree, each as a module, and compiles it.
 
-  bench/read_benches.py       ends with 1, and says why, if a program does not read
+  bench/speed/read_benches.py       ends with 1, and says why, if a program does not read
 
 Those that use threads are compiled each by itself. Nothing is proved, and no program is run to its end: what it measures, its own
 script says. It takes about two minutes.
@@ -14,14 +14,14 @@ import subprocess
 import sys
 import tempfile
 
-TOP = os.path.dirname(os.path.dirname(os.path.realpath(__file__)))
+TOP = os.path.dirname(os.path.dirname(os.path.dirname(os.path.realpath(__file__))))
 NAME = "benches"
 
 
 def libraries():
     """What the scripts give their programs to use."""
     found = set()
-    for path in glob.glob(f"{TOP}/bench/*.sh"):
+    for path in glob.glob(f"{TOP}/bench/speed/*.sh"):
         with open(path, encoding="utf-8") as it:
             for line in re.findall(r"(?m)^build '\w+: ([^']*)'", it.read()):
                 found.update(line.split())
@@ -55,10 +55,10 @@ def copy_tree(room):
 def programs():
     """The files of each program: where each is, by its path in the crate if the program is a module."""
     found = {}
-    for path in glob.glob(f"{TOP}/bench/*.rt.txt"):
+    for path in glob.glob(f"{TOP}/bench/speed/*.rt.txt"):
         name = os.path.basename(path).removesuffix(".rt.txt")
         found[name] = {f"{name}.rt": path}
-    for path in glob.glob(f"{TOP}/bench/*/*.rt.txt"):
+    for path in glob.glob(f"{TOP}/bench/speed/*/*.rt.txt"):
         name, file = path.removesuffix(".txt").split("/")[-2:]
         found.setdefault(name, {})[f"{name}.rt" if file == "main.rt" else f"{name}/{file}"] = path
     return found
@@ -102,7 +102,7 @@ def main():
         wrong = wrong_in(folder, together, None)
         for name in sorted(alone):
             wrong += [f"{name}: {it}" for it in wrong_in(folder, [], name)]
-    print("\n".join(wrong) if wrong else f"{len(programs())} programs of bench/ read")
+    print("\n".join(wrong) if wrong else f"{len(programs())} programs of bench/speed/ read")
     return 1 if wrong else 0
 
 

@@ -1,11 +1,11 @@
 #!/usr/bin/env python3
 """Prints what one has to read to believe a contract: the definitions that it reaches, in reading order.
 
-  bench/definitions_of.py NAME [--count]
-  bench/definitions_of.py --list [WORD..]  a line for each definition whose name or comment has all of these words
-  bench/definitions_of.py --test TREE     compares what it reads with what the toolchain read, of all libraries that stand proved
-                                          in a tree: the clauses of each function, and that each definition which the toolchain
-                                          has in a contract is reached. It ends with 1 if anything is lost
+  bench/contracts/definitions_of.py NAME [--count]
+  bench/contracts/definitions_of.py --list [WORD..]  a line for each definition whose name or comment has all of these words
+  bench/contracts/definitions_of.py --test TREE     compares what it reads with what the toolchain read, of all libraries that stand proved
+                                                    in a tree: the clauses of each function, and that each definition which the toolchain
+                                                    has in a contract is reached. It ends with 1 if anything is lost
 
 NAME is a function of a crate, as World::headline or laws::finds_exactly, or a definition, as Headline.FindsUntouched.
 A definition comes after those that it names, each with its file and line and the words above it; what the contract itself says
@@ -19,7 +19,7 @@ import os
 import re
 import sys
 
-TOP = os.path.dirname(os.path.dirname(os.path.realpath(__file__)))
+TOP = os.path.dirname(os.path.dirname(os.path.dirname(os.path.realpath(__file__))))
 WORD = re.compile(r"[^\W\d][\w'-]*(?:\.[^\W\d][\w'-]*)*")
 HEAD = re.compile(r"^(?:abbrev pub|unfoldable pub|pub record|pub data|pub|abbrev|unfoldable)\s+([^\s:(]+)")
 
@@ -307,7 +307,7 @@ def test(tree):
         if lost:
             wrong.append(f"{crate} {path}: not reached: {', '.join(sorted(lost))}")
     if not functions:  # a gate keeps no text of the contracts
-        wrong.append("no library in that tree has its contracts: prove it there by bench/prove.py")
+        wrong.append("no library in that tree has its contracts: prove it there by bench/make/prove.py")
     print("\n".join(wrong))
     print(f"{functions} functions with {clauses} clauses are read as the toolchain does, {len(wrong)} are not")
     return not wrong

@@ -1,12 +1,12 @@
 #!/usr/bin/env python3
 """Says of each wrong body of a crate by name whether the prover refuses it, and why.
 
-  bench/edits_seen.py [NAME..]                     the crates named, or all
-  bench/edits_seen.py --compile-only [NAME..]      only whether each edit still applies, and what it makes reads as a crate
-  bench/edits_seen.py --missing [NAME..]           the public functions with a contract that have no wrong body; it runs nothing
-  bench/edits_seen.py --unseen [NAME..]            the wrong bodies that were not seen to be refused as they stand; it runs nothing
-  bench/edits_seen.py --sample MINUTES --seed TEXT [NAME..]      some of them, picked by the text, in so many processor minutes
-  bench/edits_seen.py --named MINUTES [--lanes N] [NAME..]       those of bench/mistakes.txt, side by side, in so many minutes
+  bench/contracts/edits_seen.py [NAME..]                     the crates named, or all
+  bench/contracts/edits_seen.py --compile-only [NAME..]      only whether each edit still applies, and what it makes reads as a crate
+  bench/contracts/edits_seen.py --missing [NAME..]           the public functions with a contract that have no wrong body; it runs nothing
+  bench/contracts/edits_seen.py --unseen [NAME..]            the wrong bodies that were not seen to be refused as they stand; it runs nothing
+  bench/contracts/edits_seen.py --sample MINUTES --seed TEXT [NAME..]      some of them, picked by the text, in so many processor minutes
+  bench/contracts/edits_seen.py --named MINUTES [--lanes N] [NAME..]       those of bench/contracts/mistakes.txt, side by side, in so many minutes
 
 The gate tries the one file in must-fail/, and sees only that the edited crate as a whole is refused. This reads the files in
 wrong-bodies/ too, tries as many edits at once as turn functions of their own, in a copy, and looks for the function that each
@@ -17,7 +17,7 @@ turns:
   only below   the function is refused because of another one that it calls, also with this edit alone
   let through  the crate is proved with this edit alone
 
-What was refused by itself is a line of bench/verdicts.txt: the crate and file, the edit's name, and a hash of the edit, of the
+What was refused by itself is a line of bench/contracts/verdicts.txt: the crate and file, the edit's name, and a hash of the edit, of the
 function that it turns with its contract, and of the crate's specs. A line counts as long as these are the same. --keep, with any
 of the forms that prove, writes the file; --sample tries first what has no such line.
 
@@ -46,11 +46,12 @@ import sys
 import tempfile
 import time
 
-sys.path.insert(0, os.path.dirname(os.path.realpath(__file__)))
+BENCH = os.path.dirname(os.path.dirname(os.path.realpath(__file__)))
+sys.path[:0] = [f"{BENCH}/contracts", f"{BENCH}/make"]
 import definitions_of  # noqa: E402
 import prove  # noqa: E402
 
-TOP = os.path.dirname(os.path.dirname(os.path.realpath(__file__)))
+TOP = os.path.dirname(BENCH)
 
 
 class Edit:
@@ -207,7 +208,7 @@ def copy_of(crate):
         yield f"{room}/crates/{crate}"
 
 
-VERDICTS = f"{TOP}/bench/verdicts.txt"
+VERDICTS = f"{BENCH}/contracts/verdicts.txt"
 
 
 def kept_verdicts():
@@ -261,7 +262,7 @@ def keep_verdicts(seen):
     for crate, file, name in seen:
         verdicts[f"{crate}/{file}", name] = standing[f"{crate}/{file}", name]
     with open(VERDICTS, "w", encoding="utf-8") as it:
-        it.write("# Wrong bodies that were seen to be refused by themselves, with what was seen: written by bench/edits_seen.py --keep\n")
+        it.write("# Wrong bodies that were seen to be refused by themselves, with what was seen: written by bench/contracts/edits_seen.py --keep\n")
         it.writelines(f"{place} {name} {number}\n" for (place, name), number in sorted(verdicts.items()))
 
 
@@ -561,7 +562,7 @@ def seen_in(crate, edit, seconds):
         return f"not tried: {why}"
 
 
-MISTAKES = f"{TOP}/bench/mistakes.txt"
+MISTAKES = f"{BENCH}/contracts/mistakes.txt"
 
 
 def mistakes():

@@ -1,7 +1,7 @@
 #!/usr/bin/env python3
 """Proves crates side by side, and leaves this tree ready for daily work.
 
-  bench/prove.py [--lanes N] [NAME..]      the crates named and those below them, or all but the crates of tests
+  bench/make/prove.py [--lanes N] [NAME..]      the crates named and those below them, or all but the crates of tests
 
 One tree takes one check at a time, so each check has a copy of the sources of its own, with the libraries below it as hard
 links. What a check keeps and what it builds come back into crates/NAME/out, so that a later `rt check` here proves only what
@@ -17,7 +17,7 @@ import tempfile
 import threading
 import time
 
-TOP = os.path.dirname(os.path.dirname(os.path.realpath(__file__)))
+TOP = os.path.dirname(os.path.dirname(os.path.dirname(os.path.realpath(__file__))))
 
 
 def rows_of():

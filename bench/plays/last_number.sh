@@ -4,7 +4,7 @@
 # that `rt try` builds there without a proof. Each line of the script has the reply that it must have; it ends non-zero if one has
 # another: 1, or 2 if the program did not run to its end, which says nothing of a reply. (The same through the store, a request
 # and a put alone are tests of `tests_of_requests`.)
-. "$(dirname "$0")/in_a_copy.sh"
+. "$(dirname "$0")/../speed/in_a_copy.sh"
 drafts=crates/pcache_store/src/memory/drafts.rt
 sed -i 's/Drafts::starting_at(alloc, seed, 0)/Drafts::starting_at(alloc, seed, u64::MAX - 1)/' "$drafts"
 grep -q 'Drafts::starting_at(alloc, seed, u64::MAX - 1)' "$drafts"

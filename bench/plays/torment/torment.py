@@ -1,11 +1,11 @@
 #!/usr/bin/env python3
 """Refuses requests for memory of `cache_torment`, and compares what it tells with a plain reading of the definitions.
 
-  bench/torment/torment.py PROGRAM                               every script, each request refused in turn
-  bench/torment/torment.py PROGRAM --minutes M --seed TEXT       as much of that as there is time for, in an order that the text decides
-  bench/torment/torment.py PROGRAM --jobs N                      in so many processes
-  bench/torment/torment.py PROGRAM --random N                    so many random scripts (60 if it is not said)
-  bench/torment/torment.py PROGRAM --only WORDS                  the scripts whose names have these words
+  bench/plays/torment/torment.py PROGRAM                               every script, each request refused in turn
+  bench/plays/torment/torment.py PROGRAM --minutes M --seed TEXT       as much of that as there is time for, in an order that the text decides
+  bench/plays/torment/torment.py PROGRAM --jobs N                      in so many processes
+  bench/plays/torment/torment.py PROGRAM --random N                    so many random scripts (60 if it is not said)
+  bench/plays/torment/torment.py PROGRAM --only WORDS                  the scripts whose names have these words
 
 The Nth request of a run is refused, for each N until a run meets no refusal: of the rows beside this file, and of puts cut in two
 at each place and byte by byte, with the manager in one list and in two shards. Then random scripts of 250 lines, with requests

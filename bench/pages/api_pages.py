@@ -1,22 +1,22 @@
 #!/usr/bin/env python3
 """Writes docs/api: for each library a page with its public items, made from the sources.
 
-  bench/api_pages.py             writes the pages
-  bench/api_pages.py --check     writes nothing, and fails if a page is not what would be written
+  bench/pages/api_pages.py             writes the pages
+  bench/pages/api_pages.py --check     writes nothing, and fails if a page is not what would be written
 
 A line for each item: its signature without the contract, the first sentence of its doc comment, and its condition: the
 sentence of the comment that begins with "Requires", or if there is none the clause itself. An item that a module re-exports
 from a private module of its crate is listed there; what comes from another crate has a line with a link to it. A method stands
 under the type of its own module, or that its module brings in by `use`.
 
-  bench/api_pages.py --test TREE asks the libraries that stand proved in a tree whether each method is one of its type.
+  bench/pages/api_pages.py --test TREE asks the libraries that stand proved in a tree whether each method is one of its type.
 """
 import json
 import os
 import re
 import sys
 
-TOP = os.path.dirname(os.path.dirname(os.path.realpath(__file__)))
+TOP = os.path.dirname(os.path.dirname(os.path.dirname(os.path.realpath(__file__))))
 PAGES = f"{TOP}/docs/api"
 ITEM = re.compile(r"(?:unsafe )?(?:extern \"C\" )?(fn|struct|enum|trait|const|type|static) (\w+)")
 CLAUSE = re.compile(r"\s*(?:requires|ensures)\*?\b")
@@ -355,7 +355,7 @@ def main():
     crates = {name: Crate(name) for name in crates}
     if "--test" in sys.argv[1:]:
         sys.exit(0 if test(crates, sys.argv[-1]) else 1)
-    pages, index = {}, ["# Items", "", "The public items of each library, made by `bench/api_pages.py` from the sources.", ""]
+    pages, index = {}, ["# Items", "", "The public items of each library, made by `bench/pages/api_pages.py` from the sources.", ""]
     for name, crate in crates.items():
         pages[f"{name}.md"] = page(crate, crates)
         index.append(f"- [`{name}`]({name}.md): {sentences(crate.docs)[0]}")
@@ -377,7 +377,7 @@ def main():
             if "--check" not in sys.argv[1:]:
                 os.remove(f"{PAGES}/{name}")
     if "--check" in sys.argv[1:] and wrong:
-        print("not what the sources say; run bench/api_pages.py: " + ", ".join(wrong))
+        print("not what the sources say; run bench/pages/api_pages.py: " + ", ".join(wrong))
         sys.exit(1)
 
 

@@ -5,7 +5,7 @@
 # are the most that a process had, without what it has before it reads. Then the same of a trace with misses, 3,000,000
 # requests for 50,000 keys (Zipf 0.9) to 5,000 entries; and how long twelve caches take for it in one thread, in as many as
 # there are processors, and in one each, on a machine where nothing else runs.
-#     ROUNDS=3 bench/simulator_speed.sh PROGRAM KEYS..
+#     ROUNDS=3 bench/speed/simulator_speed.sh PROGRAM KEYS..
 set -eu
 program=$1
 shift

@@ -1,7 +1,7 @@
-# The head of the scripts that measure a program: goes into a copy of the repository, which is removed at the end, and has
-# `build`, which makes a program there, and `tell`, which runs it.
+# The head of the scripts that measure a program, and of those of bench/plays/ that change its sources: goes into a copy of the
+# repository, which is removed at the end, and has `build`, which makes a program there, and `tell`, which runs it.
 set -eu
-top=$(cd "$(dirname "$0")/.." && pwd)
+top=$(cd "$(dirname "$0")/../.." && pwd)
 copy=$(mktemp -d)
 trap 'rm -rf "$copy"' EXIT
 trap 'exit 130' INT
@@ -10,15 +10,15 @@ mkdir "$copy/repository"
 (cd "$top" && tar cf - --exclude=out crates crates.txt HANDLES bench) | (cd "$copy/repository" && tar xf -)
 cd "$copy/repository"
 
-# sources NAME puts a program's files into crates/NAME/src: those of bench/NAME, or bench/NAME.rt.txt alone.
+# sources NAME puts a program's files into crates/NAME/src: those of bench/speed/NAME, or bench/speed/NAME.rt.txt alone.
 sources() {
     mkdir -p "crates/$1/src"
-    if [ -d "bench/$1" ]; then
-        for file in "bench/$1"/*.rt.txt; do
+    if [ -d "bench/speed/$1" ]; then
+        for file in "bench/speed/$1"/*.rt.txt; do
             cp "$file" "crates/$1/src/$(basename "$file" .txt)"
         done
     else
-        cp "bench/$1.rt.txt" "crates/$1/src/main.rt"
+        cp "bench/speed/$1.rt.txt" "crates/$1/src/main.rt"
     fi
 }
 
@@ -45,7 +45,7 @@ tell() {
 }
 
 # build 'NAME: LIBRARY ..' proves and builds a program, whose files `sources` finds if crates/NAME has none, as
-# crates/NAME/out/NAME. Libraries that stand proved in the repository, as `bench/prove.py` or a daily `rt lib` leaves them, are
+# crates/NAME/out/NAME. Libraries that stand proved in the repository, as `bench/make/prove.py` or a daily `rt lib` leaves them, are
 # taken as they are; the others are proved first, one after the other. The program is run once to build it, and what it prints
 # then is not looked at.
 build() {

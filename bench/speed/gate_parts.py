@@ -1,7 +1,7 @@
 #!/usr/bin/env python3
 """Says what each part of a gate that runs costs: processor seconds of a crate's proof, its tests and its wrong bodies.
 
-    bench/gate_parts.py OUT
+    bench/speed/gate_parts.py OUT
 
 Looks once a second at the checks that run, until it is ended, and then writes the table to OUT, dearest part first. What a check
 takes after it was last looked at is not in it, so each check counts for up to a second less than it took.

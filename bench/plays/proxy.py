@@ -1,7 +1,7 @@
 #!/usr/bin/env python3
 """Plays the proxy of examples_rust/proxy.rs by curl, against an origin that it starts, all on loopback.
 
-  bench/proxy.py PROXY [load]     PROXY is the built program (bench/from_c.sh proxy builds it); `load` asks for five seconds each by one and by eight clients of ab too
+  bench/plays/proxy.py PROXY [load]     PROXY is the built program (bench/plays/from_c.sh proxy builds it); `load` asks for five seconds each by one and by eight clients of ab too
 
 It takes less than a minute, whatever hangs (with `load` a minute and a half). It ends with 1 where an answer is another one, and with 2 where there is no curl.
 """

@@ -1,10 +1,10 @@
 #!/usr/bin/env python3
 """Tells how wide the clauses of contracts are, and lays out those that are too wide.
 
-  bench/clauses.py                  each clause with a line of more than 100 columns; it ends with 1 if there is one. Then how
-                                    many clauses there are, and how many would be over 100 and over 160 columns on one line
-  bench/clauses.py --longest N      the N clauses that would be longest on one line
-  bench/clauses.py --lay-out FILE.. breaks the clauses of these files that have such lines; `rt fmt` comes after it
+  bench/contracts/clauses.py                  each clause with a line of more than 100 columns; it ends with 1 if there is one. Then how
+                                              many clauses there are, and how many would be over 100 and over 160 columns on one line
+  bench/contracts/clauses.py --longest N      the N clauses that would be longest on one line
+  bench/contracts/clauses.py --lay-out FILE.. breaks the clauses of these files that have such lines; `rt fmt` comes after it
 
 A clause is broken at the operators that bind least, with the operator first on its line, or within its last argument.
 """
@@ -13,7 +13,7 @@ import os
 import re
 import sys
 
-TOP = os.path.dirname(os.path.dirname(os.path.realpath(__file__)))
+TOP = os.path.dirname(os.path.dirname(os.path.dirname(os.path.realpath(__file__))))
 WIDTH = 100
 BEGIN = re.compile(r"(?m)^([ \t]*)((?:requires|ensures)\*?)(?: (\w+))? \{")
 CLOSER = {"(": ")", "{": "}", "[": "]"}

@@ -1,10 +1,10 @@
 #!/usr/bin/env python3
 """Tells which lemmas and definitions nothing uses, and which libraries a crate is given and names in no file.
 
-  bench/unused.py         the lemmas and definitions in proofs/ and specs/ of all crates, one a line, and the libraries of
-                          crates.txt, as `CRATE: LIBRARY ..`; it ends with 1 if there is one
-  bench/unused.py --cut   takes them out, and what only they used, and the imports that are no longer wanted; then run
-                          `rt tidy` in the crates that it names, which checks them again
+  bench/contracts/unused.py         the lemmas and definitions in proofs/ and specs/ of all crates, one a line, and the libraries of
+                                    crates.txt, as `CRATE: LIBRARY ..`; it ends with 1 if there is one
+  bench/contracts/unused.py --cut   takes them out, and what only they used, and the imports that are no longer wanted; then run
+                                    `rt tidy` in the crates that it names, which checks them again
 
 A name is used that stands elsewhere in its file, that another file imports, or that a tactic names. What a function's Answers,
 Invariants and Proof state is named by the function, what Send and Sync state by an impl, and the hash's vectors in
@@ -17,7 +17,7 @@ import os
 import re
 import sys
 
-TOP = os.path.dirname(os.path.dirname(os.path.realpath(__file__)))
+TOP = os.path.dirname(os.path.dirname(os.path.dirname(os.path.realpath(__file__))))
 DEFINES = re.compile(r"(?:(?:unfoldable|pub|abbrev|data|record) )*([^\s(){}:.]+)(?= .*: | :|$)")
 NAMED_ELSEWHERE = ("/Answers.antt", "/Invariants.antt", "/Proof.antt", "/Send.antt", "/Sync.antt", "/proofs/HashVectors.antt")
 

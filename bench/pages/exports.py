@@ -1,9 +1,9 @@
 #!/usr/bin/env python3
 """The exports of the library for C, from one list: the sources of crates/pcache_c.
 
-  bench/exports.py            prints each export as the sources declare it
-  bench/exports.py --check    compares names, types and values with examples_c/pcache_c.h and rust/src/raw.rs, and ends with 1
-                              where they differ
+  bench/pages/exports.py            prints each export as the sources declare it
+  bench/pages/exports.py --check    compares names, types and values with examples_c/pcache_c.h and rust/src/raw.rs, and ends with 1
+                                    where they differ
 
 What is compared: of each function the types of what it takes and returns; of each struct the fields, their types and their order;
 the codes. It reads texts, and takes less than a second.
@@ -13,10 +13,10 @@ import os
 import re
 import sys
 
-TOP = os.path.dirname(os.path.dirname(os.path.realpath(__file__)))
+TOP = os.path.dirname(os.path.dirname(os.path.dirname(os.path.realpath(__file__))))
 HEADER = f"{TOP}/examples_c/pcache_c.h"
 WRAPPER = f"{TOP}/rust/src/raw.rs"
-# What the archives say of themselves: bench/archives.py makes them, and no source has them.
+# What the archives say of themselves: bench/make/archives.py makes them, and no source has them.
 MADE = {"pcache_is_proved": ((), "u32")}
 # What header and wrapper call the kinds of errors that have a code of their own.
 KINDS = {
