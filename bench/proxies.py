@@ -55,7 +55,7 @@ http {{
     uwsgi_temp_path {room}/{name}.tmp/uwsgi;
     scgi_temp_path {room}/{name}.tmp/scgi;
     sendfile on;
-    tcp_nopush on;
+    tcp_nopush off;
     keepalive_requests 1000000000;
     default_type application/octet-stream;
     {rest}
