@@ -1,6 +1,6 @@
 //! As much of HTTP/1.1 as the proxy needs: heads, bodies in chunks or of a length, and answers.
 
-use std::io::{self, BufRead, ErrorKind, IoSlice, Read as _, Write};
+use std::io::{self, BufRead, BufWriter, ErrorKind, Read as _, Write};
 
 const MOST_HEAD: u64 = 32 << 10;
 const MOST_FIELDS: usize = 100;
@@ -45,35 +45,30 @@ pub fn sent_on<'f>(fields: &'f Fields, but: &'f [&str]) -> impl Iterator<Item = 
 
 /// The bytes of a head.
 pub fn head_of<'f>(first: &str, fields: impl Iterator<Item = &'f (String, Vec<u8>)>) -> Vec<u8> {
-    let mut head = Vec::with_capacity(1 << 10);
-    head.extend_from_slice(first.as_bytes());
-    for (name, value) in fields {
-        [b"\r\n", name.as_bytes(), b": ", value].iter().for_each(|it| head.extend_from_slice(it));
-    }
-    head.extend_from_slice(b"\r\n\r\n");
-    head
+    let lines: Vec<[&[u8]; 4]> = fields.map(|(name, value)| [b"\r\n", name.as_bytes(), b": ", value]).collect();
+    [first.as_bytes(), &lines.concat().concat(), b"\r\n\r\n"].concat()
 }
 
 // ---- what comes over a connection ----
 
-/// Reads a line, without its end.
-fn read_line(from: &mut impl BufRead, room: &mut u64, line: &mut Vec<u8>) -> io::Result<()> {
-    line.clear();
-    *room -= from.take(*room).read_until(b'\n', line)? as u64;
+/// A line, without its end.
+fn read_line(from: &mut impl BufRead, room: &mut u64) -> io::Result<Vec<u8>> {
+    let mut line = Vec::new();
+    *room -= from.take(*room).read_until(b'\n', &mut line)? as u64;
     match line.strip_suffix(b"\r\n").or_else(|| line.strip_suffix(b"\n")).map(<[u8]>::len) {
-        Some(length) => Ok(line.truncate(length)),
-        None if line.is_empty() && *room > 0 => Err(ErrorKind::UnexpectedEof.into()),
-        None => Err(bad("a line that is too long or has no end")),
+        Some(length) => line.truncate(length),
+        None if line.is_empty() && *room > 0 => return Err(ErrorKind::UnexpectedEof.into()),
+        None => return Err(bad("a line that is too long or has no end")),
     }
+    Ok(line)
 }
 
 /// The first line and the fields of a head, the names in lower case.
 pub fn read_head(from: &mut impl BufRead) -> io::Result<(String, Fields)> {
-    let (mut room, mut line, mut fields) = (MOST_HEAD, Vec::new(), Fields::new());
-    read_line(from, &mut room, &mut line)?;
-    let first = String::from_utf8(line.clone()).map_err(|_| bad("a first line that is no text"))?;
+    let (mut room, mut fields) = (MOST_HEAD, Fields::new());
+    let first = String::from_utf8(read_line(from, &mut room)?).map_err(|_| bad("a first line that is no text"))?;
     loop {
-        read_line(from, &mut room, &mut line)?;
+        let line = read_line(from, &mut room)?;
         if line.is_empty() {
             return Ok((first, fields));
         }
@@ -107,13 +102,11 @@ pub fn left_of(fields: &Fields, otherwise: Left) -> io::Result<Left> {
 
 /// What the line before a chunk says is left. Behind the last one, which has no bytes, stand fields that are passed over.
 fn next_chunk(from: &mut impl BufRead) -> io::Result<Left> {
-    let (mut room, mut line) = (MOST_HEAD, Vec::new());
-    read_line(from, &mut room, &mut line)?;
+    let mut room = MOST_HEAD;
+    let line = read_line(from, &mut room)?;
     let size = std::str::from_utf8(&line).ok().and_then(|it| number(it.split(';').next()?.trim(), 16));
     let size = size.ok_or_else(|| bad("a chunk of no size"))?;
-    while size == 0 && !line.is_empty() {
-        read_line(from, &mut room, &mut line)?;
-    }
+    while size == 0 && !read_line(from, &mut room)?.is_empty() {}
     Ok(if size > 0 { Left::Chunk(size) } else { Left::Bytes(0) })
 }
 
@@ -135,12 +128,8 @@ pub fn next_piece(from: &mut impl BufRead, left: &mut Left) -> io::Result<Option
         Left::Bytes(_) | Left::Chunk(_) if piece.is_empty() => return Err(ErrorKind::UnexpectedEof.into()),
         Left::Bytes(count) | Left::Chunk(count) => *count -= piece.len() as u64,
     }
-    if matches!(left, Left::Chunk(0)) {
-        let mut line = Vec::new();
-        read_line(from, &mut 2, &mut line)?;
-        if !line.is_empty() {
-            return Err(bad("a chunk that is longer than it says"));
-        }
+    if matches!(left, Left::Chunk(0)) && !read_line(from, &mut 2)?.is_empty() {
+        return Err(bad("a chunk that is longer than it says"));
     }
     Ok(Some(piece))
 }
@@ -182,24 +171,8 @@ pub fn read_request(from: &mut impl BufRead, client: &mut Client) -> io::Result<
 
 // ---- what is sent to a client ----
 
-/// Writes all of these, by one call where the stream takes them at once.
-fn write_all(to: &mut dyn Write, parts: &[&[u8]]) -> io::Result<()> {
-    if parts.iter().all(|it| it.is_empty()) {
-        return Ok(());
-    }
-    let mut written = to.write_vectored(&parts.iter().map(|it| IoSlice::new(it)).collect::<Vec<_>>())?;
-    for part in parts {
-        let begun = written.min(part.len());
-        to.write_all(&part[begun..])?;
-        written -= begun;
-    }
-    Ok(())
-}
-
 pub struct Client {
-    to: Box<dyn Write>,
-    /// The head of an answer, which goes with the first piece of its body.
-    head: Vec<u8>,
+    to: BufWriter<Box<dyn Write>>,
     pub stays: bool,
     /// It takes a body: of what it asked for and, once the answer began, of that.
     pub takes_body: bool,
@@ -209,7 +182,7 @@ pub struct Client {
 
 impl Client {
     pub fn new(to: impl Write + 'static) -> Client {
-        Client { to: Box::new(to), head: Vec::new(), stays: true, takes_body: false, in_chunks: false }
+        Client { to: BufWriter::new(Box::new(to)), stays: true, takes_body: false, in_chunks: false }
     }
 
     /// Nobody, as when a body is renewed in the background.
@@ -228,13 +201,13 @@ impl Client {
         let chunks = self.in_chunks.then(|| with("Transfer-Encoding", "chunked"));
         let close = (!self.stays).then(|| with("Connection", "close"));
         let fields = sent_on(fields, &["content-length"]).chain(&length).chain(&chunks).chain(&close);
-        self.head = head_of(&format!("HTTP/1.1 {status} -"), fields);
+        // (what fails here fails again at the answer's end)
+        let _ = self.to.write_all(&head_of(&format!("HTTP/1.1 {status} -"), fields));
     }
 
     // A client that is gone is no reason to stop: the body is stored all the same.
     fn send(&mut self, parts: &[&[u8]]) {
-        let head = std::mem::take(&mut self.head);
-        if write_all(&mut *self.to, &[&[&head[..]], parts].concat()).is_err() {
+        if parts.iter().try_for_each(|it| self.to.write_all(it)).and_then(|()| self.to.flush()).is_err() {
             *self = Client::nobody();
         }
     }

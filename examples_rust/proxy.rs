@@ -46,8 +46,7 @@ fn head_in(fetched: &Fetched) -> Result<Head, Error> {
 
 /// Asks the origin, without some of the fields that the client sent, and with others.
 fn fetch(origin: &str, asked: &Asked, but: &[&str], more: Fields) -> io::Result<Fetched> {
-    let but = [but, &["content-length", "expect"]].concat();
-    let mut fields: Fields = sent_on(&asked.fields, &but).cloned().collect();
+    let mut fields: Fields = sent_on(&asked.fields, &[but, &["content-length", "expect"]].concat()).cloned().collect();
     fields.extend(more.into_iter().filter(|(_, value)| !value.is_empty()));
     fields.push(with("connection", "close"));
     fields.extend((!asked.body.is_empty()).then(|| with("content-length", asked.body.len())));
@@ -79,11 +78,10 @@ impl Proxy {
     fn look(&self, asked: &Asked, now: Moment) -> Result<(Request, Looked, Option<Meta>), Error> {
         let mut request = self.cache.request(&base_of(asked), "")?;
         let (mut looked, mut meta) = look_up(&mut request, now)?;
-        if let Some(found) = &mut meta {
-            if let Some(variance) = variance_of(asked, &names_in(found)?)? {
-                if !request.look_for(&variance)? {
-                    (looked, meta) = look_up(&mut request, now)?;
-                }
+        let names = meta.as_mut().map_or(Ok(Vec::new()), names_in)?;
+        if let Some(variance) = variance_of(asked, &names)? {
+            if !request.look_for(&variance)? {
+                (looked, meta) = look_up(&mut request, now)?;
             }
         }
         Ok((request, looked, meta))
@@ -219,8 +217,7 @@ fn base_of(asked: &Asked) -> Vec<u8> {
 
 fn look_up(request: &mut Request, now: Moment) -> Result<(Looked, Option<Meta>), Error> {
     let looked = request.look(now)?;
-    let meta = if looked == Looked::Found { Some(request.meta()?) } else { None };
-    Ok((looked, meta))
+    Ok((looked, if looked == Looked::Found { Some(request.meta()?) } else { None }))
 }
 
 /// The names in the Vary of a stored response.
@@ -234,10 +231,7 @@ fn names_in(meta: &mut Meta) -> Result<Vec<String>, Error> {
 
 /// What a request says in these fields, as one hash; nothing if there are none.
 fn variance_of(asked: &Asked, names: &[String]) -> Result<Option<Hash>, Error> {
-    if names.is_empty() {
-        return Ok(None);
-    }
-    let mut variance = Variance::new()?;
+    let mut variance = if names.is_empty() { return Ok(None) } else { Variance::new()? };
     for name in names {
         let values = asked.fields.iter().filter(|(it, _)| it == name).map(|(_, value)| &value[..]).collect::<Vec<_>>();
         variance.add(name, &[format!("{}:", values.len()).as_bytes(), &values.join(&b"\n"[..])].concat())?;
@@ -322,30 +316,13 @@ fn send_stored(client: &mut Client, asked: &Asked, request: &mut Request, gets: 
     }
     fields.extend(length.map(|it| with("content-length", it)));
     client.begin(status, &fields);
-    let is_whole = !client.takes_body || status == 416 || send_body(client, request, length);
-    client.end(is_whole);
-}
-
-/// Sends the body that a request reads, of which so many bytes are left, if that is known. Says whether it is whole.
-fn send_body(client: &mut Client, request: &mut Request, mut left: Option<u64>) -> bool {
-    // (to copy few bytes takes less time than to make a view)
-    let mut room = [0; 4096];
-    if left.map_or(false, |it| it <= room.len() as u64) {
-        if let Ok(Read::Bytes(count)) = request.read(&mut room) {
-            client.piece(&room[..count]);
-            left = left.map(|it| it.saturating_sub(count as u64));
-        }
-    }
-    while left != Some(0) {
+    let is_whole = !client.takes_body || status == 416 || loop {
         match request.view_until(Instant::now() + PATIENCE) {
-            Ok(Read::Bytes(view)) => {
-                client.piece(&view);
-                left = left.map(|it| it.saturating_sub(view.len() as u64));
-            }
-            end => return matches!(end, Ok(Read::End)),
+            Ok(Read::Bytes(view)) => client.piece(&view),
+            end => break matches!(end, Ok(Read::End)),
         }
-    }
-    true
+    };
+    client.end(is_whole);
 }
 
 fn converse(proxy: &Arc<Proxy>, stream: TcpStream) -> io::Result<()> {
