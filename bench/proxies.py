@@ -9,8 +9,9 @@ with one client and with eight that stay connected, for two seconds each. The pr
 of all its processes in these seconds, by the hits: the least of the rounds, and in brackets the median. Hits a second are the most of
 the rounds. The origin's log tells whether all of them were hits.
 
-nginx has a worker for each processor, its cache in the same folder (in memory, where there is /dev/shm) and no access log. varnish has
-its storage by malloc and the VCL that is built in. What each has for its logs, threads and pools besides is what it comes with.
+nginx has a worker for each processor, its cache in the same folder (in memory, where there is /dev/shm) and no access log; tcp_nopush
+is off, since with it each 100 KB on loopback wait 40 ms for an acknowledgement. varnish has its storage by malloc and the VCL that is
+built in. What each has for its logs, threads and pools besides is what it comes with.
 
 It takes five minutes with five rounds, and at most LIMIT seconds, whatever hangs. It ends with 0 where all was measured, with 1 where
 an answer was another one or a server was asked in vain, and with 2 where a tool is missing (Debian: apt-get install nginx varnish wrk).
