@@ -77,11 +77,13 @@ impl Proxy {
     /// A request that looked its target up, for the variant that it asks for where what is stored varies; and the meta of what it found.
     fn look(&self, asked: &Asked, now: Moment) -> Result<(Request, Looked, Option<Meta>), Error> {
         let mut request = self.cache.request(&base_of(asked), "")?;
-        let (mut looked, mut meta) = look_up(&mut request, now)?;
+        let mut looked = request.look(now)?;
+        let mut meta = request.meta().ok();
         let names = meta.as_mut().map_or(Ok(Vec::new()), names_in)?;
         if let Some(variance) = variance_of(asked, &names)? {
             if !request.look_for(&variance)? {
-                (looked, meta) = look_up(&mut request, now)?;
+                looked = request.look(now)?;
+                meta = request.meta().ok();
             }
         }
         Ok((request, looked, meta))
@@ -215,11 +217,6 @@ fn base_of(asked: &Asked) -> Vec<u8> {
     format!("{} {}", field(&asked.fields, "host").unwrap_or("").to_ascii_lowercase(), asked.target).into_bytes()
 }
 
-fn look_up(request: &mut Request, now: Moment) -> Result<(Looked, Option<Meta>), Error> {
-    let looked = request.look(now)?;
-    Ok((looked, if looked == Looked::Found { Some(request.meta()?) } else { None }))
-}
-
 /// The names in the Vary of a stored response.
 fn names_in(meta: &mut Meta) -> Result<Vec<String>, Error> {
     let mut fields = Fields::new();
@@ -316,7 +313,11 @@ fn send_stored(client: &mut Client, asked: &Asked, request: &mut Request, gets: 
     }
     fields.extend(length.map(|it| with("content-length", it)));
     client.begin(status, &fields);
-    let is_whole = !client.takes_body || status == 416 || loop {
+    // (to copy few bytes takes less time than to make a view)
+    let (mut room, short) = ([0; 4096], length.filter(|it| (1..=4096).contains(it)));
+    let copied = short.and_then(|_| request.read(&mut room).ok()).map_or(0, |it| if let Read::Bytes(count) = it { count } else { 0 });
+    client.piece(&room[..copied]);
+    let is_whole = !client.takes_body || status == 416 || short == Some(copied as u64) || loop {
         match request.view_until(Instant::now() + PATIENCE) {
             Ok(Read::Bytes(view)) => client.piece(&view),
             end => break matches!(end, Ok(Read::End)),
