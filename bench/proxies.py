@@ -10,11 +10,10 @@ of all its processes in these seconds, by the hits: the least of the rounds, and
 the rounds. The origin's log tells whether all of them were hits.
 
 nginx has a worker for each processor, its cache in the same folder (in memory, where there is /dev/shm) and no access log; tcp_nopush
-is off, since with it each 100 KB on loopback wait 40 ms for an acknowledgement. varnish has its storage by malloc and the VCL that is
-built in. What each has for its logs, threads and pools besides is what it comes with.
-
-It takes five minutes with five rounds, and at most LIMIT seconds, whatever hangs. It ends with 0 where all was measured, with 1 where
-an answer was another one or a server was asked in vain, and with 2 where a tool is missing (Debian: apt-get install nginx varnish wrk).
+is off, since with it each 100 KB on loopback wait 40 ms for an acknowledgement. varnish has its storage by malloc. All else is as each
+comes. It takes five minutes with five rounds, and at most LIMIT seconds, whatever hangs. It ends with 0 where all was measured, with 1
+where an answer was another one or a server was asked in vain, and with 2 where a tool is missing (Debian: apt-get install nginx
+varnish wrk).
 """
 import atexit
 import glob
@@ -273,7 +272,7 @@ def main():
     if missing:
         print(f"proxies: there is no {', '.join(missing)}")
         sys.exit(2)
-    rounds = int(sys.argv[2]) if len(sys.argv) == 3 else 5
+    rounds = int((sys.argv[2:] or ["5"])[0])
     room = tempfile.mkdtemp(prefix="proxies-", dir="/dev/shm" if os.access("/dev/shm", os.W_OK) else None)
     atexit.register(shutil.rmtree, room, ignore_errors=True)
     atexit.register(end_all)  # (first)
