@@ -18,7 +18,7 @@
 - in a picture of the crates none stands above one that uses it
 - where a number of tests, crates, public functions or wrong bodies is said, it is today's; so in AUDIT.md's counts
 - bench/definitions_of.py reads each clause that begins in a source
-- README.md has at most 140 lines, and dev/PERFORMANCE.md 80
+- README.md has at most 140 lines, and dev/PERFORMANCE.md 100
 """
 import functools
 import glob
@@ -307,7 +307,7 @@ def made_seeds(change=lambda text: text):
 
 
 # Pages of one screen or little more stay so.
-MOST_LINES = {"README.md": 140, "docs/dev/PERFORMANCE.md": 80}
+MOST_LINES = {"README.md": 140, "docs/dev/PERFORMANCE.md": 100}
 
 
 def wrong_in(page, text):
