@@ -37,16 +37,16 @@ pub fn members(fields: &Fields, name: &str) -> Vec<String> {
 }
 
 /// The fields that are sent on: those of the connection are not.
-pub fn sent_on(fields: &Fields, but: &[&str]) -> Fields {
+pub fn sent_on<'f>(fields: &'f Fields, but: &'f [&str]) -> impl Iterator<Item = &'f (String, Vec<u8>)> {
     let named = members(fields, "connection");
-    let goes = |name: &str| !OF_A_CONNECTION.contains(&name) && !but.contains(&name) && !named.iter().any(|it| it == name);
-    fields.iter().filter(|(name, _)| goes(name)).cloned().collect()
+    let goes = move |name: &str| !OF_A_CONNECTION.contains(&name) && !but.contains(&name) && !named.iter().any(|it| it == name);
+    fields.iter().filter(move |(name, _)| goes(name))
 }
 
 /// The bytes of a head.
-pub fn head_of(first: &str, fields: &Fields) -> Vec<u8> {
-    let lines: Vec<_> = fields.iter().map(|(name, value)| [name.as_bytes(), b": ", value, b"\r\n"].concat()).collect();
-    [first.as_bytes(), b"\r\n", &lines.concat(), b"\r\n"].concat()
+pub fn head_of<'f>(first: &str, fields: impl Iterator<Item = &'f (String, Vec<u8>)>) -> Vec<u8> {
+    let lines: Vec<[&[u8]; 4]> = fields.map(|(name, value)| [b"\r\n", name.as_bytes(), b": ", value]).collect();
+    [first.as_bytes(), &lines.concat().concat(), b"\r\n\r\n"].concat()
 }
 
 // ---- what comes over a connection ----
@@ -55,11 +55,12 @@ pub fn head_of(first: &str, fields: &Fields) -> Vec<u8> {
 fn read_line(from: &mut impl BufRead, room: &mut u64) -> io::Result<Vec<u8>> {
     let mut line = Vec::new();
     *room -= from.take(*room).read_until(b'\n', &mut line)? as u64;
-    match line.strip_suffix(b"\r\n").or_else(|| line.strip_suffix(b"\n")) {
-        Some(line) => Ok(line.to_vec()),
-        None if line.is_empty() && *room > 0 => Err(ErrorKind::UnexpectedEof.into()),
-        None => Err(bad("a line that is too long or has no end")),
+    match line.strip_suffix(b"\r\n").or_else(|| line.strip_suffix(b"\n")).map(<[u8]>::len) {
+        Some(length) => line.truncate(length),
+        None if line.is_empty() && *room > 0 => return Err(ErrorKind::UnexpectedEof.into()),
+        None => return Err(bad("a line that is too long or has no end")),
     }
+    Ok(line)
 }
 
 /// The first line and the fields of a head, the names in lower case.
@@ -196,12 +197,12 @@ impl Client {
         self.takes_body &= has_body;
         self.in_chunks &= self.takes_body && length.is_none();
         self.stays &= self.in_chunks || length.is_some() || !self.takes_body;
-        let mut fields = sent_on(fields, &["content-length"]);
-        fields.extend(length.map(|it| with("Content-Length", it)));
-        fields.extend(self.in_chunks.then(|| with("Transfer-Encoding", "chunked")));
-        fields.extend((!self.stays).then(|| with("Connection", "close")));
+        let length = length.map(|it| with("Content-Length", it));
+        let chunks = self.in_chunks.then(|| with("Transfer-Encoding", "chunked"));
+        let close = (!self.stays).then(|| with("Connection", "close"));
+        let fields = sent_on(fields, &["content-length"]).chain(&length).chain(&chunks).chain(&close);
         // (what fails here fails again at the answer's end)
-        let _ = self.to.write_all(&head_of(&format!("HTTP/1.1 {status} -"), &fields));
+        let _ = self.to.write_all(&head_of(&format!("HTTP/1.1 {status} -"), fields));
     }
 
     // A client that is gone is no reason to stop: the body is stored all the same.

@@ -40,17 +40,17 @@ struct Fetched {
 
 fn head_in(fetched: &Fetched) -> Result<Head, Error> {
     let mut head = Head::new(fetched.status)?;
-    sent_on(&fetched.fields, &["content-length"]).iter().try_for_each(|(name, value)| head.add(name, value))?;
+    sent_on(&fetched.fields, &["content-length"]).try_for_each(|(name, value)| head.add(name, value))?;
     Ok(head)
 }
 
 /// Asks the origin, without some of the fields that the client sent, and with others.
 fn fetch(origin: &str, asked: &Asked, but: &[&str], more: Fields) -> io::Result<Fetched> {
-    let mut fields = sent_on(&asked.fields, &[but, &["content-length", "expect"]].concat());
+    let mut fields: Fields = sent_on(&asked.fields, &[but, &["content-length", "expect"]].concat()).cloned().collect();
     fields.extend(more.into_iter().filter(|(_, value)| !value.is_empty()));
     fields.push(with("connection", "close"));
     fields.extend((!asked.body.is_empty()).then(|| with("content-length", asked.body.len())));
-    let head = head_of(&format!("{} {} HTTP/1.1", asked.method, asked.target), &fields);
+    let head = head_of(&format!("{} {} HTTP/1.1", asked.method, asked.target), fields.iter());
     let mut stream = patient(TcpStream::connect(origin)?)?;
     stream.write_all(&[&head[..], &asked.body].concat())?;
     let mut from = BufReader::with_capacity(64 << 10, stream);
@@ -74,18 +74,19 @@ struct Proxy {
 }
 
 impl Proxy {
-    /// A request that looked its target up, for the variant that it asks for where what is stored varies.
-    fn look(&self, asked: &Asked, now: Moment) -> Result<(Request, Looked), Error> {
+    /// A request that looked its target up, for the variant that it asks for where what is stored varies; and the meta of what it found.
+    fn look(&self, asked: &Asked, now: Moment) -> Result<(Request, Looked, Option<Meta>), Error> {
         let mut request = self.cache.request(&base_of(asked), "")?;
         let mut looked = request.look(now)?;
-        if looked == Looked::Found {
-            if let Some(variance) = variance_of(asked, &names_in(&mut request.meta()?)?)? {
-                if !request.look_for(&variance)? {
-                    looked = request.look(now)?;
-                }
+        let mut meta = request.meta().ok();
+        let names = meta.as_mut().map_or(Ok(Vec::new()), names_in)?;
+        if let Some(variance) = variance_of(asked, &names)? {
+            if !request.look_for(&variance)? {
+                looked = request.look(now)?;
+                meta = request.meta().ok();
             }
         }
-        Ok((request, looked))
+        Ok((request, looked, meta))
     }
 
     /// Purges a target with all its variants.
@@ -107,8 +108,7 @@ impl Proxy {
     /// One look-up and what follows. Says whether the client has its answer; if not, another look-up is worth while.
     fn try_once(self: &Arc<Proxy>, client: &mut Client, asked: &Asked) -> Result<bool, Error> {
         let now = Moment::now();
-        let (mut request, looked) = self.look(asked, now)?;
-        let mut meta = if looked == Looked::Found { Some(request.meta()?) } else { None };
+        let (mut request, looked, mut meta) = self.look(asked, now)?;
         let decision = match &mut meta {
             Some(meta) => rules_of(asked)?.decide_stored(&terms_of(meta, now)?, meta, None)?,
             None => rules_of(asked)?.decide_missing()?,
@@ -136,8 +136,8 @@ impl Proxy {
 
     /// Renews a stale body in a thread of its own, unless another request has the permit to.
     fn renew(self: &Arc<Proxy>, asked: &Asked, now: Moment) -> Result<(), Error> {
-        let (mut request, _) = self.look(asked, now)?;
-        let meta = request.meta()?;
+        let (mut request, _, meta) = self.look(asked, now)?;
+        let meta = meta.ok_or(Error::Nothing)?;
         request.take(HitStatus::Expired, now)?;
         if request.held()? == Held::Permit {
             let (proxy, asked) = (self.clone(), Asked { method: "GET".to_string(), ..asked.clone() });
@@ -228,7 +228,7 @@ fn names_in(meta: &mut Meta) -> Result<Vec<String>, Error> {
 
 /// What a request says in these fields, as one hash; nothing if there are none.
 fn variance_of(asked: &Asked, names: &[String]) -> Result<Option<Hash>, Error> {
-    let mut variance = Variance::new()?;
+    let mut variance = if names.is_empty() { return Ok(None) } else { Variance::new()? };
     for name in names {
         let values = asked.fields.iter().filter(|(it, _)| it == name).map(|(_, value)| &value[..]).collect::<Vec<_>>();
         variance.add(name, &[format!("{}:", values.len()).as_bytes(), &values.join(&b"\n"[..])].concat())?;
@@ -313,7 +313,11 @@ fn send_stored(client: &mut Client, asked: &Asked, request: &mut Request, gets: 
     }
     fields.extend(length.map(|it| with("content-length", it)));
     client.begin(status, &fields);
-    let is_whole = !client.takes_body || status == 416 || loop {
+    // (to copy few bytes takes less time than to make a view)
+    let (mut room, short) = ([0; 4096], length.filter(|it| (1..=4096).contains(it)));
+    let copied = short.and_then(|_| request.read(&mut room).ok()).map_or(0, |it| if let Read::Bytes(count) = it { count } else { 0 });
+    client.piece(&room[..copied]);
+    let is_whole = !client.takes_body || status == 416 || short == Some(copied as u64) || loop {
         match request.view_until(Instant::now() + PATIENCE) {
             Ok(Read::Bytes(view)) => client.piece(&view),
             end => break matches!(end, Ok(Read::End)),

@@ -19,7 +19,7 @@
 - where a number of tests, crates, public functions or wrong bodies is said, it is today's; so in AUDIT.md's counts
 - bench/contracts/definitions_of.py reads each clause that begins in a source
 - bench/README.md names each script of bench/ in the part of its folder (or dev/PERFORMANCE.md, if it measures), and no other
-- README.md has at most 140 lines, and dev/PERFORMANCE.md 80
+- README.md has at most 140 lines, and dev/PERFORMANCE.md 100
 """
 import functools
 import glob
@@ -325,7 +325,7 @@ def wrong_scripts(text):
 
 
 # Pages of one screen or little more stay so.
-MOST_LINES = {"README.md": 140, "docs/dev/PERFORMANCE.md": 80}
+MOST_LINES = {"README.md": 140, "docs/dev/PERFORMANCE.md": 100}
 
 
 def wrong_in(page, text):

@@ -351,11 +351,16 @@ impl Meta {
     /// ```
     ///
     /// # Errors
-    /// None of this crate's making.
+    /// [`Error::NoMemory`].
     pub fn head(&mut self) -> Result<(u16, Vec<(String, Vec<u8>)>), Error> {
-        let mut fields = Vec::new();
-        while let Some(field) = self.field(fields.len())? {
-            fields.push(field);
+        // (one call for the text takes less time than a call for each field)
+        let (_, text) = self.write()?;
+        let mut fields = Vec::with_capacity(16);
+        for line in text.split(|it| *it == b'\n').skip(1).filter_map(|it| it.strip_suffix(b"\r")).take_while(|it| !it.is_empty()) {
+            let colon = line.iter().position(|it| *it == b':').ok_or(Error::Unreadable)?;
+            let name = String::from_utf8(line[..colon].to_vec()).map_err(|_| Error::Unreadable)?;
+            let value = line[colon..].strip_prefix(b": ").ok_or(Error::Unreadable)?;
+            fields.push((name, value.to_vec()));
         }
         Ok((self.status()?, fields))
     }
