@@ -271,20 +271,20 @@ def reached(wanted):
 
 
 PRINTED = re.compile(r"(`bench/contracts/definitions_of\.py ([\w:.]+)` prints the )\d+( definitions)")
-COUNTED = re.compile(r"(?m)^(\| [^|\n]* \| (?:`(\w+)`(?: of `([\w:]+)`)?)? ?\| )([\d,]+) \| ([\d,]+) \|$")
+COUNTED = re.compile(r"(?m)^(\| [^|\n]* \| ([^|\n]* of `[\w:]+`) \| )([\d,]+) \| ([\d,]+) \|$")
 
 
 def with_counts(text):
-    """The text of AUDIT.md as it is today: the table with a row for each clause of the headline, one for a world's legality, and two
-    for all of them; and how many definitions a contract prints."""
+    """The text of AUDIT.md as it is today: in its tables, how many definitions the clauses of a row use, and how many lines these
+    have; and how many definitions a contract prints."""
 
     def row(found):
-        head, clause, name, *_ = found.groups()
-        wanted = [(name or "World::headline", {clause})] if clause else [("World::headline", None)]
-        if not clause and "seven" not in head:
-            wanted.append(("World::step", {"legal"}))
+        wanted = []
+        for part in found[2].split(" and "):
+            clauses, name = part.split(" of ")
+            wanted.append((name.strip("`"), set(re.findall(r"`(\w+)`", clauses)) or None))
         count, lines = reached(wanted)
-        return f"{head}{count:,} | {lines:,} |"
+        return f"{found[1]}{count:,} | {lines:,} |"
 
     text = PRINTED.sub(lambda it: f"{it[1]}{reached([(it[2], None)])[0]}{it[3]}", text)
     return COUNTED.sub(row, text)
@@ -358,7 +358,7 @@ def with_output_changed(text):
 
 
 def with_count_changed(text):
-    return COUNTED.sub(lambda it: f"{it[1]}{it[4]} | 1{it[5]} |", text, count=1)
+    return COUNTED.sub(lambda it: f"{it[1]}{it[3]} | 1{it[4]} |", text, count=1)
 
 
 # A lie of each kind: the page, and what makes the lie of its text.

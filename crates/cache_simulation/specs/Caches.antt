@@ -67,11 +67,11 @@ pub record StandsAs {O : Type 0} (p : Policy O) (before asked : List Request) (r
 abbrev pub Stands : List Request → List Request → Rules → Option Fresh → ℕ → AnyRun → Type 0
 Stands before asked rules start base (run.Lru r) = StandsAs lru before asked rules start base (rules_of r.manager.limits r.most r.replaces) r.counts r.manager.evicted.count (place r.manager.entries r.freshness)
 Stands before asked rules start base (run.Sharded r) = StandsAs (sharded 16) before asked rules start base (rules_of r.manager.limits r.most r.replaces) r.counts r.manager.evicted.count (place r.manager.shards r.freshness)
-Stands before asked rules start base (run.Sieve r) = StandsAs sieve_policy before asked rules start base (rules_of r.manager.limits r.most r.replaces) r.counts r.manager.evicted.count (place r.manager.sieve r.freshness)
-Stands before asked rules start base (run.S3Fifo r) = StandsAs s3_fifo_policy before asked rules start base (rules_of r.manager.limits r.most r.replaces) r.counts r.manager.evicted.count (place r.manager.fifos r.freshness)
-Stands before asked rules start base (run.Fifo r) = StandsAs fifo before asked rules start base (rules_of r.manager.limits r.most r.replaces) r.counts r.manager.evicted.count (place r.manager.queue r.freshness)
-Stands before asked rules start base (run.Clock r) = StandsAs clock before asked rules start base (rules_of r.manager.limits r.most r.replaces) r.counts r.manager.evicted.count (place r.manager.queue r.freshness)
-Stands before asked rules start base (run.TwoQueues r) = StandsAs two_queues_policy before asked rules start base (rules_of r.manager.limits r.most r.replaces) r.counts r.manager.evicted.count (place r.manager.queues r.freshness)
+Stands before asked rules start base (run.Sieve r) = StandsAs sieve_policy before asked rules start base (rules_of r.manager.limits r.most r.replaces) r.counts r.manager.evicted.count (place r.manager.order r.freshness)
+Stands before asked rules start base (run.S3Fifo r) = StandsAs s3_fifo_policy before asked rules start base (rules_of r.manager.limits r.most r.replaces) r.counts r.manager.evicted.count (place r.manager.order r.freshness)
+Stands before asked rules start base (run.Fifo r) = StandsAs fifo before asked rules start base (rules_of r.manager.limits r.most r.replaces) r.counts r.manager.evicted.count (place r.manager.order r.freshness)
+Stands before asked rules start base (run.Clock r) = StandsAs clock before asked rules start base (rules_of r.manager.limits r.most r.replaces) r.counts r.manager.evicted.count (place r.manager.order r.freshness)
+Stands before asked rules start base (run.TwoQueues r) = StandsAs two_queues_policy before asked rules start base (rules_of r.manager.limits r.most r.replaces) r.counts r.manager.evicted.count (place r.manager.order r.freshness)
 
 abbrev pub policy_of : AnyRun → Named
 policy_of (run.Lru r) = named.Lru

@@ -1,6 +1,6 @@
 -- A list with a hand as a queue.
-use Rattle.std.proofs.Common.{◌≡◌, ℕ, ◌+◌, ◌≤◌, Bool, true, false, cond, Option, None, Some, List, [], ◌∷◌, ◌++◌, refl, ap, sym, subst, ◌∙◌, arith, inl, inr, length, length-append, append_assoc, append-nil}
-use Rattle.std.specs.Prelude.{◌≢◌, IfSome, ◌⊎◌}
+use Rattle.std.proofs.Common.{◌≡◌, ℕ, ◌+◌, ◌≤◌, true, false, cond, None, Some, List, [], ◌∷◌, ◌++◌, refl, ap, sym, subst, ◌∙◌, arith, inl, inr, length, length-append, append_assoc, append-nil}
+use Rattle.std.specs.Prelude.{IfSome, ◌⊎◌}
 use Rattle.std.proofs.lemmas.List.Sums.{sum_by-append}
 use Rattle.std.proofs.lemmas.Map.Keys.{IsDistinct-head, IsDistinct-tail}
 use Rattle.std.specs.Map.{keys_of}
@@ -10,8 +10,7 @@ use Rattle.pcache_evict.specs.Tracked.{Limits}
 use Rattle.pcache_evict.specs.Recency.{weight}
 use Rattle.pcache_evict.specs.Listed.{map_of}
 use Rattle.pcache_evict.proofs.Recency.{same_key, laws}
-use Rattle.pcache_policies.specs.declared.queue.Seen.{Seen}
-use Rattle.pcache_policies.specs.Queue.{Queue, plain, IsOnce, seen_of, unused}
+use Rattle.pcache_policies.specs.Queue.{Queue, plain, IsOnce, seen_of}
 use Rattle.pcache_policies.specs.Leaving.{HasRoom}
 use Rattle.pcache_policies.specs.Sieve as hand
 use Rattle.pcache_policies.specs.Sieve.{Sieve, sieve, whole, entries}
@@ -19,7 +18,7 @@ use Rattle.pcache_policies.specs.OneQueue.{MakesRoom, rests, spares, goes}
 use Rattle.pcache_policies.specs.Ring.{Ring, all, shown, left_of, in_turn, SameEntries}
 use Rattle.pcache_policies.proofs.Queues.{E, plain-append, length-plain}
 use Rattle.pcache_policies.proofs.Rings.{Apart, none_apart, apart_none, apart_front, apart_back, apart_both, once_swap, map-swap}
-use Rattle.pcache_policies.proofs.SieveRooms.{absent_same, whole_weight}
+use Rattle.pcache_policies.proofs.Seens.{whole_weight}
 
 -- ---- two parts of a queue in the other order
 
@@ -94,9 +93,6 @@ found_turn k r d = found_swap k r.ahead (r.leaving ++ r.passed) d
 
 pub map_turn : (old new : Ring) → IsOnce (all old) → IsOnce (all new) → SameEntries old new → map_of (plain (in_turn (shown new))) ≡ map_of (plain (in_turn (shown old)))
 map_turn old new d e same = sym (map-swap new.ahead (new.leaving ++ new.passed) e) ∙ same ∙ map-swap old.ahead (old.leaving ++ old.passed) d
-
-pub absent_turn : (k : CacheEntryKey) (old new : Ring) → SameEntries old new → seen_of k (in_turn (shown old)) ≡ None → seen_of k (in_turn (shown new)) ≡ None
-absent_turn k old new same h = absent_swap k new.ahead (new.leaving ++ new.passed) (absent_same k old new same (absent_swap k (old.leaving ++ old.passed) old.ahead h))
 
 pub weight_turn : (old new : Ring) → IsOnce (all old) → IsOnce (all new) → SameEntries old new → weight (plain (in_turn (shown old))) ≡ weight (plain (in_turn (left_of new))) + weight (plain new.leaving)
 weight_turn old new d e same =

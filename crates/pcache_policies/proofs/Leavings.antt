@@ -1,6 +1,6 @@
 -- Entries that leave a list one by one leave its map fairly.
-use Rattle.std.proofs.Common.{◌≡◌, ℕ, ◌+◌, Bool, true, false, cond, not, None, Some, is_some, unwrap_or, All, List, [], ◌∷◌, ◌++◌, refl, ap, sym, subst, ◌∙◌, arith}
-use Rattle.std.specs.Prelude.{IsTrue}
+use Rattle.std.proofs.Common.{◌≡◌, ℕ, ◌+◌, ◌≤◌, length, Option, true, false, cond, not, None, Some, is_some, unwrap_or, List, [], ◌∷◌, ◌++◌, refl, ap, sym, subst, ◌∙◌, arith}
+use Rattle.std.specs.Prelude.{IsTrue, IfSome}
 use Rattle.std.specs.List.{IsDistinct, AllByRecursion}
 use Rattle.std.specs.Map.{keys_of}
 use Rattle.std.specs.Ordering.{eq_by_cmp}
@@ -20,7 +20,7 @@ use Rattle.pcache_evict.proofs.Evictions.{left_there, gone_here}
 use Rattle.pcache_evict.proofs.Recency.{laws, distinct-others}
 use Rattle.pcache_evict.proofs.Maps.{get-map_of, weight-map_of, map-others, within, inside}
 use Rattle.pcache_evict.proofs.TrackedMaps.{get-remove_apart}
-use Rattle.pcache_policies.specs.Leaving.{Leaves}
+use Rattle.pcache_policies.specs.Leaving.{HasRoom, Coming, Run}
 
 abbrev E : Type 0
 E = CacheEntryKey × ℕ
@@ -90,11 +90,6 @@ weight-later m k (x ∷ out) a =
     let rest = weight-later m k out a.1 in
     omega arith
 
-pub record Run (limits : Limits) (out : List CacheEntryKey) (l after : Recency) : Type 0 where
-  pub fair : IsFair limits (map_of l) out
-  pub left : map_of after ≡ without out (map_of l)
-  pub gone : weight_in (map_of l) out + weight after ≡ weight l
-
 pub run-none : (limits : Limits) (l : Recency) → IsOnce l → IsWithinAsList limits l → Run limits [] l l
 run-none limits l once w = record { fair = fair-none limits (map_of l) (within limits l once w); left = refl; gone = omega arith }
 
@@ -121,10 +116,6 @@ run-first limits out l left newer older k n once over is rest =
       gone = omega arith;
     }
 
-pub fair-run : (limits : Limits) (out : List CacheEntryKey) (l left : Recency) → IsOnce l → Leaves limits l out left → Run limits out l left
-fair-run limits [] l left once r = subst (λ m. Run limits [] l m) (sym r.0) (run-none limits l once r.1)
-fair-run limits (k ∷ out) l left once (over, newer, n, older, is, rest) = run-first limits out l left newer older k n once over is (λ apart. fair-run limits out (newer ++ older) left apart rest)
-
 -- the order of the entries does not matter
 pub run-same : (limits : Limits) (out : List CacheEntryKey) (l m left : Recency) → IsOnce l → IsOnce m → map_of m ≡ map_of l → Run limits out m left → Run limits out l left
 run-same limits out l m left once apart same run =
@@ -135,3 +126,26 @@ run-same limits out l m left once apart same run =
 
 pub run-ends-same : (limits : Limits) (out : List CacheEntryKey) (l m left : Recency) → map_of left ≡ map_of m → weight left ≡ weight m → Run limits out l m → Run limits out l left
 run-ends-same limits out l m left same heavy run = let gone = run.gone in record { fair = run.fair; left = same ∙ run.left; gone = omega arith }
+
+-- ---- entries before a list
+
+pub none_comes : Coming [] 0 0
+none_comes = record { sum = λ l. omega arith; long = λ l. omega arith }
+
+pub one_comes : (k : CacheEntryKey) (n : ℕ) → Coming ((k, n) ∷ []) n 1
+one_comes k n = record { sum = λ l. sum_by-cons (λ (e : CacheEntryKey × ℕ). e.1) (k, n) l; long = λ l. omega arith }
+
+pub within_of : (limits : Limits) (coming l : Recency) (size count : ℕ) → Coming coming size count → HasRoom limits size count l → IsWithinAsList limits (coming ++ l)
+within_of limits coming l size count c r =
+    record { weight = subst (λ n. n ≤ limits.weight) (sym (c.sum l)) r.heavy; count = subst (λ n. IfSome limits.watermark (λ most. n ≤ most)) (sym (c.long l)) r.many }
+
+pub room_of : (limits : Limits) (coming l : Recency) (size count : ℕ) → Coming coming size count → IsWithinAsList limits (coming ++ l) → HasRoom limits size count l
+room_of limits coming l size count c i =
+    record { heavy = subst (λ n. n ≤ limits.weight) (c.sum l) i.weight; many = subst (λ n. IfSome limits.watermark (λ most. n ≤ most)) (c.long l) i.count }
+
+pub room-within : (limits : Limits) (l : Recency) → IsWithinAsList limits l → HasRoom limits 0 0 l
+room-within limits l i = record { heavy = (let h = i.weight in omega arith); many = fewer limits.watermark i.count }
+  where
+    fewer : (o : Option ℕ) → IfSome o (λ most. length l ≤ most) → IfSome o (λ most. 0 + length l ≤ most)
+    fewer None h = h
+    fewer (Some most) h = (let le : length l ≤ most = h in omega arith)

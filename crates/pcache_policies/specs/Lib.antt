@@ -1,5 +1,6 @@
 pub mod Fifos
 pub mod Leaving
+pub mod Managed
 pub mod OneQueue
 pub mod Queue
 pub mod Reclaim

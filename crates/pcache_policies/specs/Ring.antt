@@ -1,6 +1,6 @@
 -- How the code keeps a list with a hand: the entries ahead of the hand, those that it chose to go, and those that it passed
 -- (own).
-use Rattle.std.specs.Prelude.{◌≡◌, ◌≢◌, ℕ, ◌+◌, ◌^◌, ◌<◌, ◌==◌, ◌⊎◌, Bool, true, false, List, [], ◌∷◌, ◌++◌, length, reverse, sum_by, if◌then◌else◌}
+use Rattle.std.specs.Prelude.{◌≡◌, ◌≢◌, ℕ, ◌+◌, ◌^◌, ◌<◌, ◌==◌, Bool, true, false, List, [], ◌∷◌, ◌++◌, length, reverse, sum_by, if◌then◌else◌}
 use Rattle.std.specs.Map.{keys_of}
 use Rattle.pcache_evict.specs.declared.eviction.entry_key.CacheEntryKey.{CacheEntryKey}
 use Rattle.pcache_evict.specs.Tracked.{Limits}
@@ -47,9 +47,13 @@ pub data Steps (old : Ring) (more : Bool) (new : Ring) : Type 0 where
   clears : (k : CacheEntryKey) (v : Seen) → more ≡ true → old.ahead ≡ new.ahead ++ (k, v) ∷ [] → v.uses ≢ 0 → new.leaving ≡ old.leaving → new.passed ≡ (k, unused v.weight) ∷ old.passed → Steps old more new
   chooses : (k : CacheEntryKey) (v : Seen) → more ≡ true → old.ahead ≡ new.ahead ++ (k, v) ∷ [] → v.uses ≡ 0 → new.leaving ≡ (k, v) ∷ old.leaving → new.passed ≡ old.passed → Steps old more new
 
--- the keys of the chosen entries, in the order in which they go
+-- the keys of entries that were chosen, in the order in which they go
+abbrev pub going : Queue → List CacheEntryKey
+going q = reverse (keys_of q)
+
+-- the same of a ring
 abbrev pub chosen : Ring → List CacheEntryKey
-chosen r = reverse (keys_of r.leaving)
+chosen r = going r.leaving
 
 -- to evict what the hand chose makes room
 abbrev pub Chooses : Limits → ℕ → ℕ → Ring → Ring → Type 0

@@ -1,16 +1,16 @@
 -- S3-FIFO: a small queue for new entries, a main queue for those that were used there or come in again soon, and ghosts,
 -- which are the keys of entries evicted from the small one (Yang, Zhang, Qiu, Yue, Vigfusson, SOSP 2023).
-use Rattle.std.specs.Prelude.{◌≡◌, ℕ, ◌+◌, ◌-◌, ◌*◌, ◌/◌, ◌^◌, ◌<◌, ◌≤◌, ◌⊎◌, ◌==◌, Bool, not, Option, None, Some, List, [], ◌∷◌, ◌++◌, length, min, take, if◌then◌else◌, map}
+use Rattle.std.specs.Prelude.{◌≡◌, ℕ, ◌-◌, ◌*◌, ◌/◌, ◌<◌, ◌≤◌, ◌⊎◌, ◌==◌, Bool, false, not, List, [], ◌∷◌, ◌++◌, length, take, if◌then◌else◌, map}
 use Rattle.std.specs.List.{list_any, filter}
 use Rattle.pcache_evict.specs.declared.eviction.entry_key.CacheEntryKey.{CacheEntryKey}
 use Rattle.pcache_evict.specs.Entry.{entry_eq}
-use Rattle.pcache_evict.specs.Tracked.{Limits, Evicted, limits_of, raised}
+use Rattle.pcache_evict.specs.Tracked.{Limits}
 use Rattle.pcache_evict.specs.Recency.{Recency, weight}
-use Rattle.pcache_evict.specs.Listed.{map_of}
 use Rattle.pcache_evict.specs.Policy.{Policy, Shown}
 use Rattle.pcache_policies.specs.declared.queue.Seen.{Seen}
-use Rattle.pcache_policies.specs.Queue.{Queue, plain, rest_of, reseen, seen_of, unused, reused, spent, queue_shown}
+use Rattle.pcache_policies.specs.Queue.{Queue, plain, rest_of, reseen, unused, reused, spent, queue_shown}
 use Rattle.pcache_policies.specs.Leaving.{HasRoom}
+use Rattle.pcache_policies.specs.Managed.{Way, policy_of}
 
 -- keys, the newest first
 abbrev pub Ghosts : Type 0
@@ -79,68 +79,9 @@ reseen_in k v f = fifos (reseen k v f.small) (reseen k v f.main) f.ghosts
 abbrev pub rest_in : CacheEntryKey → Fifos → Fifos
 rest_in k f = fifos (rest_of k f.small) (rest_of k f.main) f.ghosts
 
--- the queues, the limits, and what was evicted so far
-pub record Queued : Type 0 where
-  pub fifos : Fifos
-  pub limits : Limits
-  pub evicted : Evicted
-
--- a new manager with these limits
-abbrev pub empty_fifos : ℕ → Option ℕ → Queued
-empty_fifos limit watermark = record { fifos = fifos [] [] []; limits = limits_of limit watermark; evicted = record { weight = 0; count = 0 } }
-
--- the totals after entries of this weight went
-abbrev pub IsCounted : Queued → ℕ → Queued → List CacheEntryKey → Type 0
-IsCounted old before new out =
-    (new.limits ≡ old.limits) × (new.evicted.weight ≡ min (old.evicted.weight + (before - weight (entries new.fifos))) (2 ^ 64 - 1)) × (new.evicted.count ≡ min (old.evicted.count + length out) (2 ^ 64 - 1))
-
--- entries of these queues are evicted until the limits hold
-pub record KeepsLimits (old : Queued) (from : Fifos) (new : Queued) (out : List CacheEntryKey) : Type 0 where
-  pub room : MakesRoom old.limits 0 0 from out new.fifos
-  pub counted : IsCounted old (weight (entries from)) new out
-
--- room is made, and then a new entry is added; one for which there is no room although no entry is left goes itself
-pub record Comes (limits : Limits) (f : Fifos) (k : CacheEntryKey) (n : ℕ) (t : Fifos) (out : List CacheEntryKey) : Type 0 where
-  pub left : Fifos
-  pub gone : List CacheEntryKey
-  pub room : MakesRoom limits n 1 f gone left
-  pub ends : (HasRoom limits n 1 (entries left) × (t ≡ entered k n left) × (out ≡ gone)) ⊎ ((¬ HasRoom limits n 1 (entries left)) × (t ≡ left) × (out ≡ gone ++ k ∷ []))
-
--- a new entry comes in, and what goes is counted
-pub record Admits (old : Queued) (k : CacheEntryKey) (n : ℕ) (new : Queued) (out : List CacheEntryKey) : Type 0 where
-  pub comes : Comes old.limits old.fifos k n new.fifos out
-  pub counted : IsCounted old (n + weight (entries old.fifos)) new out
-
--- an entry that is admitted again gets its new weight in place, which is a use; a new one is added
-abbrev pub Admission : Option Seen → Queued → CacheEntryKey → ℕ → Queued → List CacheEntryKey → Type 0
-Admission None old k n new out = Admits old k n new out
-Admission (Some v) old k n new out = KeepsLimits old (reseen_in k (record (reused v) { weight = n }) old.fifos) new out
-
--- an increment raises the weight of an entry in place, which is no use; a new one is added
-abbrev pub Increment : Option Seen → Queued → CacheEntryKey → ℕ → Option ℕ → Queued → List CacheEntryKey → Type 0
-Increment None old k delta most new out = Admits old k (raised delta most None) new out
-Increment (Some v) old k delta most new out = KeepsLimits old (reseen_in k (record v { weight = raised delta most (Some v.weight) }) old.fifos) new out
-
--- an access counts one more use, in place; a new entry is added, even if there is no room
-abbrev pub accessed : Option Seen → CacheEntryKey → ℕ → Fifos → Fifos
-accessed None k n f = entered k n f
-accessed (Some v) k n f = if v.uses == 3 then f else reseen_in k (reused v) f
-
--- a failed call leaves every entry with its weight, and the totals; queues, uses and ghosts may have changed
-pub record HasFailed (old new : Queued) : Type 0 where
-  pub same : map_of (entries new.fifos) ≡ map_of (entries old.fifos)
-  pub limits : new.limits ≡ old.limits
-  pub evicted : new.evicted ≡ old.evicted
-
--- what an admission makes of the queues: an entry that is there gets its new weight in place, which is a use; a new one comes in
-abbrev pub Admitted : Option Seen → Limits → Fifos → CacheEntryKey → ℕ → Fifos → List CacheEntryKey → Type 0
-Admitted None limits f k n t out = Comes limits f k n t out
-Admitted (Some v) limits f k n t out = MakesRoom limits 0 0 (reseen_in k (record (reused v) { weight = n }) f) out t
-
--- what an increment makes of them: the weight is raised in place, which is no use
-abbrev pub Incremented : Option Seen → Limits → Fifos → CacheEntryKey → ℕ → Option ℕ → Fifos → List CacheEntryKey → Type 0
-Incremented None limits f k delta cap t out = Comes limits f k (raised delta cap None) t out
-Incremented (Some v) limits f k delta cap t out = MakesRoom limits 0 0 (reseen_in k (record v { weight = raised delta cap (Some v.weight) }) f) out t
+-- a use is counted, in place
+abbrev pub noted : CacheEntryKey → Seen → Fifos → Fifos
+noted k v f = if v.uses == 3 then f else reseen_in k (reused v) f
 
 -- ghosts as a manager shows them
 abbrev pub ghosts_shown : Ghosts → List (CacheEntryKey × ℕ × ℕ)
@@ -150,13 +91,22 @@ ghosts_shown g = map (λ (k : CacheEntryKey). (k, 0, 0)) g
 abbrev pub fifos_shown : Fifos → Shown
 fifos_shown f = queue_shown f.small ∷ queue_shown f.main ∷ ghosts_shown f.ghosts ∷ []
 
+-- S3-FIFO as the way of a queue: ghosts are looked for when an entry comes in, after room was made. An entry that is admitted again
+-- gets its weight in place, which is a use
+abbrev pub s3_fifo_way : Way Fifos
+s3_fifo_way = record {
+  whole = whole;
+  none = fifos [] [] [];
+  shown = fifos_shown;
+  MakesRoom = λ limits size count f out t. MakesRoom limits size count f out t;
+  is_known = λ k f. false;
+  entered = λ known k n f. entered k n f;
+  used = noted;
+  readmitted = λ k v n f. reseen_in k (record (reused v) { weight = n }) f;
+  reseen_in = reseen_in;
+  rest_in = rest_in;
+}
+
 -- S3-FIFO as a policy
 abbrev pub s3_fifo_policy : Policy Fifos
-s3_fifo_policy = record {
-  entries = entries;
-  none = fifos [] [] [];
-  Accesses = λ f k n t. t ≡ accessed (seen_of k (whole f)) k n f;
-  Admits = λ limits f k n t out. Admitted (seen_of k (whole f)) limits f k n t out;
-  Increments = λ limits f k delta cap t out. Incremented (seen_of k (whole f)) limits f k delta cap t out;
-  Removes = λ f k t. t ≡ rest_in k f;
-}
+s3_fifo_policy = policy_of s3_fifo_way

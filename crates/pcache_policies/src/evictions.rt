@@ -4,11 +4,10 @@ ghost use Rattle.std.specs.Vec.{vec_capacity};
 ghost use Rattle.pcache_evict.specs.Tracked.{raised};
 ghost use Rattle.pcache_evict.specs.Recency.{weight};
 ghost use Rattle.pcache_policies.specs.Queue.{plain};
-ghost use Rattle.pcache_policies.specs.Ring as ring_specs;
+ghost use Rattle.pcache_policies.specs.Ring.{going};
 
-use crate::ring::Ring;
+use crate::discipline::Discipline;
 use pcache_evict::eviction::CacheEntryKey;
-use std::hash::BuildHasher;
 
 /// The weight and the number of all entries evicted so far; each stops at the largest `usize`.
 #[derive(Clone, Copy, Debug)]
@@ -39,25 +38,26 @@ impl Evictions {
     }
 }
 
-/// Evicts what the hand chose into a vector that has room for it.
-pub(crate) fn let_go<S: BuildHasher + Copy + Drop>(
-    ring: &mut Ring<S>,
+/// Evicts what the queue chose into a vector that has room for it.
+pub(crate) fn let_go<Q: Discipline<S>, S>(
+    queue: &mut Q,
     evicted: &mut Evictions,
     mut out: Vec<CacheEntryKey>,
 ) -> Vec<CacheEntryKey>
     requires none { out.items ≡ [] }
-    requires room { length ring.old.leaving ≤ vec_capacity out }
-    ensures ring { ring.new ≡ ring_specs.ring ring.old.ahead [] ring.old.passed }
-    ensures out { result.items ≡ ring_specs.chosen ring.old }
-    ensures long { length result.items ≡ length ring.old.leaving }
+    requires room { length (Q.leaving queue.old) ≤ vec_capacity out }
+    ensures order { Q.order queue.new ≡ Q.left queue.old }
+    ensures out { result.items ≡ going (Q.leaving queue.old) }
+    ensures long { length result.items ≡ length (Q.leaving queue.old) }
     ensures capacity { vec_capacity result ≡ vec_capacity out }
     ensures weight { evicted.new.weight
-        ≡ min (evicted.old.weight + weight (plain ring.old.leaving)) (2 ^ 64 - 1) }
+        ≡ min (evicted.old.weight + weight (plain (Q.leaving queue.old))) (2 ^ 64 - 1) }
     ensures count { evicted.new.count
-        ≡ min (evicted.old.count + length ring.old.leaving) (2 ^ 64 - 1) }
+        ≡ min (evicted.old.count + length (Q.leaving queue.old)) (2 ^ 64 - 1) }
 {
-    evicted.add(ring.leaving_weight(), ring.leaving_len());
-    ring.drain(&mut out);
+    let (weight, count) = queue.chosen();
+    evicted.add(weight, count);
+    queue.drain(&mut out);
     out
 }
 

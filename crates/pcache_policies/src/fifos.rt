@@ -1,4 +1,4 @@
-//! A small and a main queue, and ghosts.
+//! A small and a main queue, and ghosts: how S3-FIFO goes.
 ghost use Rattle.std.specs.Prelude.{◌≡◌, ◌≢◌, ◌+◌, ◌≤◌, ◌<◌, ◌^◌, Some, None, ◌∷◌, [], true, false, length, OnOk, OnErr, IfOk, IfErr};
 ghost use Rattle.std.specs.Vec.{vec_capacity};
 ghost use Rattle.pcache_base.specs.declared.error.ErrorType.TheVariants.{OutOfMemory};
@@ -8,37 +8,152 @@ ghost use Rattle.pcache_policies.specs.Ring.{ring, all, chosen, SameEntries};
 ghost use Rattle.pcache_policies.specs.S3Fifo.{entered, MakesRoom, IsSmallNext, IsMainNext};
 ghost use Rattle.pcache_policies.specs.Fifos.{shown, left_of, LooksAtSmall, LooksAtMain, Steps, Chooses};
 
+use crate::discipline::Discipline;
 use crate::ghosts::Ghosts;
-use crate::queue::Seen;
+use crate::queue::{MOST_USES, Seen};
 use crate::ring::Ring;
 use pcache_base::error::Result;
 use pcache_evict::eviction::CacheEntryKey;
 use std::alloc::Global;
 use std::hash::BuildHasher;
+use std::marker::Model;
+
+/// What a contract sees of the queues: a small and a main one, and ghosts.
+#[derive(Drop)]
+pub struct SmallAndMain;
+
+impl Model for SmallAndMain {
+    ghost use Rattle.std.specs.Prelude.{[]};
+    ghost use Rattle.pcache_policies.specs.S3Fifo.{Fifos, fifos};
+
+    ghost Value = { Fifos };
+
+    ghost view = { λ _. fifos [] [] [] };
+}
 
 /// A small queue (the entries ahead in the ring), a main queue (those that were passed), and the keys
-/// of entries that went from the small one. An entry that is to go is first set aside, as in the
-/// ring.
+/// of entries that went from the small one (their ghosts).
+///
+/// A use of an entry is counted, up to three, and moves nothing. A new entry is added to the small
+/// queue, or to the main one if its key is a ghost. To make room, the small queue looks at its oldest
+/// entry if it has a tenth of the limit, otherwise the main one does. An entry of the small queue that
+/// was used more than once moves to the main queue, an entry of the main queue that was used becomes
+/// its newest with one use less, and others are chosen to go; the uses of those that stay are used up.
 #[derive(Drop)]
-pub(crate) struct Fifos<S: BuildHasher> {
+pub struct Fifos<S: BuildHasher> {
     pub(crate) ring: Ring<S>,
     pub(crate) ghosts: Ghosts<S>,
 }
 
-impl<S: BuildHasher + Copy + Drop> Fifos<S> {
-    /// No entries and no ghosts.
-    pub(crate) fn new(alloc: Global, seed: S) -> Result<Fifos<S>>
-        ensures ok { IfOk result (λ made. (made.ring ≡ ring [] [] []) × (made.ghosts ≡ [])) }
-        ensures kind { IfErr result (λ e. e ≡ OutOfMemory) }
-    {
+impl<S: BuildHasher + Copy + Drop> Discipline<S> for Fifos<S> {
+    ghost use Rattle.pcache_policies.specs.Fifos.{shown, left_of};
+    ghost use Rattle.pcache_policies.specs.S3Fifo.{s3_fifo_way};
+    ghost use Rattle.std.proofs.Common.{ap, ◌++◌};
+    ghost use Rattle.pcache_policies.specs.S3Fifo.{fifos};
+
+    type Order = SmallAndMain;
+
+    ghost way = { s3_fifo_way };
+
+    ghost order = { λ f. shown f };
+
+    ghost left = { λ f. left_of f };
+
+    ghost leaving = { λ f. f.ring.leaving };
+
+    ghost settled = { λ f e. ap (λ g. fifos f.ring.ahead (g ++ f.ring.passed) f.ghosts) e };
+
+    fn laws() {}
+
+    fn new(alloc: Global, seed: S) -> Result<Self> {
         Ok(Fifos {
             ring: Ring::new(alloc, seed)?,
             ghosts: Ghosts::new(alloc, seed)?,
         })
     }
 
-    /// Chooses entries to evict until `count` more entries of this total weight fit or no entry is
-    /// left.
+    fn len(&self) -> usize {
+        self.ring.len()
+    }
+
+    fn weight(&self) -> u128 {
+        self.ring.weight()
+    }
+
+    fn get(&self, item: &CacheEntryKey) -> Option<Seen> {
+        self.ring.get(item)
+    }
+
+    fn copy_into(&self, list: &mut Vec<(CacheEntryKey, usize)>) -> Result<()> {
+        self.ring.copy_into(list)
+    }
+
+    fn set(&mut self, item: &CacheEntryKey, seen: Seen) {
+        self.ring.set(item, seen);
+    }
+
+    fn remove(&mut self, item: &CacheEntryKey) {
+        self.ring.remove(item);
+    }
+
+    fn note_use(&mut self, item: &CacheEntryKey, seen: Seen) {
+        if seen.uses != MOST_USES {
+            self.ring.set(item, seen.used_again(seen.weight));
+        }
+    }
+
+    fn readmit(&mut self, item: &CacheEntryKey, seen: Seen, size: usize) {
+        self.ring.set(item, seen.used_again(size));
+    }
+
+    fn knows(&self, _item: &CacheEntryKey) -> bool {
+        false
+    }
+
+    fn settle(&mut self) -> Result<()> {
+        self.ring.settle()
+    }
+
+    fn choose(
+        &mut self,
+        alloc: Global,
+        size: usize,
+        count: usize,
+        limit: usize,
+        watermark: Option<usize>,
+    ) -> Result<Vec<CacheEntryKey>> {
+        self.ring.len(); // for the prover: its contract says that no entry occurs twice
+        self.ring.settle()?;
+        self.make_room(size, count, limit, watermark)?;
+        Ok(Vec::with_capacity(alloc, self.ring.leaving_len() + 1)?)
+    }
+
+    fn has_room(&self, size: usize, limit: usize, watermark: Option<usize>) -> bool {
+        self.ring.has_room(size, 1, limit, watermark)
+    }
+
+    fn enter(&mut self, item: CacheEntryKey, size: usize, _known: bool) -> Result<()> {
+        if self.ghosts.has(&item) {
+            self.ghosts.forget(&item);
+            self.ring.add_passed(item, size)?;
+            return Ok(());
+        }
+        self.ring.add_ahead(item, size)?;
+        Ok(())
+    }
+
+    fn chosen(&self) -> (u128, usize) {
+        self.ring.chosen()
+    }
+
+    fn drain(&mut self, out: &mut Vec<CacheEntryKey>) {
+        self.ring.drain(out);
+    }
+}
+
+impl<S: BuildHasher + Copy + Drop> Fifos<S> {
+    // Chooses entries to evict until `count` more entries of this total weight fit or no entry is
+    // left.
     fn make_room(
         &mut self,
         size: usize,
@@ -58,47 +173,6 @@ impl<S: BuildHasher + Copy + Drop> Fifos<S> {
                 return Ok(());
             }
         }
-        Ok(())
-    }
-
-    /// Chooses entries to evict until `count` more entries of this total weight fit or no entry is
-    /// left, and makes a vector with room for the keys of all of them and of one more.
-    pub(crate) fn prepare(
-        &mut self,
-        alloc: Global,
-        size: usize,
-        count: usize,
-        limit: usize,
-        watermark: Option<usize>,
-    ) -> Result<Vec<CacheEntryKey>>
-        requires { count < 2 ^ 63 }
-        ensures room { IfOk result (λ out. MakesRoom (limits_of limit watermark) size count
-            (shown self.old) (chosen self.new.ring) (left_of self.new)) }
-        ensures out { IfOk result (λ out.
-            (out.items ≡ []) × (length self.new.ring.leaving + 1 ≤ vec_capacity out)) }
-        ensures same { SameEntries self.old.ring self.new.ring }
-        ensures once { IfOk result (λ out. IsOnce (all self.new.ring)) }
-        ensures kind { IfErr result (λ e. e ≡ OutOfMemory) }
-    {
-        self.ring.settle()?;
-        self.make_room(size, count, limit, watermark)?;
-        Ok(Vec::with_capacity(alloc, self.ring.leaving_len() + 1)?)
-    }
-
-    /// Adds a new entry as the newest, to the main queue if its key is a ghost.
-    pub(crate) fn enter(&mut self, item: CacheEntryKey, size: usize) -> Result<()>
-        requires { seen_of item (all self.old.ring) ≡ None }
-        ensures ok { OnOk result (left_of self.new ≡ entered item size (left_of self.old)) }
-        ensures leaving { OnOk result (self.new.ring.leaving ≡ self.old.ring.leaving) }
-        ensures kind { IfErr result (λ e. e ≡ OutOfMemory) }
-        ensures err { OnErr result (self.new.ring ≡ self.old.ring) }
-    {
-        if self.ghosts.has(&item) {
-            self.ghosts.forget(&item);
-            self.ring.add_passed(item, size)?;
-            return Ok(());
-        }
-        self.ring.add_ahead(item, size)?;
         Ok(())
     }
 

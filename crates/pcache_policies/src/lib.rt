@@ -4,6 +4,8 @@
 //! - `fifo`: one queue, whose oldest entry goes
 //! - `clock`: one queue, whose oldest entry goes unless it was used
 //! - `one_queue`: what these two are made of
+//! - `manager`: the manager of all of them, over a queue
+//! - `discipline`: what that queue says, which is the policy
 //! - `sieve`: one list with a hand that passes entries that were used, and evicts those that were
 //!   not
 //! - `ordered`: the orders that these keep, as `OrderedManager` promises them
@@ -13,10 +15,12 @@
 //!   again
 
 pub mod clock;
+pub mod discipline;
 mod evictions;
 pub mod fifo;
 mod fifos;
 mod ghosts;
+pub mod manager;
 pub mod one_queue;
 mod ordered;
 mod queue;
@@ -24,5 +28,4 @@ mod reclaim;
 mod ring;
 pub mod s3_fifo;
 pub mod sieve;
-mod turns;
 pub mod two_queues;

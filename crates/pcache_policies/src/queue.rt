@@ -56,7 +56,7 @@ impl Seen {
 ///
 /// A contract sees the list. Each call takes at most one look-up.
 #[derive(Drop)]
-pub(crate) struct Queue<S: BuildHasher> {
+pub struct Queue<S: BuildHasher> {
     cache: LruCache<CacheEntryKey, Seen, S>,
     weight: u128,
 }

@@ -1,4 +1,4 @@
-//! The two queues of 2Q with ghosts, and which entry goes next.
+//! The two queues of 2Q with ghosts: how 2Q goes.
 ghost use Rattle.std.specs.Prelude.{◌≡◌, ◌≢◌, ◌+◌, ◌≤◌, ◌<◌, ◌^◌, None, [], true, false, length, OnOk, OnErr, IfOk, IfErr};
 ghost use Rattle.std.specs.Vec.{vec_capacity};
 ghost use Rattle.pcache_base.specs.declared.error.ErrorType.TheVariants.{OutOfMemory};
@@ -9,6 +9,7 @@ ghost use Rattle.pcache_policies.specs.S3Fifo.{is_ghost};
 ghost use Rattle.pcache_policies.specs.TwoQueues.{entered, touched, MakesRoom, IsIncomingNext, IsMainNext};
 ghost use Rattle.pcache_policies.specs.Reclaim.{shown, left_of, Leaves, Goes, Steps, Chooses};
 
+use crate::discipline::Discipline;
 use crate::ghosts::Ghosts;
 use crate::queue::Seen;
 use crate::ring::Ring;
@@ -16,50 +17,149 @@ use pcache_base::error::Result;
 use pcache_evict::eviction::CacheEntryKey;
 use std::alloc::Global;
 use std::hash::BuildHasher;
+use std::marker::Model;
+
+/// What a contract sees of the queues: a main one, one of new entries, and ghosts.
+#[derive(Drop)]
+pub struct MainAndIncoming;
+
+impl Model for MainAndIncoming {
+    ghost use Rattle.std.specs.Prelude.{[]};
+    ghost use Rattle.pcache_policies.specs.TwoQueues.{TwoQueues, queues};
+
+    ghost Value = { TwoQueues };
+
+    ghost view = { λ _. queues [] [] [] };
+}
 
 /// The main queue (the entries ahead in the ring), the new entries (those that were passed), and the
-/// keys of entries that went from the new ones. An entry that is to go is first set aside, as in the
-/// ring.
+/// keys of entries that went from the new ones (their ghosts).
+///
+/// An entry is added to the new ones, or to the main queue if its key was a ghost before room was made.
+/// To make room, the oldest of the new entries goes if these weigh more than a quarter of the limit,
+/// otherwise the oldest of the main queue does. A use of an entry of the main queue makes it the newest
+/// there; a use of a new one changes nothing. The ghosts are at most half as many as the entries.
 #[derive(Drop)]
-pub(crate) struct Queues<S: BuildHasher> {
+pub struct Queues<S: BuildHasher> {
     pub(crate) ring: Ring<S>,
     pub(crate) ghosts: Ghosts<S>,
 }
 
-impl<S: BuildHasher + Copy + Drop> Queues<S> {
-    /// No entries and no ghosts.
-    pub(crate) fn new(alloc: Global, seed: S) -> Result<Queues<S>>
-        ensures ok { IfOk result (λ made. (made.ring ≡ ring [] [] []) × (made.ghosts ≡ [])) }
-        ensures kind { IfErr result (λ e. e ≡ OutOfMemory) }
-    {
+impl<S: BuildHasher + Copy + Drop> Discipline<S> for Queues<S> {
+    ghost use Rattle.pcache_policies.specs.Reclaim.{shown, left_of};
+    ghost use Rattle.pcache_policies.specs.TwoQueues.{two_queues_way};
+    ghost use Rattle.std.proofs.Common.{ap, ◌++◌};
+    ghost use Rattle.pcache_policies.specs.TwoQueues.{queues};
+
+    type Order = MainAndIncoming;
+
+    ghost way = { two_queues_way };
+
+    ghost order = { λ q. shown q };
+
+    ghost left = { λ q. left_of q };
+
+    ghost leaving = { λ q. q.ring.leaving };
+
+    ghost settled = { λ q e. ap (λ g. queues q.ring.ahead (g ++ q.ring.passed) q.ghosts) e };
+
+    fn laws() {}
+
+    fn new(alloc: Global, seed: S) -> Result<Self> {
         Ok(Queues {
             ring: Ring::new(alloc, seed)?,
             ghosts: Ghosts::new(alloc, seed)?,
         })
     }
 
-    /// Chooses entries to evict until `count` more entries of this total weight fit or no entry is
-    /// left, and makes a vector with room for the keys of all of them and of one more.
-    pub(crate) fn prepare(
+    fn len(&self) -> usize {
+        self.ring.len()
+    }
+
+    fn weight(&self) -> u128 {
+        self.ring.weight()
+    }
+
+    fn get(&self, item: &CacheEntryKey) -> Option<Seen> {
+        self.ring.get(item)
+    }
+
+    fn copy_into(&self, list: &mut Vec<(CacheEntryKey, usize)>) -> Result<()> {
+        self.ring.copy_into(list)
+    }
+
+    fn set(&mut self, item: &CacheEntryKey, seen: Seen) {
+        self.ring.set(item, seen);
+    }
+
+    fn remove(&mut self, item: &CacheEntryKey) {
+        self.ring.remove(item);
+    }
+
+    fn note_use(&mut self, item: &CacheEntryKey, seen: Seen) {
+        self.touch(item, seen);
+    }
+
+    fn readmit(&mut self, item: &CacheEntryKey, seen: Seen, size: usize) {
+        let weight = size;
+        self.touch(item, Seen { weight, ..seen });
+    }
+
+    fn knows(&self, item: &CacheEntryKey) -> bool {
+        self.ghosts.has(item)
+    }
+
+    fn settle(&mut self) -> Result<()> {
+        self.ring.settle()
+    }
+
+    fn choose(
         &mut self,
         alloc: Global,
         size: usize,
         count: usize,
         limit: usize,
         watermark: Option<usize>,
-    ) -> Result<Vec<CacheEntryKey>>
-        requires { count < 2 ^ 63 }
-        ensures room { IfOk result (λ out. MakesRoom (limits_of limit watermark) size count
-            (shown self.old) (chosen self.new.ring) (left_of self.new)) }
-        ensures out { IfOk result (λ out.
-            (out.items ≡ []) × (length self.new.ring.leaving + 1 ≤ vec_capacity out)) }
-        ensures same { SameEntries self.old.ring self.new.ring }
-        ensures once { IfOk result (λ out. IsOnce (all self.new.ring)) }
-        ensures kind { IfErr result (λ e. e ≡ OutOfMemory) }
-    {
+    ) -> Result<Vec<CacheEntryKey>> {
+        self.ring.len(); // for the prover: its contract says that no entry occurs twice
         self.ring.settle()?;
         self.make_room(size, count, limit, watermark)?;
         Ok(Vec::with_capacity(alloc, self.ring.leaving_len() + 1)?)
+    }
+
+    fn has_room(&self, size: usize, limit: usize, watermark: Option<usize>) -> bool {
+        self.ring.has_room(size, 1, limit, watermark)
+    }
+
+    fn enter(&mut self, item: CacheEntryKey, size: usize, known: bool) -> Result<()> {
+        if known {
+            self.ghosts.forget(&item);
+            self.ring.add_ahead(item, size)?;
+            return Ok(());
+        }
+        self.ring.add_passed(item, size)?;
+        Ok(())
+    }
+
+    fn chosen(&self) -> (u128, usize) {
+        self.ring.chosen()
+    }
+
+    fn drain(&mut self, out: &mut Vec<CacheEntryKey>) {
+        self.ring.drain(out);
+    }
+}
+
+impl<S: BuildHasher + Copy + Drop> Queues<S> {
+    // A use of an entry, which has this record then: in the main queue it becomes the newest.
+    fn touch(&mut self, item: &CacheEntryKey, seen: Seen)
+        ensures { shown self.new ≡ touched item.now seen (shown self.old) }
+    {
+        if self.ring.is_ahead(item) {
+            self.ring.renew_ahead(item, seen);
+            return;
+        }
+        self.ring.set(item, seen);
     }
 
     // Chooses entries to evict until `count` more entries of this total weight fit or no entry is
@@ -84,42 +184,6 @@ impl<S: BuildHasher + Copy + Drop> Queues<S> {
             }
         }
         Ok(())
-    }
-
-    /// Adds an entry as the newest: to the main queue if it comes in again, otherwise to the new
-    /// ones.
-    pub(crate) fn enter(&mut self, item: CacheEntryKey, size: usize, again: bool) -> Result<()>
-        requires { seen_of item (all self.old.ring) ≡ None }
-        ensures ok { OnOk result (left_of self.new ≡ entered again item size (left_of self.old)) }
-        ensures leaving { OnOk result (self.new.ring.leaving ≡ self.old.ring.leaving) }
-        ensures kind { IfErr result (λ e. e ≡ OutOfMemory) }
-        ensures err { OnErr result (self.new.ring ≡ self.old.ring) }
-    {
-        if again {
-            self.ghosts.forget(&item);
-            self.ring.add_ahead(item, size)?;
-            return Ok(());
-        }
-        self.ring.add_passed(item, size)?;
-        Ok(())
-    }
-
-    /// A use of an entry, which has this record then: in the main queue it becomes the newest.
-    pub(crate) fn touch(&mut self, item: &CacheEntryKey, seen: Seen)
-        ensures { shown self.new ≡ touched item.now seen (shown self.old) }
-    {
-        if self.ring.is_ahead(item) {
-            self.ring.renew_ahead(item, seen);
-            return;
-        }
-        self.ring.set(item, seen);
-    }
-
-    /// Whether a key is among the ghosts.
-    pub(crate) fn comes_again(&self, item: &CacheEntryKey) -> bool
-        ensures { result ≡ is_ghost item.now self.now.ghosts }
-    {
-        self.ghosts.has(item)
     }
 
     // Chooses one entry, and returns whether there was one.

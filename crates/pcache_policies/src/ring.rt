@@ -36,7 +36,7 @@ fn is_full(count: usize) -> bool
 /// An entry that the hand passes moves from one queue to another, which may take memory. So an
 /// entry that is to go is first set aside, and leaves once nothing can fail any more.
 #[derive(Drop)]
-pub(crate) struct Ring<S: BuildHasher> {
+pub struct Ring<S: BuildHasher> {
     ahead: Queue<S>,
     leaving: Queue<S>,
     passed: Queue<S>,
@@ -129,11 +129,12 @@ impl<S: BuildHasher + Copy + Drop> Ring<S> {
         self.leaving.len()
     }
 
-    /// The weight of the entries chosen to go.
-    pub(crate) fn leaving_weight(&self) -> u128
-        ensures { result ≡ weight (plain self.now.leaving) }
+    /// The weight and the number of the entries chosen to go.
+    pub(crate) fn chosen(&self) -> (u128, usize)
+        ensures weight { result.0 ≡ weight (plain self.now.leaving) }
+        ensures count { result.1 ≡ length self.now.leaving }
     {
-        self.leaving.weight()
+        (self.leaving.weight(), self.leaving.len())
     }
 
     /// Whether the limits hold for the entries that were not chosen, with `count` more of this

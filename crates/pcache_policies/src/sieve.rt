@@ -1,383 +1,137 @@
 //! An eviction manager that evicts entries that were not used since its hand last passed them:
 //! SIEVE (Zhang, Yang, Yue, Vigfusson, Rashmi, NSDI 2024).
-ghost use Rattle.std.specs.Prelude.{◌≡◌, ◌-◌, ◌^◌, true, false, None, Some, is_some, length, OnOk, OnErr, IfOk, IfErr, IsOk, IsSome, min};
-ghost use Rattle.pcache_base.specs.declared.error.ErrorType.TheVariants.{OutOfMemory};
-ghost use Rattle.pcache_evict.specs.Tracked.{raised};
-ghost use Rattle.pcache_evict.specs.Recency.{weight, IsWithinAsList};
-ghost use Rattle.pcache_policies.specs.Queue.{IsOnce, seen_of};
-ghost use Rattle.pcache_policies.specs.Sieve.{Sieved, entries, whole, entered, reseen_in, rest_in, accessed, empty_sieve, Admits, KeepsLimits, Admission, Increment, HasFailed};
 
-use crate::evictions::{Evictions, let_go, raised_weight};
+use crate::discipline::Discipline;
+use crate::manager;
 use crate::queue::Seen;
 use crate::ring::Ring;
 use pcache_base::error::Result;
-use pcache_base::moment::Moment;
 use pcache_base::seed::Seed;
-use pcache_evict::eviction::{CacheEntryKey, EvictionManager};
+use pcache_evict::eviction::CacheEntryKey;
 use std::alloc::Global;
 use std::hash::BuildHasher;
 use std::marker::Model;
 
-/// Entries with weights from the newest to the oldest, a hand, and limits on the sum of the weights
-/// and on the number of entries.
-///
-/// A use of an entry sets its bit, and moves nothing. Before a new entry is added, the hand makes
-/// room: it goes from the oldest entry to newer ones and round again, clears the bits that are set,
-/// and evicts the entries whose bit is clear. A contract sees the list with the hand, the limits and
-/// the totals of evictions. Each call takes a constant number of look-ups, and some for each entry
-/// that the hand passes or evicts; a bit that the hand clears was set by a use.
+/// What a contract sees of the queue: the entries from the newest to the oldest, and a hand.
 #[derive(Drop)]
-pub struct Manager<S: BuildHasher = Seed> {
-    alloc: Global,
-    limit: usize,
-    watermark: Option<usize>,
+pub struct ListWithHand;
+
+impl Model for ListWithHand {
+    ghost use Rattle.std.specs.Prelude.{[]};
+    ghost use Rattle.pcache_policies.specs.Sieve.{Sieve, sieve};
+
+    ghost Value = { Sieve };
+
+    ghost view = { λ _. sieve [] [] };
+}
+
+/// Entries from the newest to the oldest, and a hand.
+///
+/// A use of an entry sets its bit, and moves nothing. To make room, the hand goes from the oldest entry
+/// to newer ones and round again, clears the bits that are set, and chooses the entries whose bit is
+/// clear. A new entry is added as the newest; a bit that the hand clears was set by a use.
+#[derive(Drop)]
+pub struct Hand<S: BuildHasher> {
     ring: Ring<S>,
-    evicted: Evictions,
 }
 
-impl<S: BuildHasher> Model for Manager<S> {
-    ghost use Rattle.pcache_policies.specs.Ring.{shown};
-    ghost use Rattle.pcache_policies.specs.Sieve.{Sieved};
+impl<S: BuildHasher + Copy + Drop> Discipline<S> for Hand<S> {
+    ghost use Rattle.pcache_policies.specs.Ring.{shown, left_of};
+    ghost use Rattle.pcache_policies.specs.Sieve.{sieve_way};
+    ghost use Rattle.std.proofs.Common.{ap, ◌++◌};
+    ghost use Rattle.pcache_policies.specs.Sieve.{sieve};
 
-    ghost Value = { Sieved };
+    type Order = ListWithHand;
 
-    ghost view = { λ a. record {
-      sieve = shown a.ring;
-      limits = record { weight = a.limit; watermark = a.watermark };
-      evicted = record { weight = a.evicted.weight; count = a.evicted.count };
-    } };
-}
+    ghost way = { sieve_way };
 
-impl<S: BuildHasher + Copy + Drop> Manager<S> {
-    /// An empty manager whose entries weigh at most `limit` after each eviction. Its lists hash under the
-    /// seed, on which no result depends.
-    pub fn new(alloc: Global, seed: S, limit: usize) -> Result<Manager<S>>
-        ensures ok { IfOk result (λ m. m ≡ empty_sieve limit None) }
-        ensures kind { IfErr result (λ e. e ≡ OutOfMemory) }
-    {
-        Manager::new_with_watermark(alloc, seed, limit, None)
-    }
+    ghost order = { λ h. shown h.ring };
 
-    /// An empty manager whose entries weigh at most `limit` after each eviction, and number at most
-    /// `items_watermark` if that is given.
-    pub fn new_with_watermark(
-        alloc: Global,
-        seed: S,
-        limit: usize,
-        items_watermark: Option<usize>,
-    ) -> Result<Manager<S>>
-        ensures ok { IfOk result (λ m. m ≡ empty_sieve limit items_watermark) }
-        ensures kind { IfErr result (λ e. e ≡ OutOfMemory) }
-    {
-        Ok(Manager {
-            alloc,
-            limit,
-            watermark: items_watermark,
+    ghost left = { λ h. left_of h.ring };
+
+    ghost leaving = { λ h. h.ring.leaving };
+
+    ghost settled = { λ h e. ap (λ g. sieve h.ring.ahead (g ++ h.ring.passed)) e };
+
+    fn laws() {}
+
+    fn new(alloc: Global, seed: S) -> Result<Self> {
+        Ok(Hand {
             ring: Ring::new(alloc, seed)?,
-            evicted: Evictions::none(),
         })
     }
 
-    /// The sum of the entries' weights; the largest `usize` if it is larger.
-    pub fn total_size(&self) -> usize
-        ensures value { result ≡ min (weight (entries self.now.sieve)) (2 ^ 64 - 1) }
-        ensures once { IsOnce (whole self.now.sieve) }
-    {
-        usize::try_from(self.ring.weight()).unwrap_or(usize::MAX)
-    }
-
-    /// The number of entries.
-    pub fn total_items(&self) -> usize
-        ensures value { result ≡ length (whole self.now.sieve) }
-        ensures once { IsOnce (whole self.now.sieve) }
-    {
+    fn len(&self) -> usize {
         self.ring.len()
     }
 
-    /// The sum of the weights of all entries evicted so far; the largest `usize` if it is larger.
-    pub fn evicted_size(&self) -> usize
-        ensures { result ≡ self.now.evicted.weight }
-    {
-        self.evicted.weight
+    fn weight(&self) -> u128 {
+        self.ring.weight()
     }
 
-    /// The number of entries evicted so far; the largest `usize` if it is larger.
-    pub fn evicted_items(&self) -> usize
-        ensures { result ≡ self.now.evicted.count }
-    {
-        self.evicted.count
+    fn get(&self, item: &CacheEntryKey) -> Option<Seen> {
+        self.ring.get(item)
     }
 
-    /// The entries with their weights, the newest first.
-    pub fn entries(&self) -> Result<Vec<(CacheEntryKey, usize)>>
-        ensures ok { IfOk result (λ list. list.items ≡ entries self.now.sieve) }
-        ensures once { IsOnce (whole self.now.sieve) }
-        ensures kind { IfErr result (λ e. e ≡ OutOfMemory) }
-    {
-        let mut list = Vec::with_capacity(self.alloc, self.ring.len())?;
-        self.ring.copy_into(&mut list)?;
-        Ok(list)
+    fn copy_into(&self, list: &mut Vec<(CacheEntryKey, usize)>) -> Result<()> {
+        self.ring.copy_into(list)
     }
 
-    /// Whether an entry is tracked. That does not count as a use.
-    pub fn peek(&self, item: &CacheEntryKey) -> bool
-        ensures { result ≡ is_some (seen_of item.now (whole self.now.sieve)) }
-    {
-        self.ring.get(item).is_some()
+    fn set(&mut self, item: &CacheEntryKey, seen: Seen) {
+        self.ring.set(item, seen);
     }
 
-    /// Makes room for a new entry, which is then added as the newest; one that is tracked gets its
-    /// weight in place, which is a use, and then the hand goes on until the limits hold. Returns the
-    /// evicted entries, in the order in which they went; an entry above the limit goes itself, last
-    /// of all. `fresh_until` is not read.
-    pub fn admit(
-        &mut self,
-        item: CacheEntryKey,
-        size: usize,
-        _fresh_until: Moment,
-    ) -> Result<Vec<CacheEntryKey>>
-        ensures ok { IfOk result (λ out.
-            Admission (seen_of item (whole self.old.sieve)) self.old item size self.new out.items) }
-        ensures once { IsOnce (whole self.old.sieve) }
-        ensures kind { IfErr result (λ e. e ≡ OutOfMemory) }
-        ensures err { OnErr result (HasFailed self.old self.new) }
-    {
-        match self.ring.get(&item) {
-            Some(before) => self.reweigh(&item, before, Seen::used(size)),
-            None => self.admit_new(item, size),
-        }
-    }
-
-    /// Adds to the weight of an entry in place, up to `max_weight` (the largest `usize` if that is
-    /// `None`), which is no use; then the hand goes on until the limits hold. A weight never
-    /// decreases; an entry that is not tracked is added with this weight, at least 1. Does not fail
-    /// if the entry is tracked and nothing is evicted.
-    pub fn increment_weight(
-        &mut self,
-        item: &CacheEntryKey,
-        delta: usize,
-        max_weight: Option<usize>,
-    ) -> Result<Vec<CacheEntryKey>>
-        ensures ok { IfOk result (λ out. Increment (seen_of item.now (whole self.old.sieve))
-            self.old item.now delta max_weight self.new out.items) }
-        ensures within { (v : Seen)
-            → seen_of item.now (whole self.old.sieve) ≡ Some v
-            → IsWithinAsList self.old.limits (entries (reseen_in item.now
-            (record v { weight = raised delta max_weight (Some v.weight) }) self.old.sieve))
-            → IsOk result }
-        ensures once { IsOnce (whole self.old.sieve) }
-        ensures kind { IfErr result (λ e. e ≡ OutOfMemory) }
-        ensures err { OnErr result (HasFailed self.old self.new) }
-    {
-        match self.ring.get(item) {
-            Some(before) => {
-                let weight = raised_weight(Some(before.weight), delta, max_weight);
-                self.reweigh(item, before, Seen { weight, ..before })
-            }
-            None => {
-                let copy = item.copied()?;
-                self.admit_new(copy, raised_weight(None, delta, max_weight))
-            }
-        }
-    }
-
-    /// Removes an entry, if it is tracked. That is no eviction; the hand keeps its position.
-    pub fn remove(&mut self, item: &CacheEntryKey)
-        ensures { self.new ≡ record self.old { sieve = rest_in item.now self.old.sieve } }
-    {
+    fn remove(&mut self, item: &CacheEntryKey) {
         self.ring.remove(item);
     }
 
-    /// Sets the bit of an entry, or adds it as the newest with this weight. Returns whether it was
-    /// tracked. Nothing is evicted; `fresh_until` is not read. Does not fail if the entry is
-    /// tracked.
-    pub fn access(
-        &mut self,
-        item: &CacheEntryKey,
-        size: usize,
-        _fresh_until: Moment,
-    ) -> Result<bool>
-        ensures was { IfOk result (λ was. was ≡ is_some (seen_of item.now (whole self.old.sieve))) }
-        ensures ok { OnOk result (self.new
-            ≡ record self.old {
-              sieve = accessed (seen_of item.now (whole self.old.sieve)) item.now
-                  size self.old.sieve;
-            }) }
-        ensures there { IsSome (seen_of item.now (whole self.old.sieve)) → IsOk result }
-        ensures once { IsOnce (whole self.old.sieve) }
-        ensures kind { IfErr result (λ e. e ≡ OutOfMemory) }
-        ensures err { OnErr result (HasFailed self.old self.new) }
-    {
-        let Some(seen) = self.ring.get(item) else {
-            return self.add(item, size);
-        };
+    fn note_use(&mut self, item: &CacheEntryKey, seen: Seen) {
         if seen.uses == 0 {
             self.ring.set(item, Seen::used(seen.weight));
         }
-        Ok(true)
     }
 
-    // Adds a new entry.
-    fn add(&mut self, item: &CacheEntryKey, size: usize) -> Result<bool>
-        requires { seen_of item.now (whole self.old.sieve) ≡ None }
-        ensures was { IfOk result (λ was. was ≡ false) }
-        ensures ok { OnOk result (self.new
-            ≡ record self.old { sieve = entered item.now size self.old.sieve }) }
-        ensures kind { IfErr result (λ e. e ≡ OutOfMemory) }
-        ensures err { OnErr result (HasFailed self.old self.new) }
-    {
-        let copy = item.copied()?;
-        self.ring.settle()?;
-        self.ring.enter(copy, size)?;
-        Ok(false)
+    fn readmit(&mut self, item: &CacheEntryKey, _seen: Seen, size: usize) {
+        self.ring.set(item, Seen::used(size));
     }
 
-    // Makes room, and then adds a new entry; if there is no room although no entry is left, it goes
-    // itself.
-    fn admit_new(&mut self, item: CacheEntryKey, size: usize) -> Result<Vec<CacheEntryKey>>
-        requires { seen_of item (whole self.old.sieve) ≡ None }
-        ensures ok { IfOk result (λ out. Admits self.old item size self.new out.items) }
-        ensures kind { IfErr result (λ e. e ≡ OutOfMemory) }
-        ensures err { OnErr result (HasFailed self.old self.new) }
-    {
-        self.ring.len(); // for the prover: its contract says that no entry occurs twice
-        let out = self
-            .ring
-            .prepare(self.alloc, size, 1, self.limit, self.watermark)?;
-        if self.ring.has_room(size, 1, self.limit, self.watermark) {
-            self.ring.enter(item, size)?;
-            return Ok(let_go(&mut self.ring, &mut self.evicted, out));
-        }
-        let mut out = let_go(&mut self.ring, &mut self.evicted, out);
-        self.evicted.add(size as u128, 1);
-        out.push_reserved(item);
-        Ok(out)
+    fn knows(&self, _item: &CacheEntryKey) -> bool {
+        false
     }
 
-    // Sets what is known of an entry, and then moves the hand until the limits hold.
-    fn reweigh(
+    fn settle(&mut self) -> Result<()> {
+        self.ring.settle()
+    }
+
+    fn choose(
         &mut self,
-        item: &CacheEntryKey,
-        before: Seen,
-        after: Seen,
-    ) -> Result<Vec<CacheEntryKey>>
-        requires { seen_of item.now (whole self.old.sieve) ≡ Some before }
-        ensures ok { IfOk result (λ out.
-            KeepsLimits self.old (reseen_in item.now after self.old.sieve) self.new out.items) }
-        ensures within { IsWithinAsList self.old.limits
-            (entries (reseen_in item.now after self.old.sieve))
-            → IsOk result }
-        ensures kind { IfErr result (λ e. e ≡ OutOfMemory) }
-        ensures err { OnErr result (HasFailed self.old self.new) }
-    {
-        self.ring.set(item, after);
-        match self.keep_limits() {
-            Ok(out) => Ok(out),
-            Err(error) => {
-                self.ring.set(item, before);
-                Err(error)
-            }
-        }
-    }
-
-    // Moves the hand until the limits hold.
-    fn keep_limits(&mut self) -> Result<Vec<CacheEntryKey>>
-        ensures ok { IfOk result (λ out. KeepsLimits self.old self.old.sieve self.new out.items) }
-        ensures within { IsWithinAsList self.old.limits (entries self.old.sieve) → IsOk result }
-        ensures kind { IfErr result (λ e. e ≡ OutOfMemory) }
-        ensures err { OnErr result (HasFailed self.old self.new) }
-    {
-        self.ring.len(); // for the prover: its contract says that no entry occurs twice
-        if self.is_within() {
-            self.evicted.add(0, 0); // for the prover: its contract says that the totals stop at the largest number
-            return Ok(Vec::new(self.alloc));
-        }
-        let out = self
-            .ring
-            .prepare(self.alloc, 0, 0, self.limit, self.watermark)?;
-        Ok(let_go(&mut self.ring, &mut self.evicted, out))
-    }
-
-    // Whether the limits hold.
-    fn is_within(&self) -> bool
-        ensures yes { result ≡ true → IsWithinAsList self.now.limits (entries self.now.sieve) }
-        ensures not { result ≡ false → ¬ IsWithinAsList self.now.limits (entries self.now.sieve) }
-    {
-        self.ring.weight() <= self.limit as u128
-            && self.watermark.is_none_or(|most| self.ring.len() <= most)
-    }
-}
-
-impl<S: BuildHasher + Copy + Drop> EvictionManager for Manager<S> {
-    ghost use Rattle.pcache_evict.specs.Policy.{rules_of};
-    ghost use Rattle.pcache_evict.specs.Listed.{map_of};
-    ghost use Rattle.pcache_policies.specs.Sieve.{entries, sieve_policy, sieve_shown};
-
-    ghost tracked = { λ m. map_of (entries m.sieve) };
-
-    ghost limits = { λ m. m.limits };
-
-    ghost evicted = { λ m. m.evicted };
-
-    ghost rules = { λ _. rules_of sieve_shown sieve_policy };
-
-    ghost shown = { λ m. sieve_shown m.sieve };
-
-    fn total_size(&self) -> usize {
-        Manager::total_size(self)
-    }
-
-    fn total_items(&self) -> usize {
-        Manager::total_items(self)
-    }
-
-    fn evicted_size(&self) -> usize {
-        Manager::evicted_size(self)
-    }
-
-    fn evicted_items(&self) -> usize {
-        Manager::evicted_items(self)
-    }
-
-    fn entries(&self) -> Result<Vec<(CacheEntryKey, usize)>> {
-        let all = Manager::entries(self)?;
-        Ok(all)
-    }
-
-    #[tactic(auto, using(crate::proofs::Rules::same_rules))]
-    fn admit(
-        &mut self,
-        item: CacheEntryKey,
+        alloc: Global,
         size: usize,
-        fresh_until: Moment,
+        count: usize,
+        limit: usize,
+        watermark: Option<usize>,
     ) -> Result<Vec<CacheEntryKey>> {
-        let out = Manager::admit(self, item, size, fresh_until)?;
+        self.ring.len(); // for the prover: its contract says that no entry occurs twice
+        let out = self.ring.prepare(alloc, size, count, limit, watermark)?;
         Ok(out)
     }
 
-    #[tactic(auto, using(crate::proofs::Rules::same_rules))]
-    fn increment_weight(
-        &mut self,
-        item: &CacheEntryKey,
-        delta: usize,
-        max_weight: Option<usize>,
-    ) -> Result<Vec<CacheEntryKey>> {
-        let out = Manager::increment_weight(self, item, delta, max_weight)?;
-        Ok(out)
+    fn has_room(&self, size: usize, limit: usize, watermark: Option<usize>) -> bool {
+        self.ring.has_room(size, 1, limit, watermark)
     }
 
-    #[tactic(auto, using(crate::proofs::Rules::same_rules))]
-    fn remove(&mut self, item: &CacheEntryKey) {
-        Manager::remove(self, item);
+    fn enter(&mut self, item: CacheEntryKey, size: usize, _known: bool) -> Result<()> {
+        self.ring.enter(item, size)
     }
 
-    #[tactic(auto, using(crate::proofs::Rules::same_rules))]
-    fn access(&mut self, item: &CacheEntryKey, size: usize, fresh_until: Moment) -> Result<bool> {
-        let was = Manager::access(self, item, size, fresh_until)?;
-        Ok(was)
+    fn chosen(&self) -> (u128, usize) {
+        self.ring.chosen()
     }
 
-    fn peek(&self, item: &CacheEntryKey) -> bool {
-        Manager::peek(self, item)
+    fn drain(&mut self, out: &mut Vec<CacheEntryKey>) {
+        self.ring.drain(out);
     }
 }
+
+/// A list with a hand that passes entries that were used, and evicts those that were not.
+pub type Manager<S = Seed> = manager::Manager<Hand<S>, S>;

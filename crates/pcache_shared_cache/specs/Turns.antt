@@ -1,4 +1,5 @@
--- Calls that are made again while there is nothing yet (own).
+-- Calls that are made again while there is nothing yet, each said by itself: of the last one alone the others, which count as
+-- waiting, would be left out (own).
 use Rattle.std.specs.Prelude.{◌≡◌, ◌⊎◌, ◌<◌, ℕ, zero, suc, List, Ok, Option, Result}
 use Rattle.pcache_base.specs.declared.error.ErrorType.{ErrorType}
 use Rattle.pcache_base.specs.declared.poll.Poll.{Poll}

@@ -35,6 +35,7 @@ impl<M: EvictionManager, K: Mark, const N: usize> SharedCache<M, K, N> {
         ensures again { RepeatsResult put.old.put.stage result }
         ensures place { put.new.place ≡ put.old.place }
     {
+        // What was read goes from here to the second call as a value, and not as a field of the put.
         let read = put.read_piece(piece, now);
         let mut guard = self.part(put.place()).lock(rt);
         let part = &mut *guard;

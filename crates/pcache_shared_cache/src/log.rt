@@ -1,4 +1,8 @@
 //! The log of a part, and what was seen of it.
+//!
+//! Of what a lock lends only the type is known, so what a caller knows of a part is carried by tokens of no bytes: under the lock,
+//! beside the cache, lies the one keeper of the log, and a request has what was seen of it. The log has whole states and not notes: a
+//! state has its own two lists, and each of its laws holds by `Cache::headline`, so no second vocabulary is needed.
 use crate::mark::Mark;
 use crate::portion::Portion;
 use pcache_cache::Cache;

@@ -49,7 +49,8 @@ impl<M: EvictionManager, K: Mark, const N: usize> SharedCache<M, K, N> {
         let Some(found) = self.complete_body(rt, request) else {
             return self.look_up(rt, request, now);
         };
-        // The part is not locked while the meta is read: most of a look-up's time goes there.
+        // The part is not locked while the meta is read: most of a look-up's time goes there. Under the lock only shares are taken of
+        // what the store keeps. A body that a variant hides is looked up again, since that look-up asks for the key's lock.
         let (meta, hit) = found.read(self.alloc())?;
         if request.request.cache.hides(&meta) {
             hit.let_go_alone();
@@ -156,6 +157,7 @@ impl<M: EvictionManager, K: Mark, const N: usize> SharedCache<M, K, N> {
         ensures place { request.new.place ≡ request.old.place }
     {
         let lock = self.part(request.place());
+        // What needs no part takes no lock. What such a call returns is true of each state of the part, so of the last one seen.
         if request.request.cache.reads_alone() {
             request.sight.headline(); // for the prover
             return request.request.cache.read_body_alone();

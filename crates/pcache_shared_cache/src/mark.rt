@@ -7,6 +7,9 @@ use std::marker::Brand;
 ///
 /// Where a mark names a place, the contract of each call says how the part went on from what the caller had seen of it. Where it
 /// names none, it says only what the part did in this call.
+///
+/// The names are fixed by a type since a keeper's name is no value that a lock could lend. A handle that has no type parameter, as
+/// one for C, cannot carry a mark that `over_parts` picked, and takes `Unnamed`.
 pub trait Mark {
     ghost use Rattle.std.specs.Prelude.{ℕ, Option};
 

@@ -16,7 +16,9 @@ use std::time::Duration;
 // sleeping thread takes far longer. The lock hands itself over to a sleeper, so once a thread sleeps the others queue behind it.
 const TRIES: u32 = 300;
 
-// One part: a cache, and the log of its states, which ends with the state that it has.
+// One part: a cache, and the log of its states, which ends with the state that it has. The part is a `Cache` and no type of its own,
+// since of what a lock lends only the type is known: so what is proved of each `Cache` is known of each part, and nothing is proved
+// twice.
 #[derive(Drop)]
 pub(crate) struct Part<M: EvictionManager, K: Mark> {
     pub(crate) cache: Cache<Portion<M>, K>,
@@ -155,10 +157,10 @@ impl<M: EvictionManager, K: Mark> PartLock<M, K> {
         self.part.lock(rt)
     }
 
-    // The part's manager, if it has the limits that stand beside the lock (see the type): it has.
-    pub(crate) fn into_portion(self) -> Option<Portion<M>>
-        ensures { IfSome result (λ portion. OfPart self.first.limits (λ p.
-            managed_in M.tracked M.evicted portion ≡ managed p)) }
+    // The part's manager. It has the limits that stand beside the lock (see the type), so that this does not wait.
+    pub(crate) fn into_portion<R: Wait>(self, rt: &R) -> Portion<M>
+        ensures { OfPart self.first.limits (λ p.
+            managed_in M.tracked M.evicted result ≡ managed p) }
     {
         let PartLock {
             limit,
@@ -170,10 +172,11 @@ impl<M: EvictionManager, K: Mark> PartLock<M, K> {
         cache.is_kept();
         let portion = cache.into_manager();
         if portion.limit() == limit && portion.watermark() == watermark {
-            Some(portion)
-        } else {
-            None
+            return portion;
         }
+        // Never reached. As `lock`, it would not return with a part that has other limits.
+        for _ in rt.forever() {}
+        unreachable!()
     }
 
     // The lengths of the complete bodies, added up.

@@ -11,7 +11,8 @@ use pcache_store::memory::MemCache;
 use std::alloc::Global;
 use std::marker::Model;
 
-/// What the end of a request gave back.
+/// What the end of a request gave back: of a request that is gone nothing can be asked any more, so what it has seen of its part's
+/// last state is handed to the caller.
 #[derive(Drop)]
 pub struct Ended<K: Mark> {
     /// The lock that was let go, if the request held one.
@@ -21,7 +22,8 @@ pub struct Ended<K: Mark> {
 }
 
 /// A request of the cache in `N` parts with the mark `K`. It is made with its key, which determines its part, and keeps both: no
-/// call sets another key, and a variance does not change the part. It knows what it has seen of the part, which has no bytes: all
+/// call sets another key, and a variance does not change the part: the lock, the write and the reader that it holds are of that
+/// part. Therefore its calls are methods here, and not those of a public `HttpCache` as in `CacheRequest`. It knows what it has seen of the part, which has no bytes: all
 /// states that the part had up to the request's last call. It must be spent by `SharedCache::end`.
 pub struct SharedRequest<K: Mark, const N: usize> {
     pub(crate) sight: Sight<K>,

@@ -12,7 +12,7 @@ use crate::portion::Portion;
 use crate::put::SharedPut;
 use crate::request::SharedRequest;
 use crate::split::place_of;
-use pcache_base::error::{Error, ErrorType, Result};
+use pcache_base::error::Result;
 use pcache_base::key::CacheKey;
 use pcache_base::seed::Seed;
 use pcache_evict::eviction::EvictionManager;
@@ -24,7 +24,8 @@ use std::time::Duration;
 
 /// A cache in `N` parts, each a `Cache` behind a lock of its own. A key is in the part of its primary hash. Each part has at all
 /// times the invariant of a `Cache`, with the part's own limits, against which an entry counts with all that is kept for it
-/// (`Weighing::Entries`). A contract sees the states in which the parts began.
+/// (`Weighing::Entries`). A contract sees the states in which the parts began, and not their limits alone, so that `new` can say
+/// what the entries of the managers are, and at which age permits get too old.
 ///
 /// `K` is a mark, a type of the caller's that nothing else uses: a request of one cache cannot be used with the parts
 /// of another.
@@ -52,7 +53,7 @@ impl<M: EvictionManager, K: Mark, const N: usize> Model for SharedCache<M, K, N>
 
 impl<M: EvictionManager, K: Mark, const N: usize> SharedCache<M, K, N> {
     ghost use Rattle.std.specs.Prelude.{◌≡◌, ◌<◌, ◌≤◌, ℕ, [], true, false, None, Some, IfErr, IfOk, IfSome, length, map, slice_get, sum_by};
-    ghost use Rattle.pcache_base.specs.declared.error.ErrorType.TheVariants.{InternalError, OutOfMemory};
+    ghost use Rattle.pcache_base.specs.declared.error.ErrorType.TheVariants.{OutOfMemory};
     ghost use Rattle.pcache_put.specs.Progress.{AtHead};
     ghost use Rattle.pcache_put_ctx.specs.State.{HasTaken, InHead};
     ghost use Rattle.pcache_request.specs.Requests.{enabled_with, new_request, with_key};
@@ -101,14 +102,13 @@ impl<M: EvictionManager, K: Mark, const N: usize> SharedCache<M, K, N> {
         Ok(SharedCache { alloc, parts, room })
     }
 
-    /// Takes the cache apart, and hands out the managers of the parts, by place, each with its limits: to be saved, or for `new`. The
-    /// bodies are gone. It takes no memory and does not wait. It would fail as an internal error if a part's manager had not its
-    /// part's limits; it has, but what lies behind a lock no contract knows.
-    pub fn into_portions(self) -> Result<Vec<Portion<M>>>
-        ensures portions { IfOk result (λ v. InParts (limits_in self) (λ ps.
-            map (managed_in M.tracked M.evicted) v.items ≡ map managed ps)) }
-        ensures limits { IfOk result (λ v. map (λ p. p.limits) v.items ≡ limits_in self) }
-        ensures kind { IfErr result (λ e. e ≡ InternalError) }
+    /// Takes the cache apart, and hands out the managers of the parts, by place, each with its part's limits: to be saved, or for
+    /// `new`. The bodies are gone. It takes no memory. To lend them while threads go on, each would have to be lent under its lock
+    /// to the caller's code.
+    pub fn into_portions<R: Wait>(self, rt: &R) -> Vec<Portion<M>>
+        ensures portions { InParts (limits_in self) (λ ps.
+            map (managed_in M.tracked M.evicted) result.items ≡ map managed ps) }
+        ensures limits { map (λ p. p.limits) result.items ≡ limits_in self }
     {
         let SharedCache {
             alloc: _,
@@ -116,12 +116,9 @@ impl<M: EvictionManager, K: Mark, const N: usize> SharedCache<M, K, N> {
             room: mut portions,
         } = self;
         for part in parts {
-            let Some(portion) = part.into_portion() else {
-                return Err(Error::new(ErrorType::InternalError));
-            };
-            portions.push_reserved(portion);
+            portions.push_reserved(part.into_portion(rt));
         }
-        Ok(portions)
+        portions
     }
 
     /// The allocator that the cache was made with, for the keys of its callers.

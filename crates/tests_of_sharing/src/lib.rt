@@ -1,20 +1,31 @@
 #![tactic(auto)]
-//! Tests of a cache in parts over real threads: whatever the schedule, each thread is told the same. What a test waits for is
-//! counted, so that each ends by itself.
+//! Tests of a cache in parts, which threads call side by side. What a test waits for is counted, so that each ends by itself.
 //!
-//! - `waits`, `stale`, `bodies`, `clock`: rows that four threads play, each row in its turn
+//! - `alone`, `ends`, `refills`, `many`, `gates`; `requests`, `puts`: parts by themselves and by a few threads, and their calls
+//! - `waits`, `stale`, `bodies`, `clock`: rows that four threads play, each row in its turn: whatever the schedule, each thread
+//!   is told the same
 //! - `play`, `rows`; `looks`, `fills`, `permits`, `renewals`: what plays them, and their calls
 //! - `purges`: eight threads that fill, read and purge a thousand keys
 //! - `pushes`: puts beside requests
 //! - `seats`: what all of them share
 #[cfg(test)]
+mod alone;
+#[cfg(test)]
 mod bodies;
 #[cfg(test)]
 mod clock;
 #[cfg(test)]
+mod ends;
+#[cfg(test)]
 mod fills;
 #[cfg(test)]
+mod gates;
+#[cfg(test)]
+mod lifetimes;
+#[cfg(test)]
 mod looks;
+#[cfg(test)]
+mod many;
 #[cfg(test)]
 mod permits;
 #[cfg(test)]
@@ -24,7 +35,13 @@ mod purges;
 #[cfg(test)]
 mod pushes;
 #[cfg(test)]
+mod puts;
+#[cfg(test)]
+mod refills;
+#[cfg(test)]
 mod renewals;
+#[cfg(test)]
+mod requests;
 #[cfg(test)]
 mod rows;
 #[cfg(test)]

@@ -1,4 +1,5 @@
 //! Keys of entries, owned and borrowed.
+use crate::rows::Told;
 use pcache_base::error::Result;
 use pcache_base::key::{CacheKey, CompactCacheKey};
 use pcache_evict::eviction::{CacheEntryId, CacheEntryKey, CacheEntryKeyRef};
@@ -107,10 +108,9 @@ fn stand_before(it: &Entries) -> bool {
 }
 
 fn prints_as<T: Display>(alloc: Global, it: &T, wanted: &str) -> bool {
-    match format!(in alloc; "{it}") {
-        Ok(text) => text.as_str() == wanted,
-        Err(_refused) => false,
-    }
+    let mut told = Told::new(alloc);
+    told.shown(it);
+    told.is(wanted)
 }
 
 fn print_their_numbers(alloc: Global, it: &Entries) -> bool {

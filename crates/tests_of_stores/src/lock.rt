@@ -1,4 +1,7 @@
-use pcache_base::error::ErrorType;
+//! A table of locks, call by call: a row names a slot, which holds a permit or a read lock.
+use crate::memory::key_of;
+use crate::rows::{Desk, Told, number, play, word};
+use pcache_base::error::Result;
 use pcache_base::fills::{UnusableFill, UnusableFills};
 use pcache_base::key::CacheKey;
 use pcache_base::moment::Moment;
@@ -7,243 +10,15 @@ use pcache_base::reason::NoCacheReason;
 use pcache_lock::lock::cache_lock::CacheLock;
 use pcache_lock::lock::lock_core::LockCore;
 use pcache_lock::lock::outcome::{LockWaitOutcome, WaitOutcome};
-use pcache_lock::lock::permit::{Locked, ReadLock, WritePermit};
+use pcache_lock::lock::permit::{LockStub, Locked, WritePermit};
 use pcache_lock::lock::status::LockStatus;
 use pcache_lock::lock::{CacheKeyLock, CacheKeyLockImpl};
 use std::alloc::Global;
 use std::process::Abort;
-use std::test::Fail;
 use std::time::Duration;
-
-fn key(alloc: Global, name: u8) -> Result<CacheKey, Fail> {
-    Ok(CacheKey::new(vec![in alloc; name]?, String::new(alloc)))
-}
 
 fn at(secs: u64) -> Moment {
     Moment::from_secs(secs)
-}
-
-fn holds(rt: &impl Abort, fact: bool) {
-    assert!(rt; fact);
-}
-
-fn ask<R: Abort>(
-    rt: &R,
-    lock: &mut CacheLock,
-    alloc: Global,
-    key: &CacheKey,
-    now: Moment,
-) -> Locked {
-    match lock.lock(alloc, key, false, now) {
-        Ok(locked) => locked,
-        Err(_) => panic!(rt; "refused"),
-    }
-}
-
-fn permit<R: Abort>(
-    rt: &R,
-    lock: &mut CacheLock,
-    alloc: Global,
-    key: &CacheKey,
-    now: Moment,
-) -> WritePermit {
-    match ask(rt, lock, alloc, key, now) {
-        Locked::Write(permit) => permit,
-        Locked::Read(read) => {
-            lock.drop_lock(Locked::Read(read));
-            panic!(rt; "a read lock")
-        }
-    }
-}
-
-fn reader<R: Abort>(
-    rt: &R,
-    lock: &mut CacheLock,
-    alloc: Global,
-    key: &CacheKey,
-    now: Moment,
-) -> ReadLock {
-    match ask(rt, lock, alloc, key, now) {
-        Locked::Read(read) => read,
-        Locked::Write(permit) => {
-            lock.drop_lock(Locked::Write(permit));
-            panic!(rt; "a permit")
-        }
-    }
-}
-
-fn poll<R: Abort>(
-    rt: &R,
-    lock: &mut CacheLock,
-    alloc: Global,
-    read: &mut ReadLock,
-    fills: Option<&UnusableFills>,
-    now: Moment,
-) -> Poll<WaitOutcome> {
-    match lock.poll_wait(alloc, read, fills, now) {
-        Ok(answer) => answer,
-        Err(_) => panic!(rt; "refused"),
-    }
-}
-
-#[test]
-fn the_second_reads_until_the_first_releases(rt: HostRuntime) -> Result<(), Fail> {
-    let alloc = rt.alloc();
-    let mut lock = CacheLock::new(alloc, Duration::from_secs(10));
-    second_reads(&rt, alloc, &mut lock, &key(alloc, 1)?, &key(alloc, 2)?);
-    Ok(())
-}
-
-fn second_reads(rt: &impl Abort, alloc: Global, lock: &mut CacheLock, a: &CacheKey, b: &CacheKey) {
-    let first = permit(rt, lock, alloc, a, at(1));
-    let other = permit(rt, lock, alloc, b, at(1));
-    let mut read = reader(rt, lock, alloc, a, at(2));
-    second_waits(rt, alloc, lock, &first, &other, &mut read);
-    lock.release(a, first, LockStatus::Done);
-    second_is_released(rt, alloc, lock, &mut read);
-    lock.drop_lock(Locked::Read(read));
-    lock.drop_lock(Locked::Write(other));
-    // Nobody names them any more.
-    assert!(rt; lock.core(0).is_none());
-    assert!(rt; lock.core(1).is_none());
-    assert!(rt; lock.stub(b).is_none());
-}
-
-fn second_waits(
-    rt: &impl Abort,
-    alloc: Global,
-    lock: &mut CacheLock,
-    first: &WritePermit,
-    other: &WritePermit,
-    read: &mut ReadLock,
-) {
-    assert!(rt; first.number() == 0 && other.number() == 1 && read.number() == 0);
-    assert!(rt; !first.stale_writer() && !read.was_polled());
-    assert!(rt; poll(rt, lock, alloc, read, None, at(3)) == Poll::Pending);
-    assert!(rt; read.was_polled());
-    assert!(rt; lock.lock_status(read, at(3)) == LockStatus::Waiting);
-}
-
-fn second_is_released(rt: &impl Abort, alloc: Global, lock: &mut CacheLock, read: &mut ReadLock) {
-    assert!(rt; poll(rt, lock, alloc, read, None, at(4)) == Poll::Ready(WaitOutcome::Released));
-    assert!(rt; lock.lock_status(read, at(4)) == LockStatus::Done);
-    assert!(rt; lock.core(0).is_some());
-}
-
-#[test]
-fn a_late_release_leaves_the_newer_permit(rt: HostRuntime) -> Result<(), Fail> {
-    let alloc = rt.alloc();
-    releases_late(
-        &rt,
-        alloc,
-        &mut CacheLock::new(alloc, Duration::from_secs(10)),
-        &key(alloc, 1)?,
-        &CacheKey::new(Vec::new(alloc), String::new(alloc)),
-    );
-    Ok(())
-}
-
-fn releases_late(
-    rt: &impl Abort,
-    alloc: Global,
-    lock: &mut CacheLock,
-    a: &CacheKey,
-    empty: &CacheKey,
-) {
-    let first = permit(rt, lock, alloc, a, at(0));
-    let mut read = reader(rt, lock, alloc, a, at(1));
-    holds(
-        rt,
-        poll(rt, lock, alloc, &mut read, None, at(10)) == Poll::Ready(WaitOutcome::AgeTimeout),
-    );
-    let second = permit(rt, lock, alloc, a, at(11));
-    lock.release(empty, first, LockStatus::Done);
-    holds(
-        rt,
-        lock.lock_status(&read, at(11)) == LockStatus::AgeTimeout,
-    );
-    let third = reader(rt, lock, alloc, a, at(12));
-    holds(rt, second.number() == 1 && third.number() == 1);
-    lock.drop_lock(Locked::Read(third));
-    lock.drop_lock(Locked::Read(read));
-    lock.release(empty, second, LockStatus::GiveUp);
-    assert!(rt; lock.core(0).is_none() && lock.core(1).is_none());
-}
-
-#[test]
-fn a_dropped_permit_dangles(rt: HostRuntime) -> Result<(), Fail> {
-    let alloc = rt.alloc();
-    drops_the_permit(
-        &rt,
-        alloc,
-        &mut CacheLock::new(alloc, Duration::from_secs(10)),
-        &key(alloc, 1)?,
-    );
-    Ok(())
-}
-
-fn drops_the_permit(rt: &impl Abort, alloc: Global, lock: &mut CacheLock, a: &CacheKey) {
-    let first = permit(rt, lock, alloc, a, at(0));
-    let mut read = reader(rt, lock, alloc, a, at(1));
-    lock.drop_lock(Locked::Write(first));
-    holds(
-        rt,
-        read.wait(alloc, lock, at(1)) == Poll::Ready(WaitOutcome::Released),
-    );
-    holds(rt, read.lock_status(lock, at(1)) == LockStatus::Dangling);
-    holds(
-        rt,
-        !read.locked(lock) && !read.expired(lock, at(9)) && read.expired(lock, at(10)),
-    );
-    let second = permit(rt, lock, alloc, a, at(2));
-    holds(rt, second.number() == 1);
-    lock.drop_lock(Locked::Read(read));
-    lock.release(a, second, LockStatus::TransientError);
-}
-
-#[test]
-fn moments_that_go_back_age_nothing(rt: HostRuntime) -> Result<(), Fail> {
-    let alloc = rt.alloc();
-    goes_back(
-        &rt,
-        alloc,
-        &mut CacheLock::new(alloc, Duration::from_secs(10)),
-        &key(alloc, 1)?,
-    );
-    Ok(())
-}
-
-fn goes_back(rt: &impl Abort, alloc: Global, lock: &mut CacheLock, a: &CacheKey) {
-    let first = permit(rt, lock, alloc, a, at(100));
-    let mut read = reader(rt, lock, alloc, a, at(1));
-    holds(
-        rt,
-        poll(rt, lock, alloc, &mut read, None, at(1)) == Poll::Pending,
-    );
-    holds(
-        rt,
-        poll(rt, lock, alloc, &mut read, None, at(109)) == Poll::Pending,
-    );
-    holds(
-        rt,
-        poll(rt, lock, alloc, &mut read, None, at(110)) == Poll::Ready(WaitOutcome::AgeTimeout),
-    );
-    // Once it is too old it stays so.
-    holds(
-        rt,
-        poll(rt, lock, alloc, &mut read, None, at(1)) == Poll::Ready(WaitOutcome::AgeTimeout),
-    );
-    lock.drop_lock(Locked::Read(read));
-    lock.drop_lock(Locked::Write(first));
-}
-
-#[test]
-fn a_reader_is_told_what_it_cannot_use(rt: HostRuntime) -> Result<(), Fail> {
-    let alloc = rt.alloc();
-    let fills = UnusableFills::new(vec![in alloc; SEVEN, NINE]?);
-    let mut lock = CacheLock::new(alloc, Duration::from_secs(10));
-    tells_readers(&rt, alloc, &mut lock, &key(alloc, 1)?, &fills);
-    Ok(())
 }
 
 const SEVEN: UnusableFill = UnusableFill {
@@ -256,189 +31,629 @@ const NINE: UnusableFill = UnusableFill {
     reason: "nine",
 };
 
-fn tells_readers(
-    rt: &impl Abort,
-    alloc: Global,
-    lock: &mut CacheLock,
-    a: &CacheKey,
-    fills: &UnusableFills,
-) {
-    let first = permit(rt, lock, alloc, a, at(0));
-    let mut early = reader(rt, lock, alloc, a, at(0));
-    let mut late = reader(rt, lock, alloc, a, at(0));
-    holds(
-        rt,
-        poll(rt, lock, alloc, &mut early, Some(fills), at(1)) == Poll::Pending,
-    );
-    holds(rt, first.publish(alloc, lock, &[9, 7]).is_ok());
-    holds(rt, lock.publish(alloc, &first, &[]).is_ok());
-    // It was told by the publication that was current in between, and by the first fill of its
-    // list.
-    holds(
-        rt,
-        poll(rt, lock, alloc, &mut early, None, at(1))
-            == Poll::Ready(WaitOutcome::Abandoned(SEVEN)),
-    );
-    holds(
-        rt,
-        poll(rt, lock, alloc, &mut late, Some(fills), at(1)) == Poll::Pending,
-    );
-    holds(rt, lock.publish(alloc, &first, &[8, 9]).is_ok());
-    let told = match late.wait_unless_published(alloc, lock, fills, at(2)) {
-        Ok(answer) => answer == Poll::Ready(WaitOutcome::Abandoned(NINE)),
-        Err(_) => false,
-    };
-    holds(rt, told);
-    lock.release(a, first, LockStatus::Done);
-    holds(
-        rt,
-        poll(rt, lock, alloc, &mut early, None, at(1)) == Poll::Ready(WaitOutcome::Released),
-    );
-    lock.drop_lock(Locked::Read(early));
-    lock.drop_lock(Locked::Read(late));
+fn seven_and_nine(alloc: Global) -> Result<UnusableFills> {
+    Ok(UnusableFills::new(vec![in alloc; SEVEN, NINE]?))
 }
 
-#[test]
-fn the_last_number_is_given_once(rt: HostRuntime) -> Result<(), Fail> {
-    let alloc = rt.alloc();
-    gives_the_last_number(
-        &rt,
-        alloc,
-        &mut CacheLock::starting_at(alloc, Duration::from_secs(10), 18446744073709551615),
-        &key(alloc, 1)?,
-        &key(alloc, 2)?,
-    );
-    Ok(())
+// Two keys and the empty one, and the fills that some readers cannot use.
+#[derive(Drop)]
+struct Parts {
+    alloc: Global,
+    a: CacheKey,
+    b: CacheKey,
+    empty: CacheKey,
+    fills: UnusableFills,
 }
 
-fn gives_the_last_number(
-    rt: &impl Abort,
-    alloc: Global,
+impl Parts {
+    fn new(alloc: Global) -> Result<Parts> {
+        let a = key_of(alloc, "a")?;
+        let b = key_of(alloc, "b")?;
+        let fills = seven_and_nine(alloc)?;
+        let empty = CacheKey::new(Vec::new(alloc), String::new(alloc));
+        Ok(Parts {
+            alloc,
+            a,
+            b,
+            empty,
+            fills,
+        })
+    }
+
+    fn key(&self, name: &str) -> &CacheKey {
+        match name {
+            "a" => &self.a,
+            "b" => &self.b,
+            _ => &self.empty,
+        }
+    }
+}
+
+type Slot = Option<Locked>;
+
+// What is held, and the table of locks.
+struct Hands {
+    lock: Box<CacheLock>,
+    parts: Parts,
+    one: Slot,
+    two: Slot,
+    three: Slot,
+    four: Slot,
+}
+
+impl Hands {
+    fn new(lock: Box<CacheLock>, parts: Parts) -> Hands {
+        Hands {
+            lock,
+            parts,
+            one: None,
+            two: None,
+            three: None,
+            four: None,
+        }
+    }
+
+    fn at(&mut self, number: u64) -> (&Parts, &mut CacheLock, &mut Slot) {
+        let lock = &mut *self.lock;
+        match number {
+            1 => (&self.parts, lock, &mut self.one),
+            2 => (&self.parts, lock, &mut self.two),
+            3 => (&self.parts, lock, &mut self.three),
+            _ => (&self.parts, lock, &mut self.four),
+        }
+    }
+
+    fn end(self) {
+        let Hands {
+            mut lock,
+            parts: _parts,
+            one,
+            two,
+            three,
+            four,
+        } = self;
+        let_go(&mut *lock, one);
+        let_go(&mut *lock, two);
+        let_go(&mut *lock, three);
+        let_go(&mut *lock, four);
+    }
+}
+
+fn let_go(lock: &mut CacheLock, held: Slot) -> bool {
+    match held {
+        Some(held) => {
+            lock.drop_lock(held);
+            true
+        }
+        None => false,
+    }
+}
+
+impl Desk for Hands {
+    fn tell(&mut self, call: &'static str, told: &mut Told) {
+        match word(call, 0) {
+            "core" => told.yes_or_no(self.lock.core(number(call, 1)).is_some()),
+            "stub" => told.yes_or_no(self.lock.stub(self.parts.key(word(call, 1))).is_some()),
+            "makes" => make(self, call, told),
+            _ => {
+                let (parts, lock, slot) = self.at(number(call, 0));
+                tell_of_slot(parts, lock, slot, call, told);
+            }
+        }
+    }
+}
+
+fn tell_of_slot(
+    parts: &Parts,
     lock: &mut CacheLock,
-    a: &CacheKey,
-    b: &CacheKey,
+    slot: &mut Slot,
+    call: &'static str,
+    told: &mut Told,
 ) {
-    let last = permit(rt, lock, alloc, a, at(0));
-    holds(rt, last.number() == 18446744073709551615);
-    let read = reader(rt, lock, alloc, a, at(0));
-    let refused = match lock.lock(alloc, b, false, at(0)) {
-        Ok(locked) => {
-            lock.drop_lock(locked);
+    match word(call, 1) {
+        "asks" => ask(parts, lock, slot, call, told),
+        "drops" => done(let_go(lock, slot.take()), told),
+        "releases" => done(release(parts, lock, slot, call), told),
+        "unlocks" => done(unlock(lock, slot, status(word(call, 2))), told),
+        "publishes" => told.say(publish(parts, lock, slot, tokens(word(call, 2)))),
+        "tells" => told.say(publish_by_table(parts, lock, slot, tokens(word(call, 2)))),
+        _ => tell_of_held(parts, lock, slot, call, told),
+    }
+}
+
+fn tell_of_held(
+    parts: &Parts,
+    lock: &mut CacheLock,
+    slot: &mut Slot,
+    call: &'static str,
+    told: &mut Told,
+) {
+    let now = at(number(call, 2));
+    match word(call, 1) {
+        "polls" => poll(parts, lock, slot, None, now, told),
+        "polls-without" => poll(parts, lock, slot, Some(&parts.fills), now, told),
+        "waits" => wait(parts, lock, slot, now, told),
+        "waits-without" => wait_without(parts, lock, slot, now, told),
+        "was-polled" => told.yes_or_no(was_polled(slot)),
+        "is-stale" => told.yes_or_no(is_stale(slot)),
+        "is-locked" => told.yes_or_no(is_locked(lock, slot)),
+        "is-expired" => told.yes_or_no(is_expired(lock, slot, now)),
+        "status" => told.say(status_of(lock, slot, now)),
+        "own-status" => told.say(own_status(lock, slot, now)),
+        _ => told.say("no such call"),
+    }
+}
+
+fn done(is_done: bool, told: &mut Told) {
+    told.say(if is_done { "ok" } else { "wrong" });
+}
+
+fn status(word: &str) -> LockStatus {
+    match word {
+        "Done" => LockStatus::Done,
+        "GiveUp" => LockStatus::GiveUp,
+        _ => LockStatus::TransientError,
+    }
+}
+
+// Asks for a lock of a key, at a second.
+fn ask(parts: &Parts, lock: &mut CacheLock, slot: &mut Slot, call: &'static str, told: &mut Told) {
+    let key = parts.key(word(call, 2));
+    let given = lock.lock(parts.alloc, key, false, at(number(call, 3)));
+    keep(lock, slot, given, told);
+}
+
+// Keeps what was given, and writes which lock it is.
+fn keep(lock: &mut CacheLock, slot: &mut Slot, given: Result<Locked>, told: &mut Told) {
+    match given {
+        Ok(given) => {
+            told.say(if given.is_write() { "permit " } else { "read " });
+            told.number(given.number());
+            let_go(lock, slot.replace(given));
+        }
+        Err(refused) => told.refused(&refused),
+    }
+}
+
+// A permit under no key, held for so many seconds at most, in the first slot, and a read lock on it in the second.
+fn make(hands: &mut Hands, call: &'static str, told: &mut Told) {
+    let age = Duration::from_secs(number(call, 1));
+    let is_stale = word(call, 2) == "stale";
+    let made = hands
+        .lock
+        .new_permit(hands.parts.alloc, age, is_stale, at(0));
+    match made {
+        Ok((permit, stub)) => {
+            told.say("stub ");
+            told.number(stub.number());
+            keep_both(hands, permit, stub);
+        }
+        Err(refused) => told.refused(&refused),
+    }
+}
+
+fn keep_both(hands: &mut Hands, permit: WritePermit, stub: LockStub) {
+    let read = stub.read_lock(&mut *hands.lock);
+    let_go(&mut *hands.lock, hands.one.replace(Locked::Write(permit)));
+    let_go(&mut *hands.lock, hands.two.replace(Locked::Read(read)));
+}
+
+// Spends a permit, by a key and with a status.
+fn release(parts: &Parts, lock: &mut CacheLock, slot: &mut Slot, call: &'static str) -> bool {
+    let reason = status(word(call, 3));
+    match slot.take() {
+        Some(Locked::Write(permit)) if reason.is_reason() => {
+            lock.release(parts.key(word(call, 2)), permit, reason);
+            true
+        }
+        held => {
+            let_go(lock, held);
             false
         }
-        Err(e) => e.etype() == ErrorType::NumbersExhausted,
-    };
-    holds(rt, refused && lock.stub(b).is_none());
-    lock.drop_lock(Locked::Read(read));
-    lock.release(a, last, LockStatus::Done);
-    let refused = match lock.new_permit(alloc, Duration::from_secs(1), false, at(0)) {
-        Ok((permit, _stub)) => {
-            lock.drop_lock(Locked::Write(permit));
-            false
-        }
-        Err(e) => e.etype() == ErrorType::NumbersExhausted,
-    };
-    assert!(rt; refused);
+    }
 }
+
+fn unlock(lock: &mut CacheLock, slot: &mut Slot, reason: LockStatus) -> bool {
+    match slot {
+        Some(Locked::Write(permit)) if reason.is_reason() => {
+            permit.unlock(lock, reason);
+            true
+        }
+        _ => false,
+    }
+}
+
+fn tokens(words: &str) -> &'static [u64] {
+    match words {
+        "9,7" => &[9, 7],
+        "8,9" => &[8, 9],
+        _ => &[],
+    }
+}
+
+fn publish(parts: &Parts, lock: &mut CacheLock, slot: &Slot, tokens: &[u64]) -> &'static str {
+    match slot {
+        Some(Locked::Write(permit)) => made(permit.publish(parts.alloc, lock, tokens)),
+        _ => "wrong",
+    }
+}
+
+fn publish_by_table(
+    parts: &Parts,
+    lock: &mut CacheLock,
+    slot: &Slot,
+    tokens: &[u64],
+) -> &'static str {
+    match slot {
+        Some(Locked::Write(permit)) => made(lock.publish(parts.alloc, permit, tokens)),
+        _ => "wrong",
+    }
+}
+
+fn made(call: Result<()>) -> &'static str {
+    match call {
+        Ok(()) => "ok",
+        Err(_refused) => "refused",
+    }
+}
+
+fn poll(
+    parts: &Parts,
+    lock: &mut CacheLock,
+    slot: &mut Slot,
+    fills: Option<&UnusableFills>,
+    now: Moment,
+    told: &mut Told,
+) {
+    match slot {
+        Some(Locked::Read(read)) => {
+            tell_answer(lock.poll_wait(parts.alloc, read, fills, now), told)
+        }
+        _ => told.say("wrong"),
+    }
+}
+
+fn wait(parts: &Parts, lock: &mut CacheLock, slot: &mut Slot, now: Moment, told: &mut Told) {
+    match slot {
+        Some(Locked::Read(read)) => tell_outcome(read.wait(parts.alloc, lock, now), told),
+        _ => told.say("wrong"),
+    }
+}
+
+fn wait_without(
+    parts: &Parts,
+    lock: &mut CacheLock,
+    slot: &mut Slot,
+    now: Moment,
+    told: &mut Told,
+) {
+    match slot {
+        Some(Locked::Read(read)) => tell_answer(
+            read.wait_unless_published(parts.alloc, lock, &parts.fills, now),
+            told,
+        ),
+        _ => told.say("wrong"),
+    }
+}
+
+fn tell_answer(answer: Result<Poll<WaitOutcome>>, told: &mut Told) {
+    match answer {
+        Ok(answer) => tell_outcome(answer, told),
+        Err(refused) => told.refused(&refused),
+    }
+}
+
+fn tell_outcome(outcome: Poll<WaitOutcome>, told: &mut Told) {
+    match outcome {
+        Poll::Pending => told.say("pending"),
+        Poll::Ready(WaitOutcome::Released) => told.say("released"),
+        Poll::Ready(WaitOutcome::AgeTimeout) => told.say("too old"),
+        Poll::Ready(WaitOutcome::Abandoned(fill)) => {
+            told.number(fill.token);
+            told.say(" ");
+            told.say(fill.reason);
+        }
+    }
+}
+
+fn was_polled(slot: &Slot) -> bool {
+    match slot {
+        Some(Locked::Read(read)) => read.was_polled(),
+        _ => false,
+    }
+}
+
+fn is_stale(slot: &Slot) -> bool {
+    match slot {
+        Some(Locked::Write(permit)) => permit.stale_writer(),
+        _ => false,
+    }
+}
+
+fn is_locked(lock: &CacheLock, slot: &Slot) -> bool {
+    match slot {
+        Some(Locked::Read(read)) => read.locked(lock),
+        _ => false,
+    }
+}
+
+fn is_expired(lock: &CacheLock, slot: &Slot, now: Moment) -> bool {
+    match slot {
+        Some(Locked::Read(read)) => read.expired(lock, now),
+        _ => false,
+    }
+}
+
+fn status_of(lock: &CacheLock, slot: &Slot, now: Moment) -> &'static str {
+    match slot {
+        Some(Locked::Read(read)) => lock.lock_status(read, now).as_str(),
+        _ => "wrong",
+    }
+}
+
+// The status that a permit or a read lock has for itself.
+fn own_status(lock: &CacheLock, slot: &Slot, now: Moment) -> &'static str {
+    match slot {
+        Some(Locked::Write(permit)) => permit.lock_status(lock).as_str(),
+        Some(Locked::Read(read)) => read.lock_status(lock, now).as_str(),
+        None => "wrong",
+    }
+}
+
+// Plays rows over a table of locks.
+fn run(rt: &impl Abort, alloc: Global, lock: Box<CacheLock>, rows: &'static str) {
+    match Parts::new(alloc) {
+        Ok(parts) => {
+            let mut hands = Hands::new(lock, parts);
+            play(rt, alloc, &mut hands, rows);
+            hands.end();
+        }
+        Err(_refused) => assert!(rt; false),
+    }
+}
+
+// Over a new one, whose permits are held for ten seconds at most.
+fn run_new(rt: &impl Abort, alloc: Global, rows: &'static str) {
+    match CacheLock::new_boxed(alloc, Duration::from_secs(10)) {
+        Ok(lock) => run(rt, alloc, lock, rows),
+        Err(_refused) => assert!(rt; false),
+    }
+}
+
+// Over one that has one number left.
+fn run_last(rt: &impl Abort, alloc: Global, rows: &'static str) {
+    let last = CacheLock::starting_at(alloc, Duration::from_secs(10), 18446744073709551615);
+    match Box::new(alloc, last) {
+        Ok(lock) => run(rt, alloc, lock, rows),
+        Err(_refused) => assert!(rt; false),
+    }
+}
+
+const SECOND_READS: &str = "
+    1 asks a 1 -> permit 0
+    2 asks b 1 -> permit 1
+    3 asks a 2 -> read 0
+    1 is-stale -> no
+    3 was-polled -> no
+    3 polls 3 -> pending
+    3 was-polled -> yes
+    3 status 3 -> Waiting
+    1 releases a Done
+    3 polls 4 -> released
+    3 status 4 -> Done
+    core 0 -> yes
+    3 drops
+    2 drops
+    # nobody names them any more
+    core 0 -> no
+    core 1 -> no
+    stub b -> no";
 
 #[test]
-fn a_permit_under_no_key(rt: HostRuntime) -> Result<(), Fail> {
-    let alloc = rt.alloc();
-    let mut boxed = CacheLock::new_boxed(alloc, Duration::from_secs(10))?;
-    is_under_no_key(&rt, alloc, &mut *boxed);
-    Ok(())
+fn the_second_reads_until_the_first_releases(rt: HostRuntime) {
+    run_new(&rt, rt.alloc(), SECOND_READS);
 }
 
-fn is_under_no_key(rt: &impl Abort, alloc: Global, lock: &mut CacheLock) {
-    let (mut free, stub) = match lock.new_permit(alloc, Duration::from_secs(2), true, at(0)) {
-        Ok(made) => made,
-        Err(_) => panic!(rt; "refused"),
-    };
-    let mut read = stub.read_lock(lock);
-    holds(
-        rt,
-        free.stale_writer() && stub.number() == 0 && read.locked(lock),
-    );
-    holds(rt, read.wait(alloc, lock, at(1)) == Poll::Pending);
-    free.unlock(lock, LockStatus::GiveUp);
-    holds(rt, free.lock_status(lock) == LockStatus::GiveUp);
-    holds(
-        rt,
-        read.wait(alloc, lock, at(1)) == Poll::Ready(WaitOutcome::Released),
-    );
-    lock.drop_lock(Locked::Write(free));
-    holds(rt, lock.lock_status(&read, at(1)) == LockStatus::GiveUp);
-    lock.drop_lock(Locked::Read(read));
+const LATE: &str = "
+    1 asks a 0 -> permit 0
+    2 asks a 1 -> read 0
+    2 polls 10 -> too old
+    3 asks a 11 -> permit 1
+    1 releases empty Done
+    2 status 11 -> AgeTimeout
+    4 asks a 12 -> read 1
+    4 drops
+    2 drops
+    3 releases empty GiveUp
+    core 0 -> no
+    core 1 -> no";
+
+#[test]
+fn a_late_release_leaves_the_newer_permit(rt: HostRuntime) {
+    run_new(&rt, rt.alloc(), LATE);
+}
+
+const DROPPED: &str = "
+    1 asks a 0 -> permit 0
+    2 asks a 1 -> read 0
+    1 drops
+    2 waits 1 -> released
+    2 own-status 1 -> Dangling
+    2 is-locked -> no
+    2 is-expired 9 -> no
+    2 is-expired 10 -> yes
+    3 asks a 2 -> permit 1
+    2 drops
+    3 releases a TransientError";
+
+#[test]
+fn a_dropped_permit_dangles(rt: HostRuntime) {
+    run_new(&rt, rt.alloc(), DROPPED);
+}
+
+const BACK: &str = "
+    1 asks a 100 -> permit 0
+    2 asks a 1 -> read 0
+    2 polls 1 -> pending
+    2 polls 109 -> pending
+    2 polls 110 -> too old
+    # once it is too old it stays so
+    2 polls 1 -> too old";
+
+#[test]
+fn moments_that_go_back_age_nothing(rt: HostRuntime) {
+    run_new(&rt, rt.alloc(), BACK);
+}
+
+// The second slot's reader is told by the publication that was current in between, and by the first fill of its list.
+const TOLD: &str = "
+    1 asks a 0 -> permit 0
+    2 asks a 0 -> read 0
+    3 asks a 0 -> read 0
+    2 polls-without 1 -> pending
+    1 publishes 9,7
+    1 tells none
+    2 polls 1 -> 7 seven
+    3 polls-without 1 -> pending
+    1 tells 8,9
+    3 waits-without 2 -> 9 nine
+    1 releases a Done
+    2 polls 1 -> released";
+
+#[test]
+fn a_reader_is_told_what_it_cannot_use(rt: HostRuntime) {
+    run_new(&rt, rt.alloc(), TOLD);
+}
+
+const LAST: &str = "
+    1 asks a 0 -> permit 18446744073709551615
+    2 asks a 0 -> read 18446744073709551615
+    3 asks b 0 -> NumbersExhausted
+    stub b -> no
+    2 drops
+    1 releases a Done
+    makes 1 fresh -> NumbersExhausted";
+
+#[test]
+fn the_last_number_is_given_once(rt: HostRuntime) {
+    run_last(&rt, rt.alloc(), LAST);
+}
+
+const UNDER_NO_KEY: &str = "
+    makes 2 stale -> stub 0
+    1 is-stale -> yes
+    2 is-locked -> yes
+    2 waits 1 -> pending
+    1 unlocks GiveUp
+    1 own-status 0 -> GiveUp
+    2 waits 1 -> released
+    1 drops
+    2 status 1 -> GiveUp";
+
+#[test]
+fn a_permit_under_no_key(rt: HostRuntime) {
+    run_new(&rt, rt.alloc(), UNDER_NO_KEY);
+}
+
+fn is_begun(core: &LockCore) -> bool {
+    core.locked()
+        && core.stale_writer()
+        && core.lock_status() == LockStatus::Waiting
+        && core.lock_start() == at(5)
+        && core.age_timeout().as_secs() == 3
+}
+
+fn ends_once(core: &mut LockCore) -> bool {
+    core.unlock(LockStatus::Done);
+    !core.locked() && core.lock_status() == LockStatus::Done
+}
+
+fn is_core(alloc: Global) -> bool {
+    let mut core = LockCore::new(alloc, Duration::from_secs(3), true, at(5));
+    is_begun(&core) && ends_once(&mut core)
 }
 
 #[test]
 fn a_core_by_itself(rt: HostRuntime) {
-    ends_once(
-        &rt,
-        &mut LockCore::new(rt.alloc(), Duration::from_secs(3), true, at(5)),
-    );
+    assert!(rt; is_core(rt.alloc()));
 }
 
-fn ends_once(rt: &impl Abort, core: &mut LockCore) {
-    assert!(rt; core.locked() && core.stale_writer());
-    assert_eq!(rt; core.lock_status(), LockStatus::Waiting);
-    assert_eq!(rt; core.lock_start(), at(5));
-    assert_eq!(rt; core.age_timeout().as_secs(), 3);
-    core.unlock(LockStatus::Done);
-    assert!(rt; !core.locked());
-    assert_eq!(rt; core.lock_status(), LockStatus::Done);
+fn have_numbers() -> bool {
+    u8::from(LockStatus::Waiting) == 0
+        && u8::from(LockStatus::Done) == 1
+        && u8::from(LockStatus::TransientError) == 2
+        && u8::from(LockStatus::GiveUp) == 3
+        && u8::from(LockStatus::Dangling) == 4
+        && u8::from(LockStatus::WaitTimeout) == 5
+        && u8::from(LockStatus::AgeTimeout) == 6
+}
+
+fn are_of_numbers() -> bool {
+    LockStatus::from(4u8) == LockStatus::Dangling
+        && LockStatus::from(200u8) == LockStatus::GiveUp
+        && LockStatus::from_repr(6) == Some(LockStatus::AgeTimeout)
+        && LockStatus::from_repr(7).is_none()
+}
+
+fn have_names_and_kinds() -> bool {
+    LockStatus::TransientError.as_str() == "TransientError"
+        && LockStatus::GiveUp.is_reason()
+        && !LockStatus::WaitTimeout.is_reason()
+        && LockStatus::AgeTimeout.is_free()
+        && !LockStatus::Done.is_free()
 }
 
 #[test]
 fn statuses_have_numbers_and_names(rt: HostRuntime) {
-    assert_eq!(rt; u8::from(LockStatus::Waiting), 0);
-    assert_eq!(rt; u8::from(LockStatus::Done), 1);
-    assert_eq!(rt; u8::from(LockStatus::TransientError), 2);
-    assert_eq!(rt; u8::from(LockStatus::GiveUp), 3);
-    assert_eq!(rt; u8::from(LockStatus::Dangling), 4);
-    assert_eq!(rt; u8::from(LockStatus::WaitTimeout), 5);
-    assert_eq!(rt; u8::from(LockStatus::AgeTimeout), 6);
-    assert_eq!(rt; LockStatus::from(4u8), LockStatus::Dangling);
-    assert_eq!(rt; LockStatus::from(200u8), LockStatus::GiveUp);
-    assert_eq!(rt; LockStatus::from_repr(6), Some(LockStatus::AgeTimeout));
-    assert_eq!(rt; LockStatus::from_repr(7), None);
-    assert_eq!(rt; LockStatus::TransientError.as_str(), "TransientError");
-    assert!(rt; LockStatus::GiveUp.is_reason() && !LockStatus::WaitTimeout.is_reason());
-    assert!(rt; LockStatus::AgeTimeout.is_free() && !LockStatus::Done.is_free());
+    assert!(rt; have_numbers() && are_of_numbers() && have_names_and_kinds());
 }
 
-#[test]
-fn outcomes_have_statuses(rt: HostRuntime) {
+fn have_statuses() -> bool {
     let abandoned = LockWaitOutcome::Abandoned {
         reason: NoCacheReason::Custom("late"),
         token: 3,
     };
-    assert_eq!(rt; abandoned.lock_status(), LockStatus::GiveUp);
-    assert_eq!(rt;
-        LockWaitOutcome::WaitTimeout.lock_status(),
-        LockStatus::WaitTimeout
-    );
-    assert_eq!(rt; LockWaitOutcome::Done.lock_status(), LockStatus::Done);
+    abandoned.lock_status() == LockStatus::GiveUp
+        && LockWaitOutcome::WaitTimeout.lock_status() == LockStatus::WaitTimeout
+        && LockWaitOutcome::Done.lock_status() == LockStatus::Done
 }
 
 #[test]
-fn in_a_box_of_any_kind(rt: HostRuntime) -> Result<(), Fail> {
-    let alloc = rt.alloc();
-    let lock = CacheLock::new(alloc, Duration::from_secs(10));
-    let mut lock: CacheKeyLockImpl = Box::new(alloc, lock)?;
-    is_boxed(&rt, alloc, &mut lock, &key(alloc, 1)?);
-    Ok(())
+fn outcomes_have_statuses(rt: HostRuntime) {
+    assert!(rt; have_statuses());
 }
 
-fn is_boxed(rt: &impl Abort, alloc: Global, lock: &mut CacheKeyLockImpl, key: &CacheKey) {
-    let writes = match lock.lock(alloc, key, true, at(0)) {
-        Ok(locked) => {
-            let writes = locked.is_write() && locked.number() == 0;
-            lock.drop_lock(locked);
-            writes
+fn is_first_permit(lock: &mut CacheKeyLockImpl, given: Result<Locked>) -> bool {
+    match given {
+        Ok(given) => {
+            let is_first = given.is_write() && given.number() == 0;
+            lock.drop_lock(given);
+            is_first
         }
-        Err(_) => false,
+        Err(_refused) => false,
+    }
+}
+
+fn gives_a_permit(alloc: Global, lock: &mut CacheKeyLockImpl, key: &CacheKey) -> bool {
+    let given = lock.lock(alloc, key, true, at(0));
+    is_first_permit(lock, given) && lock.custom_lock_status("mine") == LockStatus::GiveUp
+}
+
+fn is_good_in_a_box(alloc: Global, key: &CacheKey) -> bool {
+    match Box::new(alloc, CacheLock::new(alloc, Duration::from_secs(10))) {
+        Ok(boxed) => {
+            let mut lock: CacheKeyLockImpl = boxed;
+            gives_a_permit(alloc, &mut lock, key)
+        }
+        Err(_refused) => false,
+    }
+}
+
+#[test]
+fn in_a_box_of_any_kind(rt: HostRuntime) {
+    let is_good = match key_of(rt.alloc(), "a") {
+        Ok(key) => is_good_in_a_box(rt.alloc(), &key),
+        Err(_refused) => false,
     };
-    assert!(rt; writes);
-    assert_eq!(rt; lock.custom_lock_status("mine"), LockStatus::GiveUp);
+    assert!(rt; is_good);
 }

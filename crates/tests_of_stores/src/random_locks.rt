@@ -195,39 +195,73 @@ fn step(
 ) -> bool {
     let call: u32 = rng.random_range(0..10);
     let key: u8 = rng.random_range(0..8);
-    if call < 4 {
-        return asked(alloc, lock, slow, hands, keys, key, now);
+    match call {
+        0..=3 => asked(alloc, lock, slow, hands, keys, key, now),
+        4 | 5 => released(lock, slow, hands.some_permit(rng), keys),
+        6 => dropped(lock, slow, hands.some_permit(rng)),
+        _ => followed(alloc, lock, slow, hands, rng, now, call > 7),
     }
-    if call < 6 {
-        let Some(permit) = hands.some_permit(rng) else {
-            return true;
-        };
-        slow.end(permit.number(), LockStatus::Done);
-        let Some(first) = keys.first() else {
+}
+
+fn released(
+    lock: &mut CacheLock,
+    slow: &mut Slow,
+    permit: Option<WritePermit>,
+    keys: &[CacheKey],
+) -> bool {
+    match permit {
+        Some(permit) => {
+            slow.end(permit.number(), LockStatus::Done);
+            release(lock, permit, keys.first())
+        }
+        None => true,
+    }
+}
+
+fn release(lock: &mut CacheLock, permit: WritePermit, first: Option<&CacheKey>) -> bool {
+    match first {
+        Some(first) => {
+            lock.release(first, permit, LockStatus::Done);
+            true
+        }
+        None => {
             lock.drop_lock(Locked::Write(permit));
-            return false;
-        };
-        lock.release(first, permit, LockStatus::Done);
-        return true;
+            false
+        }
     }
-    if call < 7 {
-        let Some(permit) = hands.some_permit(rng) else {
-            return true;
-        };
+}
+
+fn dropped(lock: &mut CacheLock, slow: &mut Slow, permit: Option<WritePermit>) -> bool {
+    if let Some(permit) = permit {
         slow.end(permit.number(), LockStatus::Dangling);
         lock.drop_lock(Locked::Write(permit));
-        return true;
     }
-    let Some(mut read) = hands.some_reader(rng) else {
-        return true;
-    };
-    let agrees = polled(alloc, lock, slow, &mut read, now);
-    if call < 8 {
-        lock.drop_lock(Locked::Read(read));
-    } else {
-        hands.keep(lock, Locked::Read(read));
+    true
+}
+
+// A reader polls, and is kept or let go.
+fn followed(
+    alloc: Global,
+    lock: &mut CacheLock,
+    slow: &mut Slow,
+    hands: &mut Hands,
+    rng: &mut StdRng,
+    now: u64,
+    keeps: bool,
+) -> bool {
+    match hands.some_reader(rng) {
+        Some(read) => {
+            let mut read = read;
+            let agrees = polled(alloc, lock, slow, &mut read, now);
+            if keeps {
+                hands.keep(lock, Locked::Read(read));
+            } else {
+                lock.drop_lock(Locked::Read(read));
+            }
+            agrees
+        }
+        None => true,
     }
-    agrees
 }
 
 #[test]

@@ -1,4 +1,5 @@
 //! Targets of purges, and numbers of writes.
+use crate::rows::Told;
 use pcache_base::error::{ErrorType, Result};
 use pcache_base::key::CompactCacheKey;
 use pcache_base::text::Text;
@@ -53,10 +54,9 @@ fn a_removed_entry_is_the_one_named(rt: HostRuntime) {
 }
 
 fn prints_as(alloc: Global, target: PurgeTarget<'_>, wanted: &str) -> bool {
-    match format!(in alloc; "{target}") {
-        Ok(text) => text.as_str() == wanted,
-        Err(_refused) => false,
-    }
+    let mut told = Told::new(alloc);
+    told.shown(&target);
+    told.is(wanted)
 }
 
 fn are_printed(alloc: Global, it: &Named) -> bool {

@@ -1,5 +1,5 @@
 //! Gates of tests.
-use pcache_shared::Gate;
+use pcache_shared_world::Gate;
 use std::sync::atomic::{AtomicU64, Ordering};
 use std::thread;
 

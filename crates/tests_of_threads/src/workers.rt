@@ -4,7 +4,7 @@ ghost use Rattle.std.specs.Prelude.{◌≡◌, length};
 use crate::calls::{ListOpening, ListWorld, SharedList, opening_of, read_script};
 use crate::gates::{Between, Noted, Ongoing, Open};
 use pcache_base::error::Result;
-use pcache_shared::{Gate, Mark, Receipt, Share, run_workers};
+use pcache_shared_world::{Gate, Mark, Receipt, Share, run_workers};
 use pingora_cache::world::call::Call;
 use pingora_cache::world::entry::Entry;
 use std::alloc::Global;

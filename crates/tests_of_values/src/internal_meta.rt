@@ -82,7 +82,7 @@ fn at(call: &'static str, place: usize) -> Moment {
 }
 
 fn window(call: &'static str, place: usize) -> u32 {
-    word(call, place).parse::<u32>().unwrap_or(0)
+    (number(call, place) & 0xFFFF_FFFF) as u32
 }
 
 fn some_moment(call: &'static str, place: usize) -> Option<Moment> {

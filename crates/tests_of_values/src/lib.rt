@@ -1,7 +1,8 @@
 #![tactic(auto)]
-//! Tests of values: keys, hashes, metas, directives, predictions, puts. Expected values come from outside: the standards,
-//! worked rows of the formats, and upstream's tests in our own words. They are a crate of their own, so that each library
-//! is proved once, and not again with its tests.
+//! Tests of values: keys, hashes, metas, directives, predictions, puts, and the files of eviction managers. Expected values
+//! come from outside: the standards, worked rows of the formats, and upstream's tests in our own words; the bytes of files
+//! are hand-computed from the form in docs/FORMATS.md. They are a crate of their own, so that each library is proved once,
+//! and not again with its tests.
 
 #[cfg(test)]
 mod admission;
@@ -11,6 +12,8 @@ mod blake2b;
 mod cache_control;
 #[cfg(test)]
 mod changed_metas;
+#[cfg(test)]
+mod files;
 #[cfg(test)]
 mod freshness;
 #[cfg(test)]

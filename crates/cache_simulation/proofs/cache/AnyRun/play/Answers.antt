@@ -1,7 +1,7 @@
 use Rattle.std.proofs.Common.{subst}
 use Rattle.std.proofs.lemmas.Result.{on_ok_weaker}
 use Rattle.pcache_evict.specs.Policy.{sharded}
-use Rattle.pcache_policies.specs.OneQueue.{fifo}
+use Rattle.pcache_policies.specs.OneQueue.{fifo, clock}
 use Rattle.cache_simulation.specs.declared.cache.AnyRun.{AnyRun}
 use Rattle.cache_simulation.specs.Caches.{Stands}
 use Rattle.cache_simulation.proofs.Marks.{played}
@@ -19,3 +19,9 @@ returns-in-Fifo-clause-served c = on_ok_weaker c.play-in-Fifo.result (λ serves.
     played fifo before asked c.args.requests.now rules _ _ start base _ _ _ _ _ _
     (rules-same _ _ _ _ _ _ c.play-in-Fifo.ensures.limits c.play-in-Fifo.ensures.most c.play-in-Fifo.ensures.replaces) serves
     (subst (λ (r : AnyRun). Stands before asked rules start base r) c.in-Fifo.is stands)) c.play-in-Fifo.ensures.served
+
+pub returns-in-Clock-clause-served : goal.returns-in-Clock-clause-served
+returns-in-Clock-clause-served c = on_ok_weaker c.play-in-Clock.result (λ serves. λ before asked rules start base stands.
+    played clock before asked c.args.requests.now rules _ _ start base _ _ _ _ _ _
+    (rules-same _ _ _ _ _ _ c.play-in-Clock.ensures.limits c.play-in-Clock.ensures.most c.play-in-Clock.ensures.replaces) serves
+    (subst (λ (r : AnyRun). Stands before asked rules start base r) c.in-Clock.is stands)) c.play-in-Clock.ensures.served

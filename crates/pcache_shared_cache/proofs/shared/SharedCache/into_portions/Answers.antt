@@ -23,11 +23,11 @@ loop-part-preserved g c =
     let steps = c.in-Some.ensures.steps.0 in
     let out = c.loop-part.portions.items in
     let left = c.next.new.self.rest.items in
-    let portion = c.in-Some-into_portion.portion in
+    let portion = c.into_portion.result in
     let long = ap length steps in (
       omega (arith, long, i.0, p.len, p.capacity),
       subst (HandedOut g.M.EvictionManager.tracked g.M.EvictionManager.evicted (limits_in c.args.self) (limits_begun left)) (sym p.items)
-          (out-more g.M.EvictionManager.tracked g.M.EvictionManager.evicted (limits_in c.args.self) (limits_begun left) c.in-Some.part.first.limits out portion (subst (λ rest. HandedOut g.M.EvictionManager.tracked g.M.EvictionManager.evicted (limits_in c.args.self) (limits_begun rest) out) steps i.1) c.in-Some-into_portion.ensures),
+          (out-more g.M.EvictionManager.tracked g.M.EvictionManager.evicted (limits_in c.args.self) (limits_begun left) c.in-Some.part.first.limits out portion (subst (λ rest. HandedOut g.M.EvictionManager.tracked g.M.EvictionManager.evicted (limits_in c.args.self) (limits_begun rest) out) steps i.1) c.into_portion.ensures),
     )
 
 pub returns-clause-portions : goal.returns-clause-portions

@@ -1,8 +1,0 @@
-use Rattle.std.proofs.Common.{◌∙◌, sym, ap, min, ◌^◌, ◌-◌}
-use Rattle.pcache_evict.proofs.Maps.{weight-map_of}
-use Rattle.pcache_policies.specs.Queue.{plain}
-use Rattle.pcache_policies.proofs.Queues.{once-plain}
-use Rattle.pcache_policies.proofs.one_queue.ManagerEvictionManager.total_size.Goals as goal
-
-pub returns : goal.returns
-returns g c = c.total_size.ensures.value ∙ ap (λ n. min n (2 ^ 64 - 1)) (sym (weight-map_of (plain c.args.self.now.queue) (once-plain c.args.self.now.queue c.total_size.ensures.once)))

@@ -1,7 +1,0 @@
-use Rattle.std.proofs.Common.{◌∙◌}
-use Rattle.pcache_policies.specs.S3Fifo.{whole}
-use Rattle.pcache_policies.proofs.SieveMaps.{there-list}
-use Rattle.pcache_policies.proofs.s3_fifo.ManagerEvictionManager.peek.Goals as goal
-
-pub returns : goal.returns
-returns g c = c.peek.ensures ∙ there-list c.args.item.now (whole c.args.self.now.fifos)

@@ -1,9 +1,0 @@
-use Rattle.std.proofs.Common.{◌∙◌}
-use Rattle.pcache_policies.proofs.InTurn.{once_turn, found_turn}
-use Rattle.pcache_policies.proofs.turns.seen.Goals as goal
-
-pub returns-clause-value : goal.returns-clause-value
-returns-clause-value g c = c.get.ensures.value ∙ found_turn c.args.item.now c.args.ring.now c.get.ensures.once
-
-pub returns-clause-once : goal.returns-clause-once
-returns-clause-once g c = once_turn c.args.ring.now c.get.ensures.once

@@ -1,5 +1,0 @@
-use Rattle.pcache_shared.proofs.Moves.{begins}
-use Rattle.pcache_shared.proofs.opening.Opening.new.Goals as goal
-
-pub of_words-requires : goal.of_words-requires
-of_words-requires g c = begins

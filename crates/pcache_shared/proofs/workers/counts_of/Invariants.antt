@@ -1,6 +1,0 @@
-use Rattle.std.proofs.Common.{◌≡◌, map, take, length, vec_capacity}
-use Rattle.std.specs.Prelude.{vec_len}
-use Rattle.pcache_shared.proofs.workers.counts_of.Given as goal
-
-abbrev pub invariant-loop-share : goal.invariant-loop-share
-invariant-loop-share g l = (l.counts.items ≡ map length (take l.share-index l.shares)) × (vec_len l.counts ≡ l.share-index) × (vec_capacity l.counts ≡ length l.shares)

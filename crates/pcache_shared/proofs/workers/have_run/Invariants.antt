@@ -1,8 +1,0 @@
-use Rattle.std.proofs.Common.{◌≡◌, ◌+◌, ◌<◌, ℕ, List, length}
-use Rattle.std.specs.Prelude.{slice_index_or}
-use Rattle.pcache_shared.specs.declared.receipt.Receipt.{Receipt}
-use Rattle.pcache_shared.specs.Workers.{script_at}
-use Rattle.pcache_shared.proofs.workers.have_run.Given as goal
-
-abbrev pub invariant-loop-worker : goal.invariant-loop-worker
-invariant-loop-worker g l = (i : ℕ) (d : List Receipt) → i < l.worker → length (slice_index_or l.shares i d) ≡ slice_index_or l.before i 0 + length (script_at l.scripts i)

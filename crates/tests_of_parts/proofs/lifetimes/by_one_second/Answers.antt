@@ -1,6 +1,0 @@
-use Rattle.pcache_put_ctx.proofs.Answered.{answered-more}
-use Rattle.tests_of_parts.specs.Lifetimes.{IsOneSecond}
-use Rattle.tests_of_parts.proofs.lifetimes.by_one_second.Goals as goal
-
-pub returns-clause-says : goal.returns-clause-says
-returns-clause-says g c = answered-more c.default_cacheable.result _ (0, 0) _ IsOneSecond c.args.header c.args.now (λ i. (c.requires.revalidating i, c.requires.erring i)) c.default_cacheable.ensures.says c.requires.one

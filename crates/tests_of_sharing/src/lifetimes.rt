@@ -1,0 +1,40 @@
+//! What the policy of the tests decides: by defaults that give each status a second, and no window.
+ghost use Rattle.std.specs.Prelude.{◌≡◌, ℕ, IfErr, IfOk, Option};
+ghost use Rattle.std.specs.declared.time.Duration.{Duration};
+ghost use Rattle.pcache_base.specs.declared.error.ErrorType.TheVariants.{OutOfMemory};
+ghost use Rattle.pcache_put_ctx.specs.Policies.{SaysByDefault};
+ghost use Rattle.tests_of_sharing.specs.Lifetimes.{IsOneSecond};
+
+use http::StatusCode;
+use pcache_base::error::Result;
+use pcache_base::moment::Moment;
+use pcache_control::{CacheMetaDefaults, FreshDurationByStatusFn, RespCacheable};
+use pcache_meta::header::ResponseHeader;
+use pcache_put_ctx::policy::default_cacheable;
+use std::alloc::Global;
+use std::time::Duration;
+
+/// Every status is fresh for a second.
+pub(crate) fn one_second(_status: StatusCode) -> Option<Duration>
+    ensures { IsOneSecond 0 result }
+{
+    Some(Duration::from_secs(1))
+}
+
+/// What is decided on a response by such defaults.
+pub(crate) fn by_one_second(
+    alloc: Global,
+    header: ResponseHeader,
+    defaults: &CacheMetaDefaults,
+    now: Moment,
+) -> Result<RespCacheable>
+    requires one { (status : ℕ) (lifetime : Option Duration)
+        → FreshDurationByStatusFn.post defaults.now.fresh_sec_fn status lifetime
+        → IsOneSecond status lifetime }
+    requires revalidating { defaults.now.stale_while_revalidate_sec ≡ 0 }
+    requires erring { defaults.now.stale_if_error_sec ≡ 0 }
+    ensures says { IfOk result (SaysByDefault (0, 0) IsOneSecond header now) }
+    ensures kind { IfErr result (λ e. e ≡ OutOfMemory) }
+{
+    default_cacheable(alloc, header, defaults, now)
+}
