@@ -25,26 +25,25 @@ TEST = f"{os.path.dirname(os.path.realpath(__file__))}/../crates/tests_of_simula
 REQUESTS = 1_000_000
 MILLION = 1_000_000
 
-# The options of each run over the trace with commas, as the tests give them.
-RUNS = [
-    "policy lru,sharded:16,sieve,s3-fifo,fifo,clock,2q; size 60000",
-    "policy lru,sieve; size 20000; large evict; threads 2",
-    "policy lru; size 20%; ttl 20000",
-    "policy sieve,s3-fifo; size 200000; ttl 5000; expired replace",
-    "policy lru,2q; size 100KB; warmup 200000; interval 300000",
-    "policy lru; size 40%; distinct 250000",
-]
-# Those of samples of the keys.
-PARTS = [
-    "policy lru; size 100000,5%; sample 0.25; part 1",
-    "policy lru; size 60000; watermark 400; sample 0.5",
-    "policy lru,belady; size 100,30%; ignore-size; sample 0.5; warmup 300001",
-    "policy lru; size 10%; sample-keys 1000",
-    "policy lru; size 30000; nodes 3; drop 1@400000; shield 10%; sample 0.5; large evict; ttl 1000",
-]
+# The options of each run over the trace with commas, by the file that the test makes for them. A test has a minute, on a machine
+# with other things to do: so none has more than a few.
+RUNS = {
+    "policies": ["policy lru,sharded:16,sieve; size 60000"],
+    "queues": ["policy s3-fifo,fifo,clock,2q; size 60000"],
+    "large": ["policy lru,sieve; size 20000; large evict; threads 2", "policy lru; size 40%; distinct 250000"],
+    "times": ["policy lru; size 20%; ttl 20000", "policy sieve,s3-fifo; size 200000; ttl 5000; expired replace"],
+    "intervals": ["policy lru,2q; size 100KB; warmup 200000; interval 300000"],
+    "samples": [
+        "policy lru; size 100000,5%; sample 0.25; part 1",
+        "policy lru; size 60000; watermark 400; sample 0.5",
+        "policy lru; size 10%; sample-keys 1000",
+    ],
+    "bounds": ["policy lru,belady; size 100,30%; ignore-size; sample 0.5; warmup 300001"],
+    "nodes": ["policy lru; size 30000; nodes 3; drop 1@400000; shield 10%; sample 0.5; large evict; ttl 1000"],
+}
 FORMS = ["cdn", "twitter", "oracleGeneral"]
 OF_FORMS = "policy lru; size 60000"
-OTHER_COLUMNS = "trace long.twitter; columns time,key,none,size"
+OTHER_COLUMNS = "trace columns.twitter; columns time,key,none,size"
 
 
 def trace():
@@ -310,18 +309,18 @@ def runs_of(file, runs):
 
 
 def runs_of_forms():
-    """The same over the trace in other forms."""
+    """Each run over the trace in another form, or with other columns."""
     requests = [(second, key_of(name), size) for second, name, size in trace()]
     for form in FORMS:
         named = [(second, str(name), size) for second, name, size in trace()] if form == "oracleGeneral" else requests
-        yield f"trace long.{form}; trace-type {form}; {OF_FORMS}", rows_of(Options(OF_FORMS, named))
+        yield [(f"trace long.{form}; trace-type {form}; {OF_FORMS}", rows_of(Options(OF_FORMS, named)))]
     smaller = [(second, key, size - 1) for second, key, size in requests]
-    yield f"{OTHER_COLUMNS}; {OF_FORMS}", rows_of(Options(OF_FORMS, smaller))
+    yield [(f"{OTHER_COLUMNS}; {OF_FORMS}", rows_of(Options(OF_FORMS, smaller)))]
 
 
 def each():
     """What each test has."""
-    return runs_of("long.csv", RUNS), runs_of("parts.csv", PARTS), runs_of_forms()
+    return itertools.chain((runs_of(f"{name}.csv", runs) for name, runs in RUNS.items()), runs_of_forms())
 
 
 def compare(program):
@@ -330,8 +329,10 @@ def compare(program):
         for form in ["csv", *FORMS]:
             with open(f"{room}/long.{form}", "wb") as file:
                 file.writelines(bytes_of(form))
-        os.link(f"{room}/long.csv", f"{room}/parts.csv")
-        for words, wanted in itertools.chain(*each()):
+        for name in RUNS:
+            os.link(f"{room}/long.csv", f"{room}/{name}.csv")
+        os.link(f"{room}/long.twitter", f"{room}/columns.twitter")
+        for words, wanted in itertools.chain.from_iterable(each()):
             given = [f"--{word.split(' ', 1)[0]}" + (f"={word.split(' ', 1)[1]}" if " " in word else "") for word in words.split("; ")]
             output = subprocess.run([program, "--format", "csv", *given], capture_output=True, text=True, cwd=room)
             told = output.stdout.split("\n")[1:-1]
