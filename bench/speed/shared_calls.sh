@@ -9,5 +9,5 @@ use Rattle.shared_calls.proofs.together.Given as goal
 abbrev pub ghosts-run_named : goal.ghosts-run_named
 ghosts-run_named g a = record { opened = a.opening }
 PROOF
-build 'shared_calls: pcache_base pcache_evict pcache_meta pcache_shared_world pingora_cache bytes http'
+build 'shared_calls: pcache_base pcache_evict pcache_meta pcache_request pcache_shared_world pcache_world bytes http'
 tell '^(one thread|workers=)'

@@ -3,7 +3,7 @@
 # body of eight bytes takes in the store and in the manager's list together; and how large an open request of a cache is. The
 # program is proved and built in a copy of the repository.
 . "$(dirname "$0")/in_a_copy.sh"
-build 'world_memory: pingora_cache bytes http'
+build 'world_memory: pcache_base pcache_evict pcache_meta pcache_request pcache_store pcache_world bytes http'
 crates/world_memory/out/world_memory sizes 0
 python3 - <<'MEASURE'
 import os, sys

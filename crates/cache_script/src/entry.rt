@@ -2,15 +2,15 @@
 
 use crate::reply::{write_reply, write_text};
 use bytes::Bytes;
-use pingora_cache::CacheEntryKey;
-use pingora_cache::key::{CacheHashKey, HashBinary};
-use pingora_cache::meta::CacheMeta;
-use pingora_cache::meta::codec::deserialize_internal;
-use pingora_cache::meta::spelled::SpelledMeta;
-use pingora_cache::moment::Moment;
-use pingora_cache::poll::Poll;
-use pingora_cache::world::boxed::Boxed;
-use pingora_cache::world::entry::{Answer, Entry, Event};
+use pcache_base::key::{CacheHashKey, HashBinary};
+use pcache_base::moment::Moment;
+use pcache_base::poll::Poll;
+use pcache_evict::eviction::CacheEntryKey;
+use pcache_meta::meta::CacheMeta;
+use pcache_meta::meta::codec::deserialize_internal;
+use pcache_meta::meta::spelled::SpelledMeta;
+use pcache_world::world::boxed::Boxed;
+use pcache_world::world::entry::{Answer, Entry, Event};
 use std::io;
 use std::io::Write;
 

@@ -7,13 +7,13 @@ ghost use Rattle.pcache_put_ctx.specs.Policies.{SaysByDefault};
 ghost use Rattle.cache_script.specs.Lifetimes.{IsOneSecond};
 
 use http::StatusCode;
-use pingora_cache::error::Result;
-use pingora_cache::header::ResponseHeader;
-use pingora_cache::meta::FreshDurationByStatusFn;
-use pingora_cache::moment::Moment;
-use pingora_cache::put::default_cacheable;
-use pingora_cache::world::policy::PutPolicy;
-use pingora_cache::{CacheMetaDefaults, RespCacheable};
+use pcache_base::error::Result;
+use pcache_base::moment::Moment;
+use pcache_control::defaults::FreshDurationByStatusFn;
+use pcache_control::{CacheMetaDefaults, RespCacheable};
+use pcache_meta::header::ResponseHeader;
+use pcache_put_ctx::policy::default_cacheable;
+use pcache_world::world::policy::PutPolicy;
 use std::alloc::Global;
 use std::time::Duration;
 

@@ -5,11 +5,11 @@ use crate::policy::OneSecond;
 use crate::reply::{write_reply, write_stat};
 use crate::script;
 use crate::script::{Line, Unread, read};
-use pingora_cache::eviction::simple_lru::Manager;
-use pingora_cache::moment::Moment;
-use pingora_cache::seed::Seed;
-use pingora_cache::world::World;
-use pingora_cache::world::call::Reply;
+use pcache_base::moment::Moment;
+use pcache_base::seed::Seed;
+use pcache_evict::eviction::simple_lru::Manager;
+use pcache_world::world::World;
+use pcache_world::world::call::Reply;
 use std::alloc::Global;
 use std::fs::Files;
 use std::io;
@@ -169,7 +169,7 @@ fn run_line<F: Files, W: Write>(
 // Writes the reply of a call. If there is no memory for its entry, the run ends.
 fn answer<W: Write>(
     writer: &mut W,
-    made: pingora_cache::error::Result<Reply>,
+    made: pcache_base::error::Result<Reply>,
 ) -> Result<io::Result<()>, Stop> {
     match made {
         Ok(reply) => Ok(write_reply(writer, &reply)),

@@ -1,9 +1,9 @@
 //! Writing the replies of a script.
 
-use pingora_cache::error::ErrorType;
-use pingora_cache::lock::LockWaitOutcome;
-use pingora_cache::world::Totals;
-use pingora_cache::world::call::{LockKind, Reply};
+use pcache_base::error::ErrorType;
+use pcache_lock::lock::LockWaitOutcome;
+use pcache_world::world::Totals;
+use pcache_world::world::call::{LockKind, Reply};
 use std::io;
 use std::io::Write;
 

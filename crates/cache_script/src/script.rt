@@ -3,16 +3,17 @@ ghost use Rattle.std.specs.Prelude.{◌<◌, IfOk};
 
 use bytes::Bytes;
 use http::StatusCode;
-use pingora_cache::header::ResponseHeader;
-use pingora_cache::key::{CacheKey, HashBinary, str2hex};
-use pingora_cache::lock::{UnusableFill, UnusableFills};
-use pingora_cache::meta::CacheMeta;
-use pingora_cache::moment::Moment;
-use pingora_cache::phase::HitStatus;
-use pingora_cache::world::boxed::Boxed;
-use pingora_cache::world::call::{Act, Call, RequestAct};
-use pingora_cache::world::tokens::Tokens;
-use pingora_cache::{CacheOptionOverrides, NoCacheReason};
+use pcache_base::fills::{UnusableFill, UnusableFills};
+use pcache_base::key::{CacheKey, HashBinary, str2hex};
+use pcache_base::moment::Moment;
+use pcache_base::reason::NoCacheReason;
+use pcache_meta::header::ResponseHeader;
+use pcache_meta::meta::CacheMeta;
+use pcache_request::CacheOptionOverrides;
+use pcache_request::phase::HitStatus;
+use pcache_world::world::boxed::Boxed;
+use pcache_world::world::call::{Act, Call, RequestAct};
+use pcache_world::world::tokens::Tokens;
 use std::alloc::{AllocError, AllocFailed, Global};
 use std::time::Duration;
 

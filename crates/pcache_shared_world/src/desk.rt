@@ -13,10 +13,10 @@ use crate::view::{Adding, Dealing, Moving, Room, View};
 use atomic_table::Seat;
 use pcache_base::error::Result;
 use pcache_evict::eviction::EvictionManager;
-use pingora_cache::world::World;
-use pingora_cache::world::call::Call;
-use pingora_cache::world::entry::Entry;
-use pingora_cache::world::policy::PutPolicy;
+use pcache_world::world::World;
+use pcache_world::world::call::Call;
+use pcache_world::world::entry::Entry;
+use pcache_world::world::policy::PutPolicy;
 use std::marker::{Model, PhantomData};
 
 /// The value under the lock: the world, and the seat that knows all entries added to it.

@@ -4,9 +4,9 @@ ghost use Rattle.std.specs.Prelude.{◌≡◌, IfOk};
 use crate::view::{Room, View};
 use atomic_table::{Seat, Table};
 use pcache_evict::eviction::EvictionManager;
-use pingora_cache::world::World;
-use pingora_cache::world::entry::Entry;
-use pingora_cache::world::policy::PutPolicy;
+use pcache_world::world::World;
+use pcache_world::world::entry::Entry;
+use pcache_world::world::policy::PutPolicy;
 use std::alloc::{AllocError, Global};
 use std::marker::Model;
 

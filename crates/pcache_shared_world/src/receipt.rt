@@ -1,6 +1,6 @@
 //! The receipt of a call.
 
-use pingora_cache::world::call::{Call, Reply};
+use pcache_world::world::call::{Call, Reply};
 
 /// The receipt of a call of a share: the call and its reply.
 #[derive(Drop)]

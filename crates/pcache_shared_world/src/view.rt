@@ -2,7 +2,7 @@
 //! wait nor take memory.
 
 use atomic_table::{Join, Play, Split, Table, TableRule};
-use pingora_cache::world::entry::Entry;
+use pcache_world::world::entry::Entry;
 use std::alloc::Global;
 use std::collections::LinkedList;
 

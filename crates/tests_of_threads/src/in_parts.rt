@@ -4,7 +4,7 @@ use crate::calls::{opening_of, place_in_two, read_call};
 use crate::gates::Open;
 use crate::workers::{Ended, are_exact, run_named};
 use pcache_base::error::Result;
-use pingora_cache::world::call::Call;
+use pcache_world::world::call::Call;
 use std::alloc::Global;
 use std::marker::Brand;
 use std::sync::Wait;

@@ -4,7 +4,7 @@ ghost use Rattle.std.specs.Prelude.{◌≡◌, length};
 use crate::calls::{ListOpening, ListWorld, SharedList, opening_of, read_call, world_of};
 use pcache_base::error::Result;
 use pcache_shared_world::{Mark, Receipt, Share};
-use pingora_cache::world::call::{Call, Reply};
+use pcache_world::world::call::{Call, Reply};
 use std::alloc::Global;
 use std::marker::Brand;
 use std::sync::Wait;

@@ -1,6 +1,9 @@
 #![tactic(auto)]
 //! Tests of worlds that threads share. What a test waits for is counted, so that each ends by itself.
 //! Expected replies are hand-computed from the definitions.
+//!
+//! `surface` has no test: it names every public item once, of all that `pingora_cache` hands on. It stands here since these tests
+//! are over the most crates.
 
 #[cfg(test)]
 mod calls;
@@ -10,5 +13,7 @@ mod gates;
 mod in_parts;
 #[cfg(test)]
 mod in_turn;
+#[cfg(test)]
+pub mod surface;
 #[cfg(test)]
 mod workers;

@@ -6,7 +6,6 @@
 //! - `script`: a line of a text as a call
 //! - `play`: a text on a world
 //! - `world`, `behind_a_lock`: the tests of these
-//! - `surface`: every public item named once
 
 #[cfg(test)]
 mod behind_a_lock;
@@ -14,7 +13,5 @@ mod behind_a_lock;
 mod play;
 #[cfg(test)]
 mod script;
-#[cfg(test)]
-pub mod surface;
 #[cfg(test)]
 mod world;

@@ -2,7 +2,7 @@
 use crate::play::{Limits, play, world_of};
 use pcache_base::error;
 use pcache_base::seed::Seed;
-use pingora_cache::world::call::{Act, Reply};
+use pcache_world::world::call::{Act, Reply};
 use std::alloc::Global;
 use std::test::Fail;
 

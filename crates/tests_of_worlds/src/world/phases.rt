@@ -6,9 +6,9 @@ use pcache_base::error;
 use pcache_base::moment::Moment;
 use pcache_base::seed::Seed;
 use pcache_evict::eviction::simple_lru::Manager;
-use pingora_cache::world::World;
-use pingora_cache::world::call::{Call, Reply};
-use pingora_cache::world::policy::BySelf;
+use pcache_world::world::World;
+use pcache_world::world::call::{Call, Reply};
+use pcache_world::world::policy::BySelf;
 use std::alloc::Global;
 use std::test::Fail;
 

@@ -3,9 +3,9 @@ use crate::play::{Limits, calls_of, world_of};
 use pcache_base::error;
 use pcache_base::seed::Seed;
 use pcache_evict::eviction::simple_lru::Manager;
-use pingora_cache::world::World;
-use pingora_cache::world::call::Act;
-use pingora_cache::world::policy::BySelf;
+use pcache_world::world::World;
+use pcache_world::world::call::Act;
+use pcache_world::world::policy::BySelf;
 use std::alloc::Global;
 use std::test::Fail;
 

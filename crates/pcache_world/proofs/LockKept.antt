@@ -1,0 +1,348 @@
+-- What a request's move makes of the lock table, and of the locks that requests hold, is what the deeds say.
+use Rattle.std.proofs.Common.{◌≡◌, ◌≢◌, ℕ, ◌+◌, ◌^◌, ◌<◌, ◌==◌, Bool, true, false, cond, if◌then◌else◌, Option, None, Some, is_some, List, [], ◌∷◌, ◌++◌, reverse, refl, ap, sym, subst, ◌∙◌, arith}
+use Rattle.std.specs.Option.{option_map}
+use Rattle.std.specs.FinMap.{get, insert}
+use Rattle.std.proofs.lemmas.Bool.{eqb-true, ne_eqb}
+use Rattle.pcache_base.specs.declared.fills.UnusableFill.{UnusableFill}
+use Rattle.pcache_base.specs.declared.poll.Poll.TheVariants.{Pending}
+use Rattle.pcache_lock.specs.declared.lock.outcome.PermitState.{PermitState}
+use Rattle.pcache_lock.specs.declared.lock.outcome.PermitState.TheVariants as stage
+use Rattle.pcache_lock.specs.declared.lock.permit.Locked.{Locked}
+use Rattle.pcache_lock.specs.declared.lock.permit.Locked.TheVariants.{Write, Read}
+use Rattle.pcache_lock.specs.declared.lock.status.LockStatus.{LockStatus}
+use Rattle.pcache_lock.specs.Statuses.{IsReason, is_free}
+use Rattle.pcache_lock.specs.Permits.{Core, Permit, Reader, Watch}
+use Rattle.pcache_lock.specs.Locks.{Locks, holder, held_by, unless_free, lock_given, after_request, changed, is_permit, number_of_lock}
+use Rattle.pcache_lock.specs.Waiting.{answer_at, is_old, watched, polled, published, reader_at, reader_polled, permit_state, told_or_pending, watch_at, with_publication}
+use Rattle.pcache_lock.specs.Waits.{is_old_at}
+use Rattle.pcache_request.specs.LockWaits.{is_old_result, too_old_for}
+use Rattle.pcache_request.specs.Requests.{let_go_by, settled}
+use Rattle.pcache_history.specs.Deeds.{Deed, Asked, Released, LetGo, Aged, Published, Polled, who_holds, is_held, shown, shown_first, shown_more, publication}
+use Rattle.pcache_world.specs.LockMoves.{LockMove, rests, asks, settles, lets_go, publishes, polls, ages, each_deed, deeds_moved, table_moved, held_moved, table_polled, MayMove, MovesLocks}
+use Rattle.pcache_world.specs.LockTable.{IsTable, Holds, IsWatch, last_of, locks_read, plain}
+use Rattle.pcache_history.specs.Rules.{permit_of}
+use Rattle.pcache_world.proofs.LockTable as table
+use Rattle.pcache_world.proofs.LockTable.{Follows, some-same, lock-at, held-there, given-asked, held-given}
+use Rattle.pcache_world.proofs.LockWatch.{last-with, watch-polled, watch-published, watch-same}
+use Rattle.pcache_world.proofs.StateWrites.{get-set}
+use Rattle.pcache_history.proofs.Sums.{same-number}
+
+-- ---- two steps, and other counts
+
+both : (es fs : List Deed) (m p : ℕ → ℕ) (t u v : Locks) → Follows es m t u → Follows fs p u v → Follows fs p t v
+both es fs m p t u v a b = record {
+  table = b.table;
+  age = b.age ∙ a.age;
+  next = omega (arith, a.next, b.next);
+  kept = λ l c lt is.
+      let w = b.kept l c (omega (arith, lt, a.next)) is in
+      let x = a.kept l w.core lt w.is in
+      record { core = x.core; is = x.is; same = x.same ∙ w.same };
+}
+
+-- as many read locks, counted another way
+same-count : (es : List Deed) (m p : ℕ → ℕ) (t u : Locks) → ((q : ℕ) → m q ≡ p q) → Follows es m t u → Follows es p t u
+same-count es m p t u same k = subst (λ f. Follows es f t u) (λ i q. same q i) k
+
+-- ---- the locks that requests hold
+
+abbrev Reads : (ℕ → ℕ) → Option Locked → Type 0
+Reads n held = (rd : Reader) → held ≡ Some (Read rd) → 0 < n rd.number
+
+-- what other requests hold than r is what the deeds say
+abbrev OthersHold : ℕ → List Deed → List Deed → (ℕ → ℕ) → Locks → Locks → Type 0
+OthersHold r ds es n t u = (q : ℕ) (other : Option Locked) → q ≢ r → Holds q ds t other → Reads n other → Holds q es u other
+
+pub record Kept (r : ℕ) (ds es : List Deed) (n m : ℕ → ℕ) (t u : Locks) (last : Option Locked) : Type 0 where
+  pub table : IsTable es m u
+  pub age : u.age_timeout ≡ t.age_timeout
+  pub mine : Holds r es u last
+  pub others : OthersHold r ds es n t u
+
+pub holds-none : (r : ℕ) (ds : List Deed) (t : Locks) → Holds r ds t None
+holds-none r ds t = record { permit = λ p e. absurd (cc); watch = λ rd c e. absurd (cc) }
+
+-- a step by which no other request loses a permit, and that shows no other anything
+others-by : (r : ℕ) (ds es : List Deed) (n m : ℕ → ℕ) (t u : Locks) → IsTable ds n t → Follows es m t u
+    → ((p q : ℕ) → q ≢ r → who_holds p ds ≡ Some q → who_holds p es ≡ Some q) → ((q l : ℕ) → q ≢ r → shown q l es ≡ shown q l ds) → OthersHold r ds es n t u
+others-by r ds es n m t u k a holds shows q other ne old read = record {
+  permit = λ p e. holds p q ne (old.permit p e);
+  watch = λ rd c is there.
+      let l = rd.number in
+      let w = a.kept l c (given-asked ds n t k l (k.known l (read rd is))) there in
+      watch-same q l ds es rd.watch c w.core (shows q l ne) w.same (old.watch rd w.core is w.is);
+}
+
+kept-by : (r : ℕ) (ds es : List Deed) (n m : ℕ → ℕ) (t u : Locks) (last : Option Locked) → IsTable ds n t → Follows es m t u → Holds r es u last
+    → ((p q : ℕ) → q ≢ r → who_holds p ds ≡ Some q → who_holds p es ≡ Some q) → ((q l : ℕ) → q ≢ r → shown q l es ≡ shown q l ds) → Kept r ds es n m t u last
+kept-by r ds es n m t u last k a mine holds shows = record { table = a.table; age = a.age; mine = mine; others = others-by r ds es n m t u k a holds shows }
+
+-- permits that two requests hold are two
+differ : (ds : List Deed) (a b r q : ℕ) → q ≢ r → who_holds a ds ≡ Some r → who_holds b ds ≡ Some q → (a == b) ≡ false
+differ ds a b r q ne is at = ne_eqb a b (λ same. ne (some-same q r (sym at ∙ ap (λ l. who_holds l ds) (sym same) ∙ is)))
+
+other-number : (r q : ℕ) → q ≢ r → (r == q) ≡ false
+other-number r q ne = ne_eqb r q (λ e. ne (sym e))
+
+-- a deed that ends the permit that r holds
+abbrev Ends : (ℕ → Deed) → Type 0
+Ends f = (x p : ℕ) (gs : List Deed) → who_holds p (f x ∷ gs) ≡ (if x == p then None else who_holds p gs)
+
+abbrev IsHolder : ℕ → List Deed → Option ℕ → Type 0
+IsHolder r ds o = (p : ℕ) → o ≡ Some p → who_holds p ds ≡ Some r
+
+still-others : (r : ℕ) (ds gs : List Deed) (f : ℕ → Deed) (o : Option ℕ) → Ends f → IsHolder r ds o → (p q : ℕ) → q ≢ r → who_holds p ds ≡ Some q → who_holds p gs ≡ Some q → who_holds p (each_deed f o ++ gs) ≡ Some q
+still-others r ds gs f None ends holds p q ne is at = at
+still-others r ds gs f (Some x) ends holds p q ne is at = ends x p gs ∙ ap (λ b. if b then None else who_holds p gs) (differ ds x p r q ne (holds x refl) is) ∙ at
+
+still-shown : (q l : ℕ) (gs : List Deed) (f : ℕ → Deed) (o : Option ℕ) → ((x : ℕ) → shown q l (f x ∷ gs) ≡ shown q l gs) → shown q l (each_deed f o ++ gs) ≡ shown q l gs
+still-shown q l gs f None same = refl
+still-shown q l gs f (Some x) same = same x
+
+-- ---- what is held is let go, or released
+
+pub go : (ds : List Deed) (n m : ℕ → ℕ) (t : Locks) (old : Option Locked) → IsTable ds n t → ((p : ℕ) → permit_of old ≡ Some p → is_held p ds ≡ true) → ((q : ℕ) → m q + locks_read q old ≡ n q) → Follows (each_deed LetGo (permit_of old) ++ ds) m t (let_go_by old t)
+go ds n m t None k held count = same-count ds n m t t (λ q. omega (arith, count q)) (table.rests ds n t k)
+go ds n m t (Some (Write p)) k held count = same-count (LetGo p.number ∷ ds) n m t _ (λ q. omega (arith, count q)) (table.lets_go ds n t k p (held p.number refl))
+go ds n m t (Some (Read rd)) k held count = table.leaves ds n t k m rd (λ q. sym (count q))
+
+release : (ds : List Deed) (n m : ℕ → ℕ) (t : Locks) (s : LockStatus) (old : Option Locked) → IsTable ds n t → ((p : ℕ) → permit_of old ≡ Some p → is_held p ds ≡ true) → IsReason s → ((q : ℕ) → m q + locks_read q old ≡ n q)
+    → Follows (each_deed (λ x. Released x s) (permit_of old) ++ ds) m t (settled s old t)
+release ds n m t s None k held reason count = same-count ds n m t t (λ q. omega (arith, count q)) (table.rests ds n t k)
+release ds n m t s (Some (Write p)) k held reason count = same-count (Released p.number s ∷ ds) n m t _ (λ q. omega (arith, count q)) (table.releases ds n t k p.number s (held p.number refl) reason)
+release ds n m t s (Some (Read rd)) k held reason count = table.leaves ds n t k m rd (λ q. sym (count q))
+
+-- ---- one move
+
+still-held : (b : Bool) (r : ℕ) (w : Option ℕ) → is_some w ≡ true → is_some (if b then Some r else w) ≡ true
+still-held true r w h = refl
+still-held false r w h = h
+
+-- the lock on which a request would wait is known
+holder-there : (t : Locks) (k l : ℕ) → holder t k ≡ Some l → (c : Core) × (get t.cores l ≡ Some c)
+holder-there t k l is = by (get t.current k) is
+  where
+    on : (n : ℕ) (o : Option Core) → get t.cores n ≡ o → unless_free n o ≡ Some l → (c : Core) × (get t.cores l ≡ Some c)
+    on n None at e = absurd (cc)
+    on n (Some c) at e = elim (is_free c.status) as (λ b. cond b None (Some n) ≡ Some l → (c : Core) × (get t.cores l ≡ Some c)) [
+      | true ↦ λ e. absurd (cc)
+      | false ↦ λ e. (c, subst (λ x. get t.cores x ≡ Some c) (some-same n l e) at)
+    ] e
+
+    by : (o : Option ℕ) → held_by t o ≡ Some l → (c : Core) × (get t.cores l ≡ Some c)
+    by None e = absurd (cc)
+    by (Some n) e = on n (get t.cores n) refl e
+
+read-same : (a b : Reader) → ◌≡◌ {A = Option Locked} (Some (Read a)) (Some (Read b)) → a ≡ b
+read-same a b e = cc e
+
+module _ (r : ℕ) (ds : List Deed) (n m : ℕ → ℕ) (t : Locks) (mine : Option Locked) (k : IsTable ds n t) (holds : Holds r ds t mine) where
+  held-mine : (p : ℕ) → permit_of mine ≡ Some p → is_held p ds ≡ true
+  held-mine p e = ap is_some (holds.permit p e)
+
+  -- the permit is given, or a read lock, and the lock that was held goes
+  asked-holds : (o : Option ℕ) (slot at : ℕ) → IsHolder r ds o → who_holds t.next (each_deed LetGo o ++ Asked r slot t.next true at ∷ ds) ≡ Some r
+  asked-holds None slot at old = ap (λ b. if b then Some r else who_holds t.next ds) (same-number t.next)
+  asked-holds (Some x) slot at old =
+      let lt = held-given ds n t k x (ap is_some (old x refl)) in
+      ap (λ b. if b then None else (if t.next == t.next then Some r else who_holds t.next ds)) (ne_eqb x t.next (λ same. absurd (omega (arith, same, lt)))) ∙ ap (λ b. if b then Some r else who_holds t.next ds) (same-number t.next)
+
+  asked-kept : (slot : ℕ) (stale : Bool) (at : ℕ) (o : Option ℕ) → holder t slot ≡ o → ((l : ℕ) → n l + 1 < 2 ^ 128) → ((l : ℕ) → m l + locks_read l mine ≡ n l + locks_read l (Some (lock_given t stale o)))
+      → Kept r ds (each_deed LetGo (permit_of mine) ++ Asked r slot (number_of_lock (lock_given t stale o)) (is_permit (lock_given t stale o)) at ∷ ds) n m t (let_go_by mine (after_request t slot stale at o)) (Some (lock_given t stale o))
+  asked-kept slot stale at None is few count =
+      let gs = Asked r slot t.next true at ∷ ds in
+      let es = each_deed LetGo (permit_of mine) ++ gs in
+      let first = table.gives ds n t k r slot stale at in
+      let second = go gs n m (after_request t slot stale at None) mine first.table (λ p e. still-held (t.next == p) r (who_holds p ds) (held-mine p e)) (λ q. omega (arith, count q)) in
+      kept-by r ds es n m t _ _ k (both gs es n m t _ _ first second)
+      (record {
+        permit = λ p e. subst (λ x. who_holds x es ≡ Some r) (some-same t.next p e) (asked-holds (permit_of mine) slot at holds.permit);
+        watch = λ rd c e. absurd (cc);
+      })
+      (λ p q ne e. still-others r ds gs LetGo (permit_of mine) (λ x p gs. refl) holds.permit p q ne e
+      (ap (λ b. if b then Some r else who_holds p ds) (ne_eqb t.next p (λ same. absurd (omega (arith, same, held-given ds n t k p (ap is_some e))))) ∙ e))
+      (λ q l ne. still-shown q l gs LetGo (permit_of mine) (λ x. refl) ∙ ap (λ b. if b then [] else shown q l ds) (other-number r q ne))
+  asked-kept slot stale at (Some l) is few count =
+      let gs = Asked r slot l false at ∷ ds in
+      let es = each_deed LetGo (permit_of mine) ++ gs in
+      let more : ℕ → ℕ = λ q. n q + (if l == q then 1 else 0) in
+      let found = holder-there t slot l is in
+      let first = table.joins ds n t k more r slot at l found.0 found.1 (λ q. refl) (at-most (n l) (few l) (l == l)) in
+      let second = go gs more m (after_request t slot stale at (Some l)) mine first.table held-mine count in
+      kept-by r ds es n m t _ _ k (both gs es more m t _ _ first second)
+      (record {
+        permit = λ p e. absurd (cc);
+        watch = λ rd c e _. subst (λ x. IsWatch r x.number es x.watch c) (read-same (record { number = l; watch = None }) rd e)
+            (still-shown r l gs LetGo (permit_of mine) (λ x. refl) ∙ ap (λ b. if b then [] else shown r l ds) (same-number r));
+      })
+      (λ p q ne e. still-others r ds gs LetGo (permit_of mine) (λ x p gs. refl) holds.permit p q ne e e)
+      (λ q l ne. still-shown q l gs LetGo (permit_of mine) (λ x. refl) ∙ ap (λ b. if b then [] else shown q l ds) (other-number r q ne))
+    where
+      at-most : (x : ℕ) → x + 1 < 2 ^ 128 → (b : Bool) → x + (if b then 1 else 0) < 2 ^ 128
+      at-most x lt true = lt
+      at-most x lt false = omega arith
+
+  settled-kept : (s : LockStatus) → IsReason s → ((l : ℕ) → m l + locks_read l mine ≡ n l + 0) → Kept r ds (each_deed (λ x. Released x s) (permit_of mine) ++ ds) n m t (settled s mine t) None
+  settled-kept s reason count =
+      let es = each_deed (λ x. Released x s) (permit_of mine) ++ ds in
+      kept-by r ds es n m t _ None k (release ds n m t s mine k held-mine reason (λ q. omega (arith, count q))) (holds-none r es _)
+      (λ p q ne e. still-others r ds ds (λ x. Released x s) (permit_of mine) (λ x p gs. refl) holds.permit p q ne e e)
+      (λ q l ne. still-shown q l ds (λ x. Released x s) (permit_of mine) (λ x. refl))
+
+  gone-kept : ((l : ℕ) → m l + locks_read l mine ≡ n l + 0) → Kept r ds (each_deed LetGo (permit_of mine) ++ ds) n m t (let_go_by mine t) None
+  gone-kept count =
+      let es = each_deed LetGo (permit_of mine) ++ ds in
+      kept-by r ds es n m t _ None k (go ds n m t mine k held-mine (λ q. omega (arith, count q))) (holds-none r es _)
+      (λ p q ne e. still-others r ds ds LetGo (permit_of mine) (λ x p gs. refl) holds.permit p q ne e e)
+      (λ q l ne. still-shown q l ds LetGo (permit_of mine) (λ x. refl))
+
+  rest-kept : ((l : ℕ) → m l + locks_read l mine ≡ n l + locks_read l mine) → Kept r ds ds n m t t mine
+  rest-kept count = kept-by r ds ds n m t t mine k (same-count ds n m t t (λ q. omega (arith, count q)) (table.rests ds n t k)) holds (λ p q ne e. e) (λ q l ne. refl)
+
+-- tokens are published if a permit is held
+published-table : (ds : List Deed) (n : ℕ → ℕ) (t : Locks) (l : ℕ) (tokens : List ℕ) (c : Core) → IsTable ds n t → get t.cores l ≡ Some c → IsTable (Published l tokens ∷ ds) n (record t { cores = insert t.cores l (with_publication tokens c) })
+published-table ds n t l tokens c k is =
+    let new : Core = with_publication tokens c in
+    record {
+      unasked = k.unasked;
+      locks = table.changed-at t.cores (insert t.cores l new) t.age_timeout ds (Published l tokens ∷ ds) n n l (Some new) (get-set t.cores l new) k.locks (ap (option_map plain) (sym is) ∙ k.locks l) (λ q f. refl);
+      known = k.known;
+      over = k.over;
+      said = λ q d there.
+          elim (l == q) as (λ b. cond b (Some new) (get t.cores q) ≡ Some d → last_of d.publications ≡ (if b then tokens else publication q ds)) [
+            | true ↦ λ e. ap (λ x. last_of x.publications) (sym (some-same new d e)) ∙ last-with c.readers tokens c.publications
+            | false ↦ λ e. k.said q d e
+          ] (sym (get-set t.cores l new q) ∙ there);
+    }
+
+-- and shown to who waits on it
+published-others : (r : ℕ) (ds : List Deed) (n : ℕ → ℕ) (t : Locks) (l : ℕ) (tokens : List ℕ) (c : Core) → IsTable ds n t → get t.cores l ≡ Some c → OthersHold r ds (Published l tokens ∷ ds) n t (record t { cores = insert t.cores l (with_publication tokens c) })
+published-others r ds n t l tokens c k is q other ne old read =
+    let new : Core = with_publication tokens c in
+    record {
+      permit = λ x e. old.permit x e;
+      watch = λ rd d at there.
+          elim (l == rd.number) as (λ b. (l == rd.number) ≡ b → cond b (Some new) (get t.cores rd.number) ≡ Some d → IsWatch q rd.number (Published l tokens ∷ ds) rd.watch d) [
+            | true ↦ λ same e.
+                let here : l ≡ rd.number = eqb-true l rd.number same in
+                let stands : get t.cores rd.number ≡ Some c = ap (get t.cores) (sym here) ∙ is in
+                let lock = lock-at ds n t k rd.number c stands in
+                let readers : c.readers ≡ n rd.number = ap (λ x. x.readers) lock.same in
+                subst (λ x. IsWatch q rd.number (Published x tokens ∷ ds) rd.watch d) (sym here)
+                (watch-published q rd.number ds rd.watch tokens d c (omega (arith, readers, read rd at)) (ap (λ x. x.publications) (sym (some-same new d e))) (old.watch rd c at stands))
+            | false ↦ λ off e. watch-same q rd.number ds (Published l tokens ∷ ds) rd.watch d d (ap (λ b. if b then shown_more tokens (shown q rd.number ds) else shown q rd.number ds) off) refl (old.watch rd d at e)
+          ] refl (sym (get-set t.cores l new rd.number) ∙ there);
+    }
+
+published-kept : (r : ℕ) (ds : List Deed) (n m : ℕ → ℕ) (t : Locks) (p : Permit) (tokens : List ℕ) → IsTable ds n t → Holds r ds t (Some (Write p)) → ((l : ℕ) → m l + 0 ≡ n l + 0)
+    → Kept r ds (Published p.number tokens ∷ ds) n m t (published t p.number tokens) (Some (Write p))
+published-kept r ds n m t p tokens k holds count =
+    let l = p.number in
+    let es = Published l tokens ∷ ds in
+    let found = held-there ds n t k l (ap is_some (holds.permit l refl)) in
+    let v : Locks = record t { cores = insert t.cores l (with_publication tokens found.0) } in
+    let same : (q : ℕ) → n q ≡ m q = λ q. omega (arith, count q) in
+    subst (λ o. Kept r ds es n m t (record t { cores = changed (with_publication tokens) t.cores l o }) (Some (Write p))) (sym found.1) (record {
+      table = subst (λ f. IsTable es f v) (λ i q. same q i) (published-table ds n t l tokens found.0 k found.1);
+      age = refl;
+      mine = record { permit = λ x e. holds.permit x e; watch = λ rd c e. absurd (cc) };
+      others = published-others r ds n t l tokens found.0 k found.1;
+    })
+
+-- a read lock is polled, and waits on
+module _ (r : ℕ) (ds : List Deed) (n m : ℕ → ℕ) (t : Locks) (rd : Reader) (k : IsTable ds n t) (holds : Holds r ds t (Some (Read rd))) where
+  polled-stage : (at : ℕ) (fills : Option (List UnusableFill)) (c : Core) → get t.cores rd.number ≡ Some c → (s : PermitState) → answer_at s (watched c (watch_at c fills rd.watch)) ≡ Pending
+      → ((l : ℕ) → m l + locks_read l (Some (Read rd)) ≡ n l + locks_read l (Some (Read (reader_at s rd (watched c (watch_at c fills rd.watch))))))
+      → Kept r ds (Polled r ∷ ds) n m t t (Some (Read (reader_at s rd (watched c (watch_at c fills rd.watch)))))
+  polled-stage at fills c is stage.Over pending count = absurd (cc)
+  polled-stage at fills c is stage.Old pending count = absurd (cc)
+  polled-stage at fills c is stage.Held pending count =
+      let x : Watch = watched c (watch_at c fills rd.watch) in
+      let now : Reader = record rd { watch = Some x } in
+      kept-by r ds (Polled r ∷ ds) n m t t (Some (Read now)) k (same-count (Polled r ∷ ds) n m t t (λ q. omega (arith, count q)) (table.polls ds n t k r))
+      (record {
+        permit = λ p e. absurd (cc);
+        watch = λ rd' c' e there.
+            let same : c ≡ c' = some-same c c' (sym is ∙ ap (λ (y : Reader). get t.cores y.number) (read-same now rd' e) ∙ there) in
+            subst (λ y. IsWatch r rd'.number (Polled r ∷ ds) rd'.watch y) same
+            (subst (λ y. IsWatch r y.number (Polled r ∷ ds) y.watch c) (read-same now rd' e) (watch-polled ds c r rd.number fills rd.watch (k.said rd.number c is) (holds.watch rd c refl is)));
+      })
+      (λ p q ne e. e) (λ q l ne. ap (λ b. if b then shown_first (publication l ds) (shown q l ds) else shown q l ds) (other-number r q ne))
+
+  polled-kept : (at : ℕ) (fills : Option (List UnusableFill)) (o : Option Core) → get t.cores rd.number ≡ o → polled at fills rd.watch o ≡ Pending → ((l : ℕ) → m l + locks_read l (Some (Read rd)) ≡ n l + locks_read l (Some (Read (reader_polled at fills rd o))))
+      → Kept r ds (Polled r ∷ ds) n m t t (Some (Read (reader_polled at fills rd o)))
+  polled-kept at fills None is pending count = absurd (cc)
+  polled-kept at fills (Some c) is pending count = polled-stage at fills c is (permit_state at c) pending count
+
+  -- or finds its permit too old, and is let go
+  old-told : (o : Option UnusableFill) → is_old_result (told_or_pending o) ≡ false
+  old-told None = refl
+  old-told (Some f) = refl
+
+  old-stage : (s : PermitState) (w : Watch) → is_old_result (answer_at s w) ≡ true → is_old s ≡ true
+  old-stage stage.Over w e = absurd (cc)
+  old-stage stage.Old w e = refl
+  old-stage stage.Held w e = let no : false ≡ true = sym (old-told w.told) ∙ e in absurd (cc)
+
+  old-core : (at : ℕ) (fills : Option (List UnusableFill)) (o : Option Core) → is_old_result (polled at fills rd.watch o) ≡ true → is_old_at at o ≡ true
+  old-core at fills None e = absurd (cc)
+  old-core at fills (Some c) e = old-stage (permit_state at c) (watched c (watch_at c fills rd.watch)) e
+
+  aged-kept : (at : ℕ) (fills : Option (List UnusableFill)) → too_old_for t at (Some (Read rd)) fills ≡ true → ((l : ℕ) → m l + locks_read l (Some (Read rd)) ≡ n l + 0)
+      → Kept r ds (Aged rd.number ∷ ds) n m t (let_go_by (Some (Read rd)) (table_polled at (Some (Read rd)) t)) None
+  aged-kept at fills old count =
+      let es = Aged rd.number ∷ ds in
+      let v : Locks = table_polled at (Some (Read rd)) t in
+      let first = table.ages ds n t k rd.number at (old-core at fills (get t.cores rd.number) old) in
+      let second = table.leaves es n v first.table m rd (λ q. omega (arith, count q)) in
+      kept-by r ds es n m t _ None k (both es es n m t v _ first second) (holds-none r es _) (λ p q ne e. e) (λ q l ne. refl)
+
+-- ---- every move
+
+reversed-one : (f : ℕ → Deed) (o : Option ℕ) (ds : List Deed) → reverse (each_deed f o) ++ ds ≡ each_deed f o ++ ds
+reversed-one f None ds = refl
+reversed-one f (Some x) ds = refl
+
+pub reversed-two : (d : Deed) (f : ℕ → Deed) (o : Option ℕ) (ds : List Deed) → reverse (d ∷ each_deed f o) ++ ds ≡ each_deed f o ++ d ∷ ds
+reversed-two d f None ds = refl
+reversed-two d f (Some x) ds = refl
+
+moved-kept : (r : ℕ) (ds : List Deed) (n m : ℕ → ℕ) (t : Locks) (move : LockMove) (mine : Option Locked) → IsTable ds n t → Holds r ds t mine → MayMove move mine t → ((l : ℕ) → n l + 1 < 2 ^ 128)
+    → ((l : ℕ) → m l + locks_read l mine ≡ n l + locks_read l (held_moved move mine t)) → Kept r ds (reverse (deeds_moved move r mine t) ++ ds) n m t (table_moved move mine t) (held_moved move mine t)
+moved-kept r ds n m t rests mine k holds may few count = rest-kept r ds n m t mine k holds count
+moved-kept r ds n m t (asks slot stale at) mine k holds may few count =
+    subst (λ es. Kept r ds es n m t (let_go_by mine (after_request t slot stale at (holder t slot))) (Some (lock_given t stale (holder t slot)))) (sym (reversed-two (Asked r slot (number_of_lock (lock_given t stale (holder t slot))) (is_permit (lock_given t stale (holder t slot))) at) LetGo (permit_of mine) ds))
+    (asked-kept r ds n m t mine k holds slot stale at (holder t slot) refl few count)
+moved-kept r ds n m t (settles s) mine k holds may few count = subst (λ es. Kept r ds es n m t (settled s mine t) None) (sym (reversed-one (λ x. Released x s) (permit_of mine) ds)) (settled-kept r ds n m t mine k holds s may count)
+moved-kept r ds n m t lets_go mine k holds may few count = subst (λ es. Kept r ds es n m t (let_go_by mine t) None) (sym (reversed-one LetGo (permit_of mine) ds)) (gone-kept r ds n m t mine k holds count)
+moved-kept r ds n m t (publishes tokens) None k holds may few count = rest-kept r ds n m t None k holds count
+moved-kept r ds n m t (publishes tokens) (Some (Write p)) k holds may few count = published-kept r ds n m t p tokens k holds count
+moved-kept r ds n m t (publishes tokens) (Some (Read rd)) k holds may few count = rest-kept r ds n m t (Some (Read rd)) k holds count
+moved-kept r ds n m t (polls fills at) None k holds may few count = absurd may
+moved-kept r ds n m t (polls fills at) (Some (Write p)) k holds may few count = absurd may
+moved-kept r ds n m t (polls fills at) (Some (Read rd)) k holds may few count = polled-kept r ds n m t rd k holds at fills (get t.cores rd.number) refl may count
+moved-kept r ds n m t (ages fills at) None k holds may few count = absurd (cc)
+moved-kept r ds n m t (ages fills at) (Some (Write p)) k holds may few count = absurd (cc)
+moved-kept r ds n m t (ages fills at) (Some (Read rd)) k holds may few count = aged-kept r ds n m t rd k holds at fills may count
+
+module _ (ds : List Deed) (n n' : ℕ → ℕ) (r : ℕ) (mine last : Option Locked) (t u : Locks) (new : List Deed) (k : IsTable ds n t) (holds : Holds r ds t mine) (moves : MovesLocks r new mine t last u) (few : (l : ℕ) → n l + 1 < 2 ^ 128)
+    (count : (l : ℕ) → n' l + locks_read l mine ≡ n l + locks_read l last) where
+  all-kept : Kept r ds (reverse new ++ ds) n n' t u last
+  all-kept =
+      subst (λ done. Kept r ds (reverse done ++ ds) n n' t u last) (sym moves.done)
+      (subst (λ v. Kept r ds (reverse (deeds_moved moves.move r mine t) ++ ds) n n' t v last) (sym moves.table)
+      (subst (λ held. Kept r ds (reverse (deeds_moved moves.move r mine t) ++ ds) n n' t (table_moved moves.move mine t) held) (sym moves.held)
+      (moved-kept r ds n n' t moves.move mine k holds moves.may few (λ l. count l ∙ ap (λ held. n l + locks_read l held) moves.held))))
+
+  pub table-kept : IsTable (reverse new ++ ds) n' u
+  table-kept = all-kept.table
+
+  pub age-kept : u.age_timeout ≡ t.age_timeout
+  age-kept = all-kept.age
+
+  pub holds-kept : Holds r (reverse new ++ ds) u last
+  holds-kept = all-kept.mine
+
+  -- what another request holds, if its read lock is counted
+  pub others-hold : (q : ℕ) (other : Option Locked) → q ≢ r → Holds q ds t other → ((rd : Reader) → other ≡ Some (Read rd) → 0 < n rd.number) → Holds q (reverse new ++ ds) u other
+  others-hold = all-kept.others

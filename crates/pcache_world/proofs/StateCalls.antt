@@ -1,0 +1,14 @@
+-- The store right after a write began.
+use Rattle.std.proofs.Common.{◌≡◌, ℕ, cond, None, Some, ap, ◌∙◌}
+use Rattle.std.specs.FinMap.{get}
+use Rattle.pcache_meta.specs.Meta.{Meta, numbered}
+use Rattle.pcache_store.specs.Store.{Store, Part, begun, found_flying, find_write, new_write}
+use Rattle.pcache_history.proofs.Sums.{same-number}
+use Rattle.pcache_world.proofs.StateWrites.{get-set}
+
+-- the write that begins can be joined at once
+pub begun-joins : (s : Store) (k : ℕ) (m : Meta) → find_write (begun s k m) k (Some s.next) ≡ Some (numbered s.next m, Part s.next 0)
+begun-joins s k m =
+    let w = new_write k (numbered s.next m) in
+    ap (found_flying k s.next) (get-set s.writes s.next w s.next ∙ ap (λ b. cond b (Some w) (get s.writes s.next)) (same-number s.next))
+    ∙ ap (λ b. cond b (Some (numbered s.next m, Part s.next 0)) None) (same-number k)

@@ -1,0 +1,41 @@
+use Rattle.std.proofs.Common.{◌≡◌, Option, Some, refl, ap, subst, ◌∙◌, option_map}
+use Rattle.pcache_meta.specs.Meta.{Meta}
+use Rattle.pcache_request.specs.Requests.{Request}
+use Rattle.pcache_store.specs.Readers.{reader_of}
+use Rattle.pcache_store.specs.Store.{Reader}
+use Rattle.pcache_history.specs.Ongoing.{Ongoing}
+use Rattle.pcache_world.specs.Moved.{MovesStore}
+use Rattle.pcache_history.specs.Rules.{permit_of}
+use Rattle.pcache_world.specs.Step.{permit_in}
+use Rattle.pcache_history.specs.declared.entry.Event.TheVariants.{Release}
+use Rattle.pcache_world.proofs.MovesOf.{turns-quietly, quiet-noted}
+use Rattle.pcache_world.proofs.Noted.{permit-named}
+use Rattle.pcache_world.specs.Opens.{held_with}
+use Rattle.pcache_world.specs.LockMoves.{MovesLocks}
+use Rattle.pcache_history.specs.Deeds.{deeds_by}
+use Rattle.pcache_world.proofs.LockSteps.{settle-alone}
+use Rattle.pcache_world.proofs.Waiting.{status-reason}
+use Rattle.pcache_request.specs.Releasing.{status_for}
+use Rattle.pcache_lock.specs.declared.lock.status.LockStatus.TheVariants.{GiveUp}
+use Rattle.pcache_world.proofs.world.locks.uncacheable.Goals as goal
+
+pub returns-clause-moves : goal.returns-clause-moves
+returns-clause-moves c s =
+    let pair : Option (Meta × Reader) = option_map (λ p. (p.0, reader_of p.1)) c.request.inside.pair in
+    let r : Request = c.request.inside.cache in
+    let o = c.permit_in.result in
+    let old = c.args.events.now.items in
+    let all = c.note_release.new.events.items in
+    subst (λ (x : Ongoing). MovesStore (Some x) s all (Some (held_with c.request.inside.carried pair c.revalidate_uncacheable-released.new.self)) s) c.request.view_is
+    (turns-quietly (held_with c.request.inside.carried pair r) (held_with c.request.inside.carried pair c.revalidate_uncacheable-released.new.self) s all (quiet-noted Release o old all (λ n. tt) c.requires.none c.note_release.ensures.events)
+    refl (ap (λ (y : Request). y.reader) c.revalidate_uncacheable-released.ensures.request) (ap (λ (y : Request). y.write) c.revalidate_uncacheable-released.ensures.request))
+
+pub returns-clause-locks : goal.returns-clause-locks
+returns-clause-locks c n =
+    let r : Request = c.request.inside.cache in
+    let o = c.permit_in.result in
+    let old = c.args.events.now.items in
+    let all = c.note_release.new.events.items in
+    let permit : o ≡ permit_of r.held = c.permit_in.ensures ∙ ap permit_in c.revalidate_uncacheable-released.ensures.released ∙ permit-named r.held in
+    subst (λ (x : Ongoing). MovesLocks n (deeds_by n 0 (status_for (λ text. GiveUp) c.args.reason) all) x.request.held c.args.lock.now.table c.revalidate_uncacheable-released.new.self.held c.revalidate_uncacheable-released.new.lock.table) c.request.view_is
+    (settle-alone n 0 (status_for (λ text. GiveUp) c.args.reason) c.args.lock.now.table c.revalidate_uncacheable-released.new.lock.table r.held c.revalidate_uncacheable-released.new.self.held o old all (status-reason c.args.reason) permit c.requires.none c.note_release.ensures.events (ap (λ (y : Request). y.held) c.revalidate_uncacheable-released.ensures.request) c.revalidate_uncacheable-released.ensures.table)

@@ -1,0 +1,8 @@
+use Rattle.std.proofs.Common.{Some, subst}
+use Rattle.pcache_history.specs.Ongoing.{Ongoing, ongoing_put}
+use Rattle.pcache_world.specs.Moved.{MovesStore}
+use Rattle.pcache_history.specs.Taking.{taking}
+use Rattle.pcache_world.proofs.world.puts.feed.Goals as goal
+
+pub returns-clause-moves : goal.returns-clause-moves
+returns-clause-moves g c = subst (λ (x : Ongoing). MovesStore (Some x) c.args.store.now.state c.feed_in.new.events.items (Some (ongoing_put (taking c.feed_in.new.ctx))) c.feed_in.new.store.state) c.put.view_is c.feed_in.ensures.moves

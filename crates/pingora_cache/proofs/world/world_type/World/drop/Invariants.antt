@@ -1,5 +1,0 @@
-use Rattle.std.specs.BTreeMap.{btree_map_len}
-use Rattle.pingora_cache.proofs.world.world_type.World.drop.Given as goal
-
-abbrev pub decreases-loop-number : goal.decreases-loop-number
-decreases-loop-number g l = btree_map_len l.requests

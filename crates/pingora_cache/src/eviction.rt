@@ -1,8 +1,0 @@
-//! Eviction managers, and their files.
-
-pub use pcache_evict::eviction::{
-    CacheEntryId, CacheEntryKey, CacheEntryKeyRef, EvictionManager, sharded_lru, simple_lru,
-};
-pub use pcache_files as files;
-pub use pcache_files::device::{CountedRead, CountedWrite};
-pub use pcache_files::saved::SavedManager;
