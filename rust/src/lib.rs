@@ -42,6 +42,7 @@ mod decisions;
 mod error;
 mod manager;
 mod meta;
+mod put;
 mod raw;
 mod request;
 
@@ -50,6 +51,7 @@ pub use decisions::{Answer, Asked, Decision, NotStored, Outcome, Reuse, Terms};
 pub use error::Error;
 pub use manager::{EvictionManager, Key, Manager, SharedManager, Totals};
 pub use meta::{Answers, Head, Meta, Moment, Said, Servable};
+pub use put::{Put, PutOptions};
 pub use request::{Fill, Held, HitStatus, Looked, Phase, Read, Reason, Request, Stored, View, WaitEnd};
 
 /// A hash of 16 bytes.

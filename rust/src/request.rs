@@ -388,6 +388,20 @@ impl Request {
         Ok(Fill { request: self })
     }
 
+    // Adds bytes to the write, which are copied.
+    pub(crate) fn add(&mut self, bytes: &[u8], eof: bool) -> Result<(), Error> {
+        self.change(|cache, request| unsafe {
+            raw::pcache_request_write(cache, request, bytes.as_ptr(), bytes.len(), u32::from(eof))
+        })
+    }
+
+    // Stores the body that was written.
+    pub(crate) fn finish_write(&mut self) -> Result<Stored, Error> {
+        let (mut weight, mut evicted) = (0, 0);
+        self.change(|cache, request| unsafe { raw::pcache_request_finish(cache, request, &mut weight, &mut evicted) })?;
+        Ok(Stored { weight, evicted })
+    }
+
     /// Sets how many bytes the body that is filled has at most, and counts none so far. Nothing is refused by it: who sets it counts
     /// each piece before it is written ([`Request::count_body`]).
     ///
@@ -666,20 +680,16 @@ impl Fill<'_> {
     /// # Errors
     /// [`Error::NoMemory`].
     pub fn write(&mut self, bytes: impl AsRef<[u8]>) -> Result<(), Error> {
-        self.add(bytes.as_ref(), false)
+        self.request.add(bytes.as_ref(), false)
     }
 
     /// Adds the last bytes, and stores the body.
     ///
     /// # Errors
     /// [`Error::Removed`] if the key was purged since the write began, [`Error::NoMemory`]: the write is gone, and nothing is stored.
-    pub fn finish(mut self, last: impl AsRef<[u8]>) -> Result<Stored, Error> {
-        self.add(last.as_ref(), true)?;
-        let (mut weight, mut evicted) = (0, 0);
-        self.request.change(|cache, request| unsafe {
-            raw::pcache_request_finish(cache, request, &mut weight, &mut evicted)
-        })?;
-        Ok(Stored { weight, evicted })
+    pub fn finish(self, last: impl AsRef<[u8]>) -> Result<Stored, Error> {
+        self.request.add(last.as_ref(), true)?;
+        self.request.finish_write()
     }
 
     /// As [`Request::count_body`], for a piece that is about to be written.
@@ -696,11 +706,5 @@ impl Fill<'_> {
     /// None of this crate's making.
     pub fn exceeds_head(&mut self) -> Result<bool, Error> {
         self.request.exceeds_head()
-    }
-
-    fn add(&mut self, bytes: &[u8], eof: bool) -> Result<(), Error> {
-        self.request.change(|cache, request| unsafe {
-            raw::pcache_request_write(cache, request, bytes.as_ptr(), bytes.len(), u32::from(eof))
-        })
     }
 }
