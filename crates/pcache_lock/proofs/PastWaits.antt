@@ -26,7 +26,7 @@ gone : (cores : FinMap nat_cmp Core) (m n : ℕ) → get (remove cores m) n ≡ 
 gone cores m n = get-remove nat_cmp_total cores m n ∙ ap (λ b. cond b None (get cores n)) (unsigned_tied n m)
 
 -- a lock that is written back, or gone
-left_of : Core → Option Core
+abbrev pub left_of : Core → Option Core
 left_of d = cond (is_named d) (Some d) None
 
 kept-by : (b : Bool) (t : Locks) (m : ℕ) (d : Core) (n : ℕ) → get (cond b (record t { cores = insert t.cores m d }) (record t { cores = remove t.cores m; current = without_entry m d.slot t.current })).cores n ≡ cond (n == m) (cond b (Some d) None) (get t.cores n)
@@ -34,31 +34,28 @@ kept-by true t m d n = written t.cores m d n
 kept-by false t m d n = gone t.cores m n
 
 at-kept : (t : Locks) (m : ℕ) (d : Core) (n : ℕ) → get (kept t m d).cores n ≡ cond (n == m) (left_of d) (get t.cores n)
-unfolding left_of
 at-kept t m d n = kept-by (is_named d) t m d n
 
-same-by : (cores : FinMap nat_cmp Core) (m n : ℕ) (b : Bool) → (n == m) ≡ b → get cores n ≡ cond b (get cores m) (get cores n)
-same-by cores m n false e = refl
-same-by cores m n true e = ap (get cores) (let is : n ≡ m = grind (arith, nat_tests) in is)
+pub same_by : (cores : FinMap nat_cmp Core) (m n : ℕ) (b : Bool) → (n == m) ≡ b → get cores n ≡ cond b (get cores m) (get cores n)
+same_by cores m n false e = refl
+same_by cores m n true e = ap (get cores) (let is : n ≡ m = grind (arith, nat_tests) in is)
 
 unknown : (cores : FinMap nat_cmp Core) (m n : ℕ) → get cores m ≡ None → get cores n ≡ cond (n == m) None (get cores n)
-unknown cores m n e = same-by cores m n (n == m) refl ∙ ap (λ o. cond (n == m) o (get cores n)) e
+unknown cores m n e = same_by cores m n (n == m) refl ∙ ap (λ o. cond (n == m) o (get cores n)) e
 
-turned-by : (Core → Core) → Option Core → Option Core
-turned-by f None = None
-turned-by f (Some c) = Some (f c)
+abbrev pub turned_by : (Core → Core) → Option Core → Option Core
+turned_by f None = None
+turned_by f (Some c) = Some (f c)
 
-left-by : (Core → Core) → Option Core → Option Core
-left-by f None = None
-left-by f (Some c) = left_of (f c)
+abbrev pub left_by : (Core → Core) → Option Core → Option Core
+left_by f None = None
+left_by f (Some c) = left_of (f c)
 
-changed-at : (f : Core → Core) (cores : FinMap nat_cmp Core) (m n : ℕ) (o : Option Core) → get cores m ≡ o → get (changed f cores m o) n ≡ cond (n == m) (turned-by f o) (get cores n)
-unfolding turned-by
+changed-at : (f : Core → Core) (cores : FinMap nat_cmp Core) (m n : ℕ) (o : Option Core) → get cores m ≡ o → get (changed f cores m o) n ≡ cond (n == m) (turned_by f o) (get cores n)
 changed-at f cores m n None e = unknown cores m n e
 changed-at f cores m n (Some c) e = written cores m (f c) n
 
-read-at : (t : Locks) (m n : ℕ) (o : Option Core) → get t.cores m ≡ o → get (with_read_lock t m o).cores n ≡ cond (n == m) (turned-by with_reader o) (get t.cores n)
-unfolding turned-by
+read-at : (t : Locks) (m n : ℕ) (o : Option Core) → get t.cores m ≡ o → get (with_read_lock t m o).cores n ≡ cond (n == m) (turned_by with_reader o) (get t.cores n)
 read-at t m n None e = unknown t.cores m n e
 read-at t m n (Some c) e = written t.cores m (with_reader c) n
 
@@ -66,21 +63,18 @@ left-cores : (b : Bool) (t : Locks) (current : FinMap nat_cmp ℕ) (n : ℕ) →
 left-cores true t current n = refl
 left-cores false t current n = refl
 
-released-at : (t : Locks) (m : ℕ) (reason : LockStatus) (n : ℕ) (o : Option Core) → get t.cores m ≡ o → get (released_on t m reason o).cores n ≡ cond (n == m) (left-by (λ c. spent c (released_status reason c.status)) o) (get t.cores n)
-unfolding left-by
+released-at : (t : Locks) (m : ℕ) (reason : LockStatus) (n : ℕ) (o : Option Core) → get t.cores m ≡ o → get (released_on t m reason o).cores n ≡ cond (n == m) (left_by (λ c. spent c (released_status reason c.status)) o) (get t.cores n)
 released-at t m reason n None e = unknown t.cores m n e
 released-at t m reason n (Some c) e =
     let d : Core = spent c (released_status reason c.status) in
     at-kept (left t m c) m d n
     ∙ ap (cond (n == m) (left_of d)) (left-cores (is_aged c.status) t (without_entry m c.slot t.current) n)
 
-dropped-at : (t : Locks) (m n : ℕ) (o : Option Core) → get t.cores m ≡ o → get (permit_dropped t m o).cores n ≡ cond (n == m) (left-by (λ c. spent c (dropped_status c.status)) o) (get t.cores n)
-unfolding left-by
+dropped-at : (t : Locks) (m n : ℕ) (o : Option Core) → get t.cores m ≡ o → get (permit_dropped t m o).cores n ≡ cond (n == m) (left_by (λ c. spent c (dropped_status c.status)) o) (get t.cores n)
 dropped-at t m n None e = unknown t.cores m n e
 dropped-at t m n (Some c) e = at-kept t m (spent c (dropped_status c.status)) n
 
-unread-at : (t : Locks) (m n : ℕ) (o : Option Core) → get t.cores m ≡ o → get (reader_dropped t m o).cores n ≡ cond (n == m) (left-by without_reader o) (get t.cores n)
-unfolding left-by
+unread-at : (t : Locks) (m n : ℕ) (o : Option Core) → get t.cores m ≡ o → get (reader_dropped t m o).cores n ≡ cond (n == m) (left_by without_reader o) (get t.cores n)
 unread-at t m n None e = unknown t.cores m n e
 unread-at t m n (Some c) e = at-kept t m (without_reader c) n
 
@@ -89,27 +83,25 @@ aged-by stage.Over t m n c old = cc
 aged-by stage.Old t m n c old = written t.cores m (aged c) n
 aged-by stage.Held t m n c old = cc
 
-aged-at : (t : Locks) (now m n : ℕ) (o : Option Core) → get t.cores m ≡ o → is_old_at now o ≡ true → get (after_poll t now m o).cores n ≡ cond (n == m) (turned-by aged o) (get t.cores n)
-unfolding turned-by
+aged-at : (t : Locks) (now m n : ℕ) (o : Option Core) → get t.cores m ≡ o → is_old_at now o ≡ true → get (after_poll t now m o).cores n ≡ cond (n == m) (turned_by aged o) (get t.cores n)
 aged-at t now m n None e old = unknown t.cores m n e
 aged-at t now m n (Some c) e old = aged-by (permit_state now c) t m n c old
 
 -- what a deed makes of its lock
-turned : ℕ → Deed → Option Core → Option Core
+abbrev pub turned : ℕ → Deed → Option Core → Option Core
 turned age (Granted slot m stale now) o = Some (new_core (Some slot) age stale now)
-turned age (Joined slot m now) o = turned-by with_reader o
-turned age (Released m reason) o = left-by (λ c. spent c (released_status reason c.status)) o
-turned age (LetGo m) o = left-by (λ c. spent c (dropped_status c.status)) o
-turned age (Aged m now) o = turned-by aged o
-turned age (Left m) o = left-by without_reader o
+turned age (Joined slot m now) o = turned_by with_reader o
+turned age (Released m reason) o = left_by (λ c. spent c (released_status reason c.status)) o
+turned age (LetGo m) o = left_by (λ c. spent c (dropped_status c.status)) o
+turned age (Aged m now) o = turned_by aged o
+turned age (Left m) o = left_by without_reader o
 turned age (Polled m now) o = o
-turned age (Published m tokens) o = turned-by (with_publication tokens) o
+turned age (Published m tokens) o = turned_by (with_publication tokens) o
 turned age (Made m own stale now) o = Some (new_core None own stale now)
-turned age (ReadLocked m) o = turned-by with_reader o
-turned age (Unlocked m reason) o = turned-by (ended reason) o
+turned age (ReadLocked m) o = turned_by with_reader o
+turned age (Unlocked m reason) o = turned_by (ended reason) o
 
-turns : (deed : Deed) (s t : Locks) (n : ℕ) → Does deed s t → get t.cores n ≡ cond (n == number_of deed) (turned s.age_timeout deed (get s.cores (number_of deed))) (get s.cores n)
-unfolding turned
+pub turns : (deed : Deed) (s t : Locks) (n : ℕ) → Does deed s t → get t.cores n ≡ cond (n == number_of deed) (turned s.age_timeout deed (get s.cores (number_of deed))) (get s.cores n)
 turns (Granted slot m stale now) s t n h =
     let c : Core = new_core (Some slot) s.age_timeout stale now in
     ap (λ u. get u.cores n) h.2 ∙ written s.cores s.next c n ∙ ap (λ x. cond (n == x) (Some c) (get s.cores n)) (sym h.1)
@@ -118,7 +110,7 @@ turns (Released m reason) s t n h = ap (λ u. get u.cores n) h.1 ∙ released-at
 turns (LetGo m) s t n h = ap (λ u. get u.cores n) h ∙ dropped-at s m n (get s.cores m) refl
 turns (Aged m now) s t n h = ap (λ u. get u.cores n) h.1 ∙ aged-at s now m n (get s.cores m) refl h.0
 turns (Left m) s t n h = ap (λ u. get u.cores n) h ∙ unread-at s m n (get s.cores m) refl
-turns (Polled m now) s t n h = ap (λ u. get u.cores n) h.1 ∙ same-by s.cores m n (n == m) refl
+turns (Polled m now) s t n h = ap (λ u. get u.cores n) h.1 ∙ same_by s.cores m n (n == m) refl
 turns (Published m tokens) s t n h = ap (λ u. get u.cores n) h ∙ changed-at (with_publication tokens) s.cores m n (get s.cores m) refl
 turns (Made m own stale now) s t n h =
     let c : Core = new_core None own stale now in
@@ -126,9 +118,9 @@ turns (Made m own stale now) s t n h =
 turns (ReadLocked m) s t n h = ap (λ u. get u.cores n) h ∙ read-at s m n (get s.cores m) refl
 turns (Unlocked m reason) s t n h = ap (λ u. get u.cores n) h.1 ∙ changed-at (ended reason) s.cores m n (get s.cores m) refl
 
-own-by : {A B : Type 0} (f : A → B) (g : ℕ → A) (m n : ℕ) (y : B) (b : Bool) → (n == m) ≡ b → cond b (f (g m)) y ≡ cond b (f (g n)) y
-own-by f g m n y false e = refl
-own-by f g m n y true e = ap (λ k. f (g k)) (let is : m ≡ n = grind (arith, nat_tests) in is)
+pub own_by : {A B : Type 0} (f : A → B) (g : ℕ → A) (m n : ℕ) (y : B) (b : Bool) → (n == m) ≡ b → cond b (f (g m)) y ≡ cond b (f (g n)) y
+own_by f g m n y false e = refl
+own_by f g m n y true e = ap (λ k. f (g k)) (let is : m ≡ n = grind (arith, nat_tests) in is)
 
 -- The age at which permits are too old stays.
 pub age_read : (t : Locks) (m : ℕ) (o : Option Core) → (with_read_lock t m o).age_timeout ≡ t.age_timeout
@@ -179,12 +171,12 @@ age-then (Made m own stale now) s t h = ap (λ u. u.age_timeout) h.1
 age-then (ReadLocked m) s t h = ap (λ u. u.age_timeout) h ∙ age_read s m (get s.cores m)
 age-then (Unlocked m reason) s t h = ap (λ u. u.age_timeout) h.1
 
-age-said : (past : List Deed) (start age : ℕ) (t : Locks) → PastLeads past (no_locks_from start age) t → t.age_timeout ≡ age
+pub age-said : (past : List Deed) (start age : ℕ) (t : Locks) → PastLeads past (no_locks_from start age) t → t.age_timeout ≡ age
 age-said [] start age t h = ap (λ u. u.age_timeout) h
 age-said (deed ∷ past) start age t h = age-then deed h.0 t h.1.1 ∙ age-said past start age h.0 h.1.0
 
 -- What is known of a lock.
-abbrev Knows : Bool → LockStatus → ℕ × ℕ → Option Core → Type 0
+abbrev pub Knows : Bool → LockStatus → ℕ × ℕ → Option Core → Type 0
 Knows held s given None = held ≡ false
 Knows held s given (Some c) = (c.held ≡ held) × (c.status ≡ s) × ((c.start, c.age_timeout) ≡ given)
 
@@ -197,7 +189,6 @@ knows-left true d held s given e k = k
 knows-left false d held s given e k = sym k.0 ∙ unheld d.held _ e
 
 knows-by : (age : ℕ) (deed : Deed) (held : Bool) (s : LockStatus) (given : ℕ × ℕ) (o : Option Core) → Knows held s given o → Knows (held_by deed held) (status_by deed s) (given_by age deed given) (turned age deed o)
-unfolding turned turned-by left-by left_of
 knows-by age (Granted slot m stale now) held s given o k = (refl, refl, refl)
 knows-by age (Joined slot m now) held s given None k = k
 knows-by age (Joined slot m now) held s given (Some c) k = k
@@ -227,7 +218,7 @@ knows-cond : (b held0 held1 : Bool) (s0 s1 : LockStatus) (given0 given1 : ℕ ×
 knows-cond true held0 held1 s0 s1 given0 given1 o0 o1 k1 k0 = k1
 knows-cond false held0 held1 s0 s1 given0 given1 o0 o1 k1 k0 = k0
 
-knows : (past : List Deed) (start age : ℕ) (t : Locks) (n : ℕ) → PastLeads past (no_locks_from start age) t → Knows (is_held n past) (status_said n past) (given_at age n past) (get t.cores n)
+pub knows : (past : List Deed) (start age : ℕ) (t : Locks) (n : ℕ) → PastLeads past (no_locks_from start age) t → Knows (is_held n past) (status_said n past) (given_at age n past) (get t.cores n)
 knows [] start age t n h = subst (Knows false status.Waiting (0, 0)) (sym (ap (λ u. get u.cores n) h ∙ get-empty nat_cmp n)) refl
 knows (deed ∷ past) start age t n h =
     let m = number_of deed in
@@ -236,7 +227,7 @@ knows (deed ∷ past) start age t n h =
     let is : get t.cores n ≡ cond (n == m) (turned age deed (get s.cores n)) (get s.cores n) =
     turns deed s t n h.1.1
     ∙ ap (λ a. cond (n == m) (turned a deed (get s.cores m)) (get s.cores n)) (age-said past start age s h.1.0)
-    ∙ own-by (turned age deed) (get s.cores) m n (get s.cores n) (n == m) refl in
+    ∙ own_by (turned age deed) (get s.cores) m n (get s.cores n) (n == m) refl in
     subst (Knows (is_held n (deed ∷ past)) (status_said n (deed ∷ past)) (given_at age n (deed ∷ past))) (sym is)
     (knows-cond (n == m) (is_held n past) (held_by deed (is_held n past)) (status_said n past) (status_by deed (status_said n past)) (given_at age n past) (given_by age deed (given_at age n past)) (get s.cores n) (turned age deed (get s.cores n))
     (knows-by age deed (is_held n past) (status_said n past) (given_at age n past) (get s.cores n) before) before)
