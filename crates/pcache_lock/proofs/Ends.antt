@@ -19,7 +19,7 @@ use Rattle.pcache_lock.proofs.Calls.{reason_ends}
 use Rattle.pcache_lock.proofs.PastWaits.{turned, turned_by, left_by, turns, own_by}
 
 -- which permit waits after a deed, by what it makes of its lock
-kept-if : {A : Type 0} (b : Bool) {x y : A} → x ≡ y → cond b x y ≡ y
+pub kept-if : {A : Type 0} (b : Bool) {x y : A} → x ≡ y → cond b x y ≡ y
 kept-if true e = e
 kept-if false e = refl
 

@@ -9,13 +9,14 @@ use Rattle.pcache_lock.specs.declared.lock.outcome.PermitState.{PermitState}
 use Rattle.pcache_lock.specs.declared.lock.outcome.PermitState.TheVariants as stage
 use Rattle.pcache_lock.specs.declared.lock.status.LockStatus.{LockStatus}
 use Rattle.pcache_lock.specs.declared.lock.status.LockStatus.TheVariants as status
-use Rattle.pcache_lock.specs.Statuses.{is_aged}
+use Rattle.pcache_lock.specs.Statuses.{IsReason, is_aged, is_waiting}
 use Rattle.pcache_lock.specs.Permits.{Core, Watch, new_core, is_named, with_reader, without_reader, spent, released_status, dropped_status}
 use Rattle.pcache_lock.specs.Locks.{Locks, no_locks_from, with_read_lock, without_entry, kept, left, released_on, permit_dropped, reader_dropped, changed, ended}
 use Rattle.pcache_lock.specs.Waiting.{after_poll, polled, table_at, permit_state, answer_at, told_or_pending, watched, watch_at, aged, is_old, with_publication}
 use Rattle.pcache_lock.specs.Waits.{is_old_at}
 use Rattle.pcache_lock.specs.Deeds.{Deed, Granted, Joined, Released, LetGo, Aged, Left, Polled, Published, Made, ReadLocked, Unlocked}
-use Rattle.pcache_lock.specs.Past.{Does, PastLeads}
+use Rattle.pcache_lock.specs.Past.{Does, IsPastOf, PastLeads}
+use Rattle.pcache_lock.proofs.Calls.{reason_ends}
 use Rattle.pcache_lock.specs.PastWaits.{number_of, held_by, is_held, status_by, status_said, given_by, given_at, is_late, stage_by, ReturnsBy, EndsByPastAlways, StatusByPastAlways}
 
 -- Each deed turns its own lock alone.
@@ -158,7 +159,7 @@ pub age_polled : (t : Locks) (now m : ℕ) (o : Option Core) → (after_poll t n
 age_polled t now m None = refl
 age_polled t now m (Some c) = age-stage (permit_state now c) t m c
 
-age-then : (deed : Deed) (s t : Locks) → Does deed s t → t.age_timeout ≡ s.age_timeout
+pub age-then : (deed : Deed) (s t : Locks) → Does deed s t → t.age_timeout ≡ s.age_timeout
 age-then (Granted slot m stale now) s t h = ap (λ u. u.age_timeout) h.2
 age-then (Joined slot m now) s t h = ap (λ u. u.age_timeout) h.1 ∙ age_read s m (get s.cores m)
 age-then (Released m reason) s t h = ap (λ u. u.age_timeout) h.1 ∙ age_released s m reason (get s.cores m)
@@ -171,54 +172,61 @@ age-then (Made m own stale now) s t h = ap (λ u. u.age_timeout) h.1
 age-then (ReadLocked m) s t h = ap (λ u. u.age_timeout) h ∙ age_read s m (get s.cores m)
 age-then (Unlocked m reason) s t h = ap (λ u. u.age_timeout) h.1
 
-pub age-said : (past : List Deed) (start age : ℕ) (t : Locks) → PastLeads past (no_locks_from start age) t → t.age_timeout ≡ age
+age-said : (past : List Deed) (start age : ℕ) (t : Locks) → PastLeads past (no_locks_from start age) t → t.age_timeout ≡ age
 age-said [] start age t h = ap (λ u. u.age_timeout) h
 age-said (deed ∷ past) start age t h = age-then deed h.0 t h.1.1 ∙ age-said past start age h.0 h.1.0
 
 -- What is known of a lock.
 abbrev pub Knows : Bool → LockStatus → ℕ × ℕ → Option Core → Type 0
 Knows held s given None = held ≡ false
-Knows held s given (Some c) = (c.held ≡ held) × (c.status ≡ s) × ((c.start, c.age_timeout) ≡ given)
+Knows held s given (Some c) = (c.held ≡ held) × (c.status ≡ s) × ((c.start, c.age_timeout) ≡ given) × (held ≡ false → is_waiting s ≡ false)
 
 unheld : (a b : Bool) → (a || b) ≡ false → a ≡ false
 unheld true b e = e
 unheld false b e = refl
 
+release-ends : (reason s : LockStatus) → IsReason reason → is_waiting (released_status reason s) ≡ false
+release-ends reason s is = elim (is_aged s) as (λ b. is_waiting (cond b status.AgeTimeout reason) ≡ false) [ true ↦ refl | false ↦ reason_ends reason is ]
+
+drop-ends : (s : LockStatus) → is_waiting (dropped_status s) ≡ false
+drop-ends status.Waiting = refl
+drop-ends s = refl
+
 knows-left : (b : Bool) (d : Core) (held : Bool) (s : LockStatus) (given : ℕ × ℕ) → is_named d ≡ b → Knows held s given (Some d) → Knows held s given (cond b (Some d) None)
 knows-left true d held s given e k = k
 knows-left false d held s given e k = sym k.0 ∙ unheld d.held _ e
 
-knows-by : (age : ℕ) (deed : Deed) (held : Bool) (s : LockStatus) (given : ℕ × ℕ) (o : Option Core) → Knows held s given o → Knows (held_by deed held) (status_by deed s) (given_by age deed given) (turned age deed o)
-knows-by age (Granted slot m stale now) held s given o k = (refl, refl, refl)
-knows-by age (Joined slot m now) held s given None k = k
-knows-by age (Joined slot m now) held s given (Some c) k = k
-knows-by age (Released m reason) held s given None k = refl
-knows-by age (Released m reason) held s given (Some c) k =
+knows-by : (age : ℕ) (deed : Deed) (u t : Locks) → Does deed u t → (held : Bool) (s : LockStatus) (given : ℕ × ℕ) (o : Option Core) → Knows held s given o → Knows (held_by deed held) (status_by deed s) (given_by age deed given) (turned age deed o)
+knows-by age (Granted slot m stale now) u t h held s given o k = (refl, refl, refl, λ e. cc)
+knows-by age (Joined slot m now) u t h held s given None k = k
+knows-by age (Joined slot m now) u t h held s given (Some c) k = k
+knows-by age (Released m reason) u t h held s given None k = refl
+knows-by age (Released m reason) u t h held s given (Some c) k =
     let d : Core = spent c (released_status reason c.status) in
-    knows-left (is_named d) d false (released_status reason s) given refl (refl, ap (released_status reason) k.1, k.2)
-knows-by age (LetGo m) held s given None k = refl
-knows-by age (LetGo m) held s given (Some c) k =
+    knows-left (is_named d) d false (released_status reason s) given refl (refl, ap (released_status reason) k.1, k.2, λ _. release-ends reason s h.0)
+knows-by age (LetGo m) u t h held s given None k = refl
+knows-by age (LetGo m) u t h held s given (Some c) k =
     let d : Core = spent c (dropped_status c.status) in
-    knows-left (is_named d) d false (dropped_status s) given refl (refl, ap dropped_status k.1, k.2)
-knows-by age (Aged m now) held s given None k = k
-knows-by age (Aged m now) held s given (Some c) k = (k.0, refl, k.2)
-knows-by age (Left m) held s given None k = k
-knows-by age (Left m) held s given (Some c) k = knows-left (is_named (without_reader c)) (without_reader c) held s given refl k
-knows-by age (Polled m now) held s given o k = k
-knows-by age (Published m tokens) held s given None k = k
-knows-by age (Published m tokens) held s given (Some c) k = k
-knows-by age (Made m own stale now) held s given o k = (refl, refl, refl)
-knows-by age (ReadLocked m) held s given None k = k
-knows-by age (ReadLocked m) held s given (Some c) k = k
-knows-by age (Unlocked m reason) held s given None k = k
-knows-by age (Unlocked m reason) held s given (Some c) k = (k.0, refl, k.2)
+    knows-left (is_named d) d false (dropped_status s) given refl (refl, ap dropped_status k.1, k.2, λ _. drop-ends s)
+knows-by age (Aged m now) u t h held s given None k = k
+knows-by age (Aged m now) u t h held s given (Some c) k = (k.0, refl, k.2, λ _. refl)
+knows-by age (Left m) u t h held s given None k = k
+knows-by age (Left m) u t h held s given (Some c) k = knows-left (is_named (without_reader c)) (without_reader c) held s given refl k
+knows-by age (Polled m now) u t h held s given o k = k
+knows-by age (Published m tokens) u t h held s given None k = k
+knows-by age (Published m tokens) u t h held s given (Some c) k = k
+knows-by age (Made m own stale now) u t h held s given o k = (refl, refl, refl, λ e. cc)
+knows-by age (ReadLocked m) u t h held s given None k = k
+knows-by age (ReadLocked m) u t h held s given (Some c) k = k
+knows-by age (Unlocked m reason) u t h held s given None k = k
+knows-by age (Unlocked m reason) u t h held s given (Some c) k = (k.0, refl, k.2, λ _. reason_ends reason h.0)
 
 knows-cond : (b held0 held1 : Bool) (s0 s1 : LockStatus) (given0 given1 : ℕ × ℕ) (o0 o1 : Option Core) → Knows held1 s1 given1 o1 → Knows held0 s0 given0 o0
     → Knows (cond b held1 held0) (cond b s1 s0) (cond b given1 given0) (cond b o1 o0)
 knows-cond true held0 held1 s0 s1 given0 given1 o0 o1 k1 k0 = k1
 knows-cond false held0 held1 s0 s1 given0 given1 o0 o1 k1 k0 = k0
 
-pub knows : (past : List Deed) (start age : ℕ) (t : Locks) (n : ℕ) → PastLeads past (no_locks_from start age) t → Knows (is_held n past) (status_said n past) (given_at age n past) (get t.cores n)
+knows : (past : List Deed) (start age : ℕ) (t : Locks) (n : ℕ) → PastLeads past (no_locks_from start age) t → Knows (is_held n past) (status_said n past) (given_at age n past) (get t.cores n)
 knows [] start age t n h = subst (Knows false status.Waiting (0, 0)) (sym (ap (λ u. get u.cores n) h ∙ get-empty nat_cmp n)) refl
 knows (deed ∷ past) start age t n h =
     let m = number_of deed in
@@ -230,7 +238,7 @@ knows (deed ∷ past) start age t n h =
     ∙ own_by (turned age deed) (get s.cores) m n (get s.cores n) (n == m) refl in
     subst (Knows (is_held n (deed ∷ past)) (status_said n (deed ∷ past)) (given_at age n (deed ∷ past))) (sym is)
     (knows-cond (n == m) (is_held n past) (held_by deed (is_held n past)) (status_said n past) (status_by deed (status_said n past)) (given_at age n past) (given_by age deed (given_at age n past)) (get s.cores n) (turned age deed (get s.cores n))
-    (knows-by age deed (is_held n past) (status_said n past) (given_at age n past) (get s.cores n) before) before)
+    (knows-by age deed s t h.1.1 (is_held n past) (status_said n past) (given_at age n past) (get s.cores n) before) before)
 
 -- What a poll returns.
 returns-held : (o : Option UnusableFill) → ReturnsBy stage.Held (told_or_pending o)
@@ -242,22 +250,22 @@ returns-stage stage.Over w = refl
 returns-stage stage.Old w = refl
 returns-stage stage.Held w = returns-held w.told
 
-returns-known : (now : ℕ) (fills : Option (List UnusableFill)) (w : Option Watch) (held : Bool) (s : LockStatus) (given : ℕ × ℕ) (o : Option Core) → Knows held s given o → ReturnsBy (stage_by held s (is_late now given)) (polled now fills w o)
-returns-known now fills w held s given None k = subst (λ b. ReturnsBy (stage_by b s (is_late now given)) (polled now fills w None)) (sym k) refl
-returns-known now fills w held s given (Some c) k =
-    let same : permit_state now c ≡ stage_by held s (is_late now given) =
+-- the stage of a permit is the one that the past says
+pub stage-is : (now : ℕ) (held : Bool) (s : LockStatus) (given : ℕ × ℕ) (c : Core) → Knows held s given (Some c) → permit_state now c ≡ stage_by held s (is_late now given)
+stage-is now held s given c k =
     ap (λ b. stage_by b c.status (is_late now (c.start, c.age_timeout))) k.0
     ∙ ap (λ x. stage_by held x (is_late now (c.start, c.age_timeout))) k.1
-    ∙ ap (λ g. stage_by held s (is_late now g)) k.2 in
-    subst (λ x. ReturnsBy x (polled now fills w (Some c))) same (returns-stage (permit_state now c) (watched c (watch_at c fills w)))
+    ∙ ap (λ g. stage_by held s (is_late now g)) k.2
+
+returns-known : (now : ℕ) (fills : Option (List UnusableFill)) (w : Option Watch) (held : Bool) (s : LockStatus) (given : ℕ × ℕ) (o : Option Core) → Knows held s given o → ReturnsBy (stage_by held s (is_late now given)) (polled now fills w o)
+returns-known now fills w held s given None k = subst (λ b. ReturnsBy (stage_by b s (is_late now given)) (polled now fills w None)) (sym k) refl
+returns-known now fills w held s given (Some c) k = subst (λ x. ReturnsBy x (polled now fills w (Some c))) (stage-is now held s given c k) (returns-stage (permit_state now c) (watched c (watch_at c fills w)))
+
+pub known-by : (t : Locks) (past : List Deed) → IsPastOf t past → (n : ℕ) → Knows (is_held n past) (status_said n past) (given_at t.age_timeout n past) (get t.cores n)
+known-by t past is n = subst (λ a. Knows (is_held n past) (status_said n past) (given_at a n past) (get t.cores n)) (sym (age-said past is.0 is.1.0 t is.1.1)) (knows past is.0 is.1.0 t n is.1.1)
 
 pub ends_by_past : EndsByPastAlways
-ends_by_past t past is now n fills w =
-    let k = knows past is.0 is.1.0 t n is.1.1 in
-    let k-own = subst (λ a. Knows (is_held n past) (status_said n past) (given_at a n past) (get t.cores n)) (sym (age-said past is.0 is.1.0 t is.1.1)) k in
-    returns-known now fills w (is_held n past) (status_said n past) (given_at t.age_timeout n past) (get t.cores n) k-own
+ends_by_past t past is now n fills w = returns-known now fills w (is_held n past) (status_said n past) (given_at t.age_timeout n past) (get t.cores n) (known-by t past is n)
 
 pub status_by_past : StatusByPastAlways
-status_by_past t past is n c at =
-    let k = subst (Knows (is_held n past) (status_said n past) (given_at is.1.0 n past)) at (knows past is.0 is.1.0 t n is.1.1) in
-    k.1
+status_by_past t past is n c at = (subst (Knows (is_held n past) (status_said n past) (given_at t.age_timeout n past)) at (known-by t past is n)).1
