@@ -1,19 +1,20 @@
--- Every call leads from a tidy table to a tidy one.
-use Rattle.std.proofs.Common.{◌≡◌, ℕ, Bool, true, false, ◌&&◌, ◌||◌, Option, None, Some, List, [], ◌∷◌, cond, refl, sym, ◌∙◌, ap, subst, inl, inr, ◌⊎◌, arith}
+-- Every deed leads from a tidy table to a tidy one.
+use Rattle.std.proofs.Common.{◌≡◌, ℕ, Bool, true, false, ◌&&◌, ◌||◌, Option, None, Some, List, [], ◌∷◌, cond, refl, sym, ◌∙◌, ap, subst, arith}
 use Rattle.std.specs.List.{list_any}
 use Rattle.std.specs.Ordering.{nat_cmp, eq_by_cmp}
 use Rattle.std.specs.FinMap.{get, insert, remove, get-empty}
 use Rattle.pcache_lock.specs.declared.lock.outcome.PermitState.{PermitState}
 use Rattle.pcache_lock.specs.declared.lock.outcome.PermitState.TheVariants as stage
-use Rattle.pcache_lock.specs.declared.lock.permit.Locked.{Locked}
-use Rattle.pcache_lock.specs.declared.lock.permit.Locked.TheVariants.{Write, Read}
 use Rattle.pcache_lock.specs.declared.lock.status.LockStatus.{LockStatus}
 use Rattle.pcache_lock.specs.declared.lock.status.LockStatus.TheVariants as status
 use Rattle.pcache_lock.specs.Statuses.{IsReason, is_free, is_waiting, is_aged}
 use Rattle.pcache_lock.specs.Permits.{Core, new_core, is_named, with_reader, without_reader, spent, dropped_status}
-use Rattle.pcache_lock.specs.Locks.{Locks, no_locks, no_locks_from, holder, after_request, with_read_lock, without_entry, kept, released_on, let_go, permit_dropped, reader_dropped, changed, ended, with_free_permit}
+use Rattle.pcache_lock.specs.Locks.{Locks, no_locks_from, with_read_lock, without_entry, kept, released_on, permit_dropped, reader_dropped, changed, ended, with_free_permit}
 use Rattle.pcache_lock.specs.Waiting.{after_poll, table_at, permit_state, aged, with_publication}
-use Rattle.pcache_lock.specs.Waits.{Call, Asked, Released, LetGo, Polled, Published, Made, ReadLocked, Unlocked, is_unlock, Leads, LeadsAll, OneWaitsAlways, AskFindsTheWaitingAlways, waiting_slot, waits_under}
+use Rattle.pcache_lock.specs.Waits.{waiting_slot, waits_under}
+use Rattle.pcache_lock.specs.Deeds.{Deed, Granted, Joined, Released, LetGo, Aged, Left, Polled, Published, Made, ReadLocked, Unlocked}
+use Rattle.pcache_lock.specs.Past.{Does, PastLeads}
+use Rattle.pcache_lock.specs.PastLaws.{is_unlocking, OneWaitsAlways, AskFindsTheWaitingAlways}
 use Rattle.pcache_lock.proofs.Tidy.{Tidy, Stands, is_open, or_kept, put_tidy, left_tidy, none_some, asked_tidy, found, asked_waits}
 use Rattle.pcache_table.proofs.Sharded.{by_test, get-insert-at, get-insert-off, get-remove-at, get-remove-off}
 
@@ -64,9 +65,6 @@ module _ (unlocks : Bool) where
     unused = λ n le. get-empty nat_cmp n;
   }
 
-  pub start_tidy : (age : ℕ) → Tidy unlocks (no_locks age)
-  start_tidy age = start_tidy_from 0 age
-
   -- a lock written back, or gone with its entry
   kept_by : (b : Bool) (t : Locks) (n : ℕ) (c d : Core) → get t.cores n ≡ Some c → d.slot ≡ c.slot → ((unlocks || is_open c) ≡ true → (unlocks || is_open d) ≡ true) → ((d.held && is_waiting d.status) ≡ true → (c.held && is_waiting c.status) ≡ true) → Tidy unlocks t
       → Tidy unlocks (cond b (record t { cores = insert t.cores n d }) (record t { cores = remove t.cores n; current = without_entry n d.slot t.current }))
@@ -81,10 +79,6 @@ module _ (unlocks : Bool) where
   read_tidy t n None is tidy = tidy
   read_tidy t n (Some c) is tidy = put_tidy unlocks t n c (with_reader c) is refl (λ h. h) (λ h. h) tidy
 
-  request_tidy : (t : Locks) (k : ℕ) (stale : Bool) (now : ℕ) (o : Option ℕ) → holder t k ≡ o → Tidy unlocks t → Tidy unlocks (after_request t k stale now o)
-  request_tidy t k stale now None is tidy = asked_tidy unlocks t k stale now is tidy
-  request_tidy t k stale now (Some n) is tidy = read_tidy t n (get t.cores n) refl tidy
-
   drop_tidy : (t : Locks) (n : ℕ) (o : Option Core) → get t.cores n ≡ o → Tidy unlocks t → Tidy unlocks (permit_dropped t n o)
   drop_tidy t n None is tidy = tidy
   drop_tidy t n (Some c) is tidy = kept_tidy t n c (spent c (dropped_status c.status)) is refl (or_kept unlocks (is_open c) (is_open (spent c (dropped_status c.status))) (λ h. drop_open c.held c.status h)) (λ h. never h) tidy
@@ -92,10 +86,6 @@ module _ (unlocks : Bool) where
   unread_tidy : (t : Locks) (n : ℕ) (o : Option Core) → get t.cores n ≡ o → Tidy unlocks t → Tidy unlocks (reader_dropped t n o)
   unread_tidy t n None is tidy = tidy
   unread_tidy t n (Some c) is tidy = kept_tidy t n c (without_reader c) is refl (λ h. h) (λ h. h) tidy
-
-  let_go_tidy : (t : Locks) (l : Locked) → Tidy unlocks t → Tidy unlocks (let_go t l)
-  let_go_tidy t (Write p) tidy = drop_tidy t p.number (get t.cores p.number) refl tidy
-  let_go_tidy t (Read r) tidy = unread_tidy t r.number (get t.cores r.number) refl tidy
 
   -- a permit released: its entry goes first
   left_by : (b : Bool) (t : Locks) (n : ℕ) (c d : Core) → get t.cores n ≡ Some c → d.slot ≡ c.slot → d.held ≡ false → Tidy unlocks t
@@ -159,32 +149,34 @@ module _ (unlocks : Bool) where
       put_tidy unlocks t n c (ended reason c) is refl (λ _. ap (λ b. b || is_open (ended reason c)) allowed)
       (λ h. not_both c.held (ap (λ b. c.held && b) (sym (reason_ends reason r)) ∙ h)) tidy
 
-  either : {s t u : Locks} → (t ≡ s) ⊎ (t ≡ u) → Tidy unlocks s → Tidy unlocks u → Tidy unlocks t
-  either (inl e) a b = subst (Tidy unlocks) (sym e) a
-  either (inr e) a b = subst (Tidy unlocks) (sym e) b
+  pub deed_tidy : (deed : Deed) (s t : Locks) → Does deed s t → (is_unlocking deed ≡ true → unlocks ≡ true) → Tidy unlocks s → Tidy unlocks t
+  deed_tidy (Granted slot n stale now) s t h _ tidy = subst (Tidy unlocks) (sym h.2) (asked_tidy unlocks s slot stale now h.0 tidy)
+  deed_tidy (Joined slot n now) s t h _ tidy = subst (Tidy unlocks) (sym h.1) (read_tidy s n (get s.cores n) refl tidy)
+  deed_tidy (Released n reason) s t h _ tidy = subst (Tidy unlocks) (sym h.1) (release_tidy s n reason (get s.cores n) refl tidy)
+  deed_tidy (LetGo n) s t h _ tidy = subst (Tidy unlocks) (sym h) (drop_tidy s n (get s.cores n) refl tidy)
+  deed_tidy (Aged n now) s t h _ tidy = subst (Tidy unlocks) (sym h.1) (poll_tidy s now n (get s.cores n) refl tidy)
+  deed_tidy (Left n) s t h _ tidy = subst (Tidy unlocks) (sym h) (unread_tidy s n (get s.cores n) refl tidy)
+  deed_tidy (Polled n now) s t h _ tidy = subst (Tidy unlocks) (sym h.1) tidy
+  deed_tidy (Published n tokens) s t h _ tidy = subst (Tidy unlocks) (sym h) (publish_tidy s n tokens (get s.cores n) refl tidy)
+  deed_tidy (Made n age stale now) s t h _ tidy = subst (Tidy unlocks) (sym h.1) (made_tidy s age stale now tidy)
+  deed_tidy (ReadLocked n) s t h _ tidy = subst (Tidy unlocks) (sym h) (read_tidy s n (get s.cores n) refl tidy)
+  deed_tidy (Unlocked n reason) s t h may tidy = subst (Tidy unlocks) (sym h.1) (unlock_tidy s n reason (get s.cores n) refl h.0 (may refl) tidy)
 
-  pub call_tidy : (call : Call) (s t : Locks) → Leads call s t → (is_unlock call ≡ true → unlocks ≡ true) → Tidy unlocks s → Tidy unlocks t
-  call_tidy (Asked slot stale now) s t h _ tidy = either h tidy (request_tidy s slot stale now (holder s slot) refl tidy)
-  call_tidy (Released n reason) s t h _ tidy = subst (Tidy unlocks) (sym h.1) (release_tidy s n reason (get s.cores n) refl tidy)
-  call_tidy (LetGo l) s t h _ tidy = subst (Tidy unlocks) (sym h) (let_go_tidy s l tidy)
-  call_tidy (Polled n now) s t h _ tidy = either h tidy (poll_tidy s now n (get s.cores n) refl tidy)
-  call_tidy (Published n tokens) s t h _ tidy = either h tidy (publish_tidy s n tokens (get s.cores n) refl tidy)
-  call_tidy (Made age stale now) s t h _ tidy = either h tidy (made_tidy s age stale now tidy)
-  call_tidy (ReadLocked n) s t h _ tidy = subst (Tidy unlocks) (sym h) (read_tidy s n (get s.cores n) refl tidy)
-  call_tidy (Unlocked n reason) s t h may tidy = subst (Tidy unlocks) (sym h.1) (unlock_tidy s n reason (get s.cores n) refl h.0 (may refl) tidy)
+  pub past_tidy : (past : List Deed) (s t : Locks) → PastLeads past s t → (list_any is_unlocking past ≡ true → unlocks ≡ true) → Tidy unlocks s → Tidy unlocks t
+  past_tidy [] s t h may tidy = subst (Tidy unlocks) (sym h) tidy
+  past_tidy (deed ∷ before) s t h may tidy =
+      deed_tidy deed h.0 t h.1.1 (λ e. may (or_first (is_unlocking deed) (list_any is_unlocking before) e)) (past_tidy before s h.0 h.1.0 (λ e. may (or_second (is_unlocking deed) (list_any is_unlocking before) e)) tidy)
 
-  pub calls_tidy : (calls : List Call) (s t : Locks) → LeadsAll calls s t → (list_any is_unlock calls ≡ true → unlocks ≡ true) → Tidy unlocks s → Tidy unlocks t
-  calls_tidy [] s t h may tidy = subst (Tidy unlocks) (sym h) tidy
-  calls_tidy (call ∷ calls) s t (m, h) may tidy =
-      calls_tidy calls m t h.1 (λ e. may (or_second (is_unlock call) (list_any is_unlock calls) e)) (call_tidy call s m h.0 (λ e. may (or_first (is_unlock call) (list_any is_unlock calls) e)) tidy)
+pub any_tidy : (past : List Deed) (start age : ℕ) (t : Locks) → PastLeads past (no_locks_from start age) t → Tidy true t
+any_tidy past start age t h = past_tidy true past (no_locks_from start age) t h (λ _. refl) (start_tidy_from true start age)
 
 pub one_waits : OneWaitsAlways
-one_waits age calls t h slot n m a b =
-    let tidy = calls_tidy true calls (no_locks age) t h (λ _. refl) (start_tidy true age) in
+one_waits t past is slot n m a b =
+    let tidy = any_tidy past is.0 is.1.0 t is.1.1 in
     let e : Some n ≡ Some m = sym (tidy.waiting slot n a) ∙ tidy.waiting slot m b in
     cc e
 
 pub finds_the_waiting : AskFindsTheWaitingAlways
-finds_the_waiting age calls t h none slot n =
-    let tidy = calls_tidy false calls (no_locks age) t h (λ e. sym none ∙ e) (start_tidy false age) in
+finds_the_waiting t past is none slot n =
+    let tidy = past_tidy false past (no_locks_from is.0 is.1.0) t is.1.1 (λ e. sym none ∙ e) (start_tidy_from false is.0 is.1.0) in
     (λ a. asked_waits t tidy slot n a, λ b. found false t tidy slot n b)

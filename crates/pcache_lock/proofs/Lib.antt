@@ -8,3 +8,4 @@ pub mod Past
 pub mod PastLaws
 pub mod PastWaits
 mod Walks
+pub mod Kept

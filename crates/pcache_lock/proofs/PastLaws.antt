@@ -1,114 +1,34 @@
 -- The laws of each table's past, by induction over the past.
-use Rattle.std.proofs.Common.{◌≡◌, ◌==◌, ℕ, Bool, true, false, ◌&&◌, ◌||◌, ◌++◌, ◌↔◌, Option, None, Some, List, [], ◌∷◌, cond, inl, inr, refl, sym, ◌∙◌, ap, subst, arith}
+use Rattle.std.proofs.Common.{◌≡◌, ◌==◌, ℕ, Bool, true, false, ◌||◌, ◌++◌, ◌↔◌, Option, None, Some, List, [], ◌∷◌, cond, refl, sym, ◌∙◌, ap, subst, arith}
 use Rattle.std.specs.Prelude.{unwrap_or}
 use Rattle.std.specs.List.{list_any}
 use Rattle.std.specs.Ordering.{nat_cmp}
 use Rattle.std.specs.FinMap.{get-empty}
 use Rattle.std.proofs.lemmas.Bool.Decides.{nat_tests}
-use Rattle.pcache_lock.specs.declared.lock.permit.Locked.TheVariants.{Write, Read}
-use Rattle.pcache_lock.specs.Locks.{Locks, no_locks_from, holder, after_request, lock_given}
-use Rattle.pcache_lock.specs.Waits.{Call, Leads, is_unlock, waits_under, waiting_slot}
-use Rattle.pcache_lock.specs.Waits as call
+use Rattle.pcache_lock.specs.Locks.{Locks, no_locks_from, holder, lock_given}
+use Rattle.pcache_lock.specs.Waits.{waits_under, waiting_slot}
 use Rattle.pcache_lock.specs.Deeds.{Deed, Granted, Joined, Released, LetGo, Aged, Left, Polled, Published, Made, ReadLocked, Unlocked}
 use Rattle.pcache_lock.specs.Past.{Does, PastLeads}
 use Rattle.pcache_lock.specs.PastLaws.{waits_after, waits_for, Gets, IsGiven, AllGiven, is_unlocking, UnlocksNone, grant_of, ends, GivesByPastAlways, AllGivenAlways, AtMostOneWaitsAlways, OneFetchAtATimeAlways}
 use Rattle.pcache_lock.proofs.Tidy.{Tidy, none_some, asked_waits, found}
-use Rattle.pcache_lock.proofs.Calls.{start_tidy_from, call_tidy, or_first, or_second}
+use Rattle.pcache_lock.proofs.Calls.{start_tidy_from, past_tidy, any_tidy}
 use Rattle.pcache_lock.proofs.Ends.{waits_until_its_end}
 
--- A deed is a call, which keeps a table tidy.
-call_of : Deed → Call
-call_of (Granted slot m stale now) = call.Asked slot stale now
-call_of (Joined slot m now) = call.Asked slot false now
-call_of (Released m reason) = call.Released m reason
-call_of (LetGo m) = call.LetGo (Write (record { number = m; stale_writer = false }))
-call_of (Aged m now) = call.Polled m now
-call_of (Left m) = call.LetGo (Read (record { number = m; watch = None }))
-call_of (Polled m now) = call.Polled m now
-call_of (Published m tokens) = call.Published m tokens
-call_of (Made m age stale now) = call.Made age stale now
-call_of (ReadLocked m) = call.ReadLocked m
-call_of (Unlocked m reason) = call.Unlocked m reason
-
-leads : (deed : Deed) (s t : Locks) → Does deed s t → Leads (call_of deed) s t
-unfolding call_of
-leads (Granted slot m stale now) s t h = inr (h.2 ∙ ap (after_request s slot stale now) (sym h.0))
-leads (Joined slot m now) s t h = inr (h.1 ∙ ap (after_request s slot false now) (sym h.0))
-leads (Released m reason) s t h = h
-leads (LetGo m) s t h = h
-leads (Aged m now) s t h = inr h.1
-leads (Left m) s t h = h
-leads (Polled m now) s t h = inl h.1
-leads (Published m tokens) s t h = inr h
-leads (Made m age stale now) s t h = inr h.1
-leads (ReadLocked m) s t h = h
-leads (Unlocked m reason) s t h = h
-
-unlocks-as : (deed : Deed) → is_unlocking deed ≡ is_unlock (call_of deed)
-unfolding call_of
-unlocks-as (Granted slot m stale now) = refl
-unlocks-as (Joined slot m now) = refl
-unlocks-as (Released m reason) = refl
-unlocks-as (LetGo m) = refl
-unlocks-as (Aged m now) = refl
-unlocks-as (Left m) = refl
-unlocks-as (Polled m now) = refl
-unlocks-as (Published m tokens) = refl
-unlocks-as (Made m age stale now) = refl
-unlocks-as (ReadLocked m) = refl
-unlocks-as (Unlocked m reason) = refl
-
-past-tidy : (unlocks : Bool) (past : List Deed) (s t : Locks) → PastLeads past s t → (list_any is_unlocking past ≡ true → unlocks ≡ true) → Tidy unlocks s → Tidy unlocks t
-past-tidy unlocks [] s t h may tidy = subst (Tidy unlocks) (sym h) tidy
-past-tidy unlocks (deed ∷ before) s t h may tidy =
-    call_tidy unlocks (call_of deed) h.0 t (leads deed h.0 t h.1.1) (λ e. may (or_first (is_unlocking deed) (list_any is_unlocking before) (unlocks-as deed ∙ e)))
-    (past-tidy unlocks before s h.0 h.1.0 (λ e. may (or_second (is_unlocking deed) (list_any is_unlocking before) e)) tidy)
-
-any-tidy : (past : List Deed) (start age : ℕ) (t : Locks) → PastLeads past (no_locks_from start age) t → Tidy true t
-any-tidy past start age t h = past-tidy true past (no_locks_from start age) t h (λ _. refl) (start_tidy_from true start age)
-
 -- The permits that wait are those that wait by the past.
-and-true : (b : Bool) → (b && true) ≡ b
-and-true true = refl
-and-true false = refl
-
-waits-then : (deed : Deed) (s t : Locks) (n : ℕ) → Does deed s t → waits_under t n ≡ waits_after n deed (waits_under s n)
-waits-then (Granted slot m stale now) s t n h =
-    ap (λ u. waits_under u n) h.2
-    ∙ waits_until_its_end.asking s slot stale now n
-    ∙ ap (λ x. cond (n == x) (Some slot) (waits_under s n)) (sym h.1)
-waits-then (Joined slot m now) s t n h = ap (λ u. waits_under u n) h.1 ∙ waits_until_its_end.joining s slot false now m n
-waits-then (Released m reason) s t n h = ap (λ u. waits_under u n) h.1 ∙ waits_until_its_end.releasing s m reason n
-waits-then (LetGo m) s t n h = ap (λ u. waits_under u n) h ∙ waits_until_its_end.letting_go s (record { number = m; stale_writer = false }) n
-waits-then (Aged m now) s t n h =
-    ap (λ u. waits_under u n) h.1
-    ∙ waits_until_its_end.polling s now m n
-    ∙ ap (λ b. cond ((n == m) && b) None (waits_under s n)) h.0
-    ∙ ap (λ b. cond b None (waits_under s n)) (and-true (n == m))
-waits-then (Left m) s t n h = ap (λ u. waits_under u n) h ∙ waits_until_its_end.leaving s (record { number = m; watch = None }) n
-waits-then (Polled m now) s t n h = ap (λ u. waits_under u n) h.1
-waits-then (Published m tokens) s t n h = ap (λ u. waits_under u n) h ∙ waits_until_its_end.publishing s m tokens n
-waits-then (Made m age stale now) s t n h =
-    ap (λ u. waits_under u n) h.1
-    ∙ waits_until_its_end.making s age stale now n
-    ∙ ap (λ x. cond (n == x) None (waits_under s n)) (sym h.0)
-waits-then (ReadLocked m) s t n h = ap (λ u. waits_under u n) h ∙ waits_until_its_end.reading s m n
-waits-then (Unlocked m reason) s t n h = ap (λ u. waits_under u n) h.1 ∙ waits_until_its_end.unlocking s m reason n h.0
-
-waits-said : (past : List Deed) (start age : ℕ) (t : Locks) (n : ℕ) → PastLeads past (no_locks_from start age) t → waits_under t n ≡ waits_for n past
+pub waits-said : (past : List Deed) (start age : ℕ) (t : Locks) (n : ℕ) → PastLeads past (no_locks_from start age) t → waits_under t n ≡ waits_for n past
 waits-said [] start age t n h = ap (λ u. waits_under u n) h ∙ ap waiting_slot (get-empty nat_cmp n)
-waits-said (deed ∷ past) start age t n h = waits-then deed h.0 t n h.1.1 ∙ ap (waits_after n deed) (waits-said past start age h.0 n h.1.0)
+waits-said (deed ∷ past) start age t n h = waits_until_its_end deed h.0 t n h.1.1 ∙ ap (waits_after n deed) (waits-said past start age h.0 n h.1.0)
 
 pub at_most_one : AtMostOneWaitsAlways
 at_most_one t past is slot n m a b =
-    let tidy = any-tidy past is.0 is.1.0 t is.1.1 in
+    let tidy = any_tidy past is.0 is.1.0 t is.1.1 in
     let e : Some n ≡ Some m = sym (tidy.waiting slot n (waits-said past is.0 is.1.0 t n is.1.1 ∙ a)) ∙ tidy.waiting slot m (waits-said past is.0 is.1.0 t m is.1.1 ∙ b) in
     cc e
 
 -- What a request is given.
 finds : (past : List Deed) (start age : ℕ) (t : Locks) → PastLeads past (no_locks_from start age) t → UnlocksNone past → (slot n : ℕ) → (holder t slot ≡ Some n) ↔ (waits_for n past ≡ Some slot)
 finds past start age t h none slot n =
-    let tidy = past-tidy false past (no_locks_from start age) t h (λ e. sym none ∙ e) (start_tidy_from false start age) in
+    let tidy = past_tidy false past (no_locks_from start age) t h (λ e. sym none ∙ e) (start_tidy_from false start age) in
     (λ a. sym (waits-said past start age t n h) ∙ asked_waits t tidy slot n a, λ b. found false t tidy slot n (waits-said past start age t n h ∙ b))
 
 gets-by : (past : List Deed) (t : Locks) (slot : ℕ) (stale : Bool) (o : Option ℕ) → holder t slot ≡ o → ((n : ℕ) → (holder t slot ≡ Some n) ↔ (waits_for n past ≡ Some slot)) → Gets past slot (lock_given t stale o)
@@ -198,10 +118,10 @@ waits-first (ReadLocked m) n slot v e = cc
 waits-first (Unlocked m reason) n slot v e = cc
 
 waits-on : (between before : List Deed) (first : Deed) (start age : ℕ) (t : Locks) (n slot : ℕ) → PastLeads (between ++ (first ∷ before)) (no_locks_from start age) t → grant_of first ≡ Some (slot, n) → list_any (ends n) between ≡ false → waits_under t n ≡ Some slot
-waits-on [] before first start age t n slot h grant none = waits-then first h.0 t n h.1.1 ∙ waits-first first n slot (waits_under h.0 n) grant
+waits-on [] before first start age t n slot h grant none = waits_until_its_end first h.0 t n h.1.1 ∙ waits-first first n slot (waits_under h.0 n) grant
 waits-on (deed ∷ between) before first start age t n slot h grant none =
-    waits-then deed h.0 t n h.1.1
-    ∙ stays deed h.0 t n slot h.1.1 (any-tidy (between ++ (first ∷ before)) start age h.0 h.1.0) (neither-first (ends n deed) (list_any (ends n) between) none)
+    waits_until_its_end deed h.0 t n h.1.1
+    ∙ stays deed h.0 t n slot h.1.1 (any_tidy (between ++ (first ∷ before)) start age h.0 h.1.0) (neither-first (ends n deed) (list_any (ends n) between) none)
     (waits-on between before first start age h.0 n slot h.1.0 grant (neither-second (ends n deed) (list_any (ends n) between) none))
 
 none-held : (deed : Deed) (s t : Locks) (slot m : ℕ) → Does deed s t → grant_of deed ≡ Some (slot, m) → holder s slot ≡ None
@@ -230,5 +150,5 @@ one_fetch t past is later between before second first slot m n e given again =
     let at = earlier later (second ∷ (between ++ (first ∷ before))) (no_locks_from is.0 is.1.0) t (subst (λ p. PastLeads p (no_locks_from is.0 is.1.0) t) e is.1.1) in
     let held = none-held second at.1.0 at.0 slot m at.1.1.1 again in
     or-else (list_any (ends n) between) (λ none.
-    none_some (holder at.1.0 slot) n held (found true at.1.0 (any-tidy (between ++ (first ∷ before)) is.0 is.1.0 at.1.0 at.1.1.0) slot n
+    none_some (holder at.1.0 slot) n held (found true at.1.0 (any_tidy (between ++ (first ∷ before)) is.0 is.1.0 at.1.0 at.1.1.0) slot n
     (waits-on between before first is.0 is.1.0 at.1.0 n slot at.1.1.0 given none)))

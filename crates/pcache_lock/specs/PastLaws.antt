@@ -4,8 +4,9 @@ use Rattle.std.specs.List.{list_any}
 use Rattle.pcache_lock.specs.declared.lock.permit.Locked.{Locked}
 use Rattle.pcache_lock.specs.declared.lock.permit.Locked.TheVariants.{Write, Read}
 use Rattle.pcache_lock.specs.Locks.{Locks, holder, lock_given}
+use Rattle.pcache_lock.specs.Waits.{AskFindsTheWaiting, NothingRemains, OneWaits, waits_under}
 use Rattle.pcache_lock.specs.Deeds.{Deed, Granted, Joined, Released, LetGo, Aged, Left, Polled, Published, Made, ReadLocked, Unlocked}
-use Rattle.pcache_lock.specs.Past.{IsPastOf}
+use Rattle.pcache_lock.specs.Past.{Does, IsPastOf}
 
 -- the key for which a permit waits, after one more deed
 abbrev pub waits_after : ℕ → Deed → Option ℕ → Option ℕ
@@ -127,3 +128,16 @@ AtMostOneWaitsAlways = (t : Locks) (past : List Deed) → IsPastOf t past → At
 
 abbrev pub OneFetchAtATimeAlways : Type 0
 OneFetchAtATimeAlways = (t : Locks) (past : List Deed) → IsPastOf t past → OneFetchAtATime past
+
+abbrev pub OneWaitsAlways : Type 0
+OneWaitsAlways = (t : Locks) (past : List Deed) → IsPastOf t past → OneWaits t
+
+abbrev pub AskFindsTheWaitingAlways : Type 0
+AskFindsTheWaitingAlways = (t : Locks) (past : List Deed) → IsPastOf t past → UnlocksNone past → AskFindsTheWaiting t
+
+abbrev pub NothingRemainsAlways : Type 0
+NothingRemainsAlways = (t : Locks) (past : List Deed) → IsPastOf t past → NothingRemains t
+
+-- whichever deed is done to whichever table, those permits wait after it that the deed says
+abbrev pub WaitsUntilItsEnd : Type 0
+WaitsUntilItsEnd = (deed : Deed) (s t : Locks) (n : ℕ) → Does deed s t → waits_under t n ≡ waits_after n deed (waits_under s n)

@@ -1,5 +1,5 @@
 -- Permits, read locks, and what a table knows of a lock (own).
-use Rattle.std.specs.Prelude.{ℕ, ◌+◌, ◌-◌, ◌^◌, min, nat_lt, ◌&&◌, ◌||◌, Bool, true, false, Option, List, [], cond}
+use Rattle.std.specs.Prelude.{ℕ, ◌+◌, ◌-◌, ◌^◌, min, nat_lt, ◌&&◌, ◌||◌, Bool, true, false, Option, None, Some, List, [], cond}
 use Rattle.pcache_base.specs.declared.fills.UnusableFill.{UnusableFill}
 use Rattle.pcache_lock.specs.declared.lock.status.LockStatus.{LockStatus}
 use Rattle.pcache_lock.specs.declared.lock.status.LockStatus.TheVariants.{Waiting, Dangling, AgeTimeout}
@@ -52,6 +52,15 @@ is_named c = c.held || nat_lt 0 c.readers
 -- the permit is held, and its final status was not set yet
 abbrev pub is_locked : Core → Bool
 is_locked c = c.held && is_pending c.status
+
+-- how many read locks name a lock that may not be known, and its publications
+abbrev pub readers_at : Option Core → ℕ
+readers_at None = 0
+readers_at (Some c) = c.readers
+
+abbrev pub publications_at : Option Core → List (List ℕ)
+publications_at None = []
+publications_at (Some c) = c.publications
 
 -- one more read lock, up to the largest number of 128 bits; one read lock less
 abbrev pub with_reader : Core → Core

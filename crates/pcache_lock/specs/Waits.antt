@@ -1,14 +1,10 @@
--- Which permits wait, and what holds of them after every list of calls (own).
-use Rattle.std.specs.Prelude.{ℕ, Bool, true, false, ◌≡◌, ◌≤◌, ◌==◌, ◌&&◌, ◌⊎◌, ◌↔◌, ◌++◌, Option, Some, None, List, [], ◌∷◌, length, cond, IsSome}
-use Rattle.std.specs.List.{list_any}
+-- Which permits wait in a table, and what holds of each table (own).
+use Rattle.std.specs.Prelude.{ℕ, Bool, true, false, ◌≡◌, ◌≤◌, ◌&&◌, ◌↔◌, ◌++◌, Option, Some, None, List, length, cond, IsSome}
 use Rattle.std.specs.FinMap.{get}
-use Rattle.pcache_lock.specs.declared.lock.permit.Locked.{Locked}
-use Rattle.pcache_lock.specs.declared.lock.permit.Locked.TheVariants.{Write, Read}
-use Rattle.pcache_lock.specs.declared.lock.status.LockStatus.{LockStatus}
-use Rattle.pcache_lock.specs.Statuses.{IsReason, is_waiting}
-use Rattle.pcache_lock.specs.Permits.{Core, Permit, Reader, Watch, is_named}
-use Rattle.pcache_lock.specs.Locks.{Locks, after_request, holder, let_go, no_locks, released, unlocked, with_free_permit, with_read_lock}
-use Rattle.pcache_lock.specs.Waiting.{after_poll, is_old, watched, published, permit_state}
+use Rattle.pcache_lock.specs.Statuses.{is_waiting}
+use Rattle.pcache_lock.specs.Permits.{Core, Watch, is_named}
+use Rattle.pcache_lock.specs.Locks.{Locks, holder}
+use Rattle.pcache_lock.specs.Waiting.{is_old, watched, permit_state}
 
 -- the slot of the key for which a lock's permit waits: it was given for that key, and was neither released, nor
 -- unlocked, nor let go, nor found too old
@@ -20,47 +16,10 @@ waiting_slot (Some c) = cond (c.held && is_waiting c.status) c.slot None
 abbrev pub waits_under : Locks → ℕ → Option ℕ
 waits_under t n = waiting_slot (get t.cores n)
 
--- a call of a table of locks
-pub data Call : Type 0 where
-  Asked : (slot : ℕ) (stale : Bool) (now : ℕ) → Call
-  Released : (number : ℕ) (reason : LockStatus) → Call
-  LetGo : (locked : Locked) → Call
-  Polled : (number : ℕ) (now : ℕ) → Call
-  Published : (number : ℕ) (tokens : List ℕ) → Call
-  Made : (age_timeout : ℕ) (stale : Bool) (now : ℕ) → Call  -- a permit for no key
-  ReadLocked : (number : ℕ) → Call  -- a read lock on the lock with this number
-  Unlocked : (number : ℕ) (reason : LockStatus) → Call  -- by a permit that is still held
-
--- a call leads from one table to another; a failed one leaves it unchanged
-abbrev pub Leads : Call → Locks → Locks → Type 0
-Leads (Asked slot stale now) s t = (t ≡ s) ⊎ (t ≡ after_request s slot stale now (holder s slot))
-Leads (Released number reason) s t = IsReason reason × (t ≡ released s number reason)
-Leads (LetGo locked) s t = t ≡ let_go s locked
-Leads (Polled number now) s t = (t ≡ s) ⊎ (t ≡ after_poll s now number (get s.cores number))
-Leads (Published number tokens) s t = (t ≡ s) ⊎ (t ≡ published s number tokens)
-Leads (Made age_timeout stale now) s t = (t ≡ s) ⊎ (t ≡ with_free_permit s age_timeout stale now)
-Leads (ReadLocked number) s t = t ≡ with_read_lock s number (get s.cores number)
-Leads (Unlocked number reason) s t = IsReason reason × (t ≡ unlocked s number reason)
-
--- a list of calls leads from one table to another
-abbrev pub LeadsAll : List Call → Locks → Locks → Type 0
-LeadsAll [] s t = t ≡ s
-LeadsAll (call ∷ calls) s t = (m : Locks) × (Leads call s m × LeadsAll calls m t)
-
--- a call that sets the final status of a lock while its permit is still held
-abbrev pub is_unlock : Call → Bool
-is_unlock (Asked slot stale now) = false
-is_unlock (Released number reason) = false
-is_unlock (LetGo locked) = false
-is_unlock (Polled number now) = false
-is_unlock (Published number tokens) = false
-is_unlock (Made age_timeout stale now) = false
-is_unlock (ReadLocked number) = false
-is_unlock (Unlocked number reason) = true
-
--- no call of the list is such a one
-abbrev pub NoneUnlocks : List Call → Type 0
-NoneUnlocks calls = list_any is_unlock calls ≡ false
+-- a poll finds a permit too old
+abbrev pub is_old_at : ℕ → Option Core → Bool
+is_old_at now None = false
+is_old_at now (Some c) = is_old (permit_state now c)
 
 -- of the permits given for one key at most one waits
 abbrev pub OneWaits : Locks → Type 0
@@ -69,32 +28,6 @@ OneWaits t = (slot n m : ℕ) → waits_under t n ≡ Some slot → waits_under 
 -- a request for a key gets a read lock on the permit that waits for it, and otherwise the permit
 abbrev pub AskFindsTheWaiting : Locks → Type 0
 AskFindsTheWaiting t = (slot n : ℕ) → (holder t slot ≡ Some n) ↔ (waits_under t n ≡ Some slot)
-
--- the first holds after every list of calls, and the second if none unlocks: a lock that is unlocked remains the
--- current one of its key until its permit is released
-abbrev pub OneWaitsAlways : Type 0
-OneWaitsAlways = (age_timeout : ℕ) (calls : List Call) (t : Locks) → LeadsAll calls (no_locks age_timeout) t → OneWaits t
-
-abbrev pub AskFindsTheWaitingAlways : Type 0
-AskFindsTheWaitingAlways = (age_timeout : ℕ) (calls : List Call) (t : Locks) → LeadsAll calls (no_locks age_timeout) t → NoneUnlocks calls → AskFindsTheWaiting t
-
--- a poll finds a permit too old
-abbrev pub is_old_at : ℕ → Option Core → Bool
-is_old_at now None = false
-is_old_at now (Some c) = is_old (permit_state now c)
-
--- a permit waits from when it is given until it is released, unlocked, let go or found too old, whatever else happens
-pub record WaitsUntilItsEnd : Type 0 where
-  pub asking : (t : Locks) (slot : ℕ) (stale : Bool) (now n : ℕ) → waits_under (after_request t slot stale now None) n ≡ cond (n == t.next) (Some slot) (waits_under t n)
-  pub joining : (t : Locks) (slot : ℕ) (stale : Bool) (now m n : ℕ) → waits_under (after_request t slot stale now (Some m)) n ≡ waits_under t n
-  pub releasing : (t : Locks) (m : ℕ) (reason : LockStatus) (n : ℕ) → waits_under (released t m reason) n ≡ cond (n == m) None (waits_under t n)
-  pub letting_go : (t : Locks) (p : Permit) (n : ℕ) → waits_under (let_go t (Write p)) n ≡ cond (n == p.number) None (waits_under t n)
-  pub leaving : (t : Locks) (r : Reader) (n : ℕ) → waits_under (let_go t (Read r)) n ≡ waits_under t n
-  pub polling : (t : Locks) (now m n : ℕ) → waits_under (after_poll t now m (get t.cores m)) n ≡ cond ((n == m) && is_old_at now (get t.cores m)) None (waits_under t n)
-  pub publishing : (t : Locks) (m : ℕ) (tokens : List ℕ) (n : ℕ) → waits_under (published t m tokens) n ≡ waits_under t n
-  pub making : (t : Locks) (age_timeout : ℕ) (stale : Bool) (now n : ℕ) → waits_under (with_free_permit t age_timeout stale now) n ≡ cond (n == t.next) None (waits_under t n)
-  pub reading : (t : Locks) (m n : ℕ) → waits_under (with_read_lock t m (get t.cores m)) n ≡ waits_under t n
-  pub unlocking : (t : Locks) (m : ℕ) (reason : LockStatus) (n : ℕ) → IsReason reason → waits_under (unlocked t m reason) n ≡ cond (n == m) None (waits_under t n)
 
 -- looking twice is looking once, at all that was published since the first poll: the first publication with a match
 -- counts, however often it was replaced before the reader looked again
@@ -110,6 +43,3 @@ AllNamed t = (n : ℕ) (c : Core) → get t.cores n ≡ Some c → is_named c �
 pub record NothingRemains (t : Locks) : Type 0 where
   pub locks : AllNamed t
   pub entries : (slot n : ℕ) → get t.current slot ≡ Some n → IsSome (get t.cores n)
-
-abbrev pub NothingRemainsAlways : Type 0
-NothingRemainsAlways = (age_timeout : ℕ) (calls : List Call) (t : Locks) → LeadsAll calls (no_locks age_timeout) t → NothingRemains t

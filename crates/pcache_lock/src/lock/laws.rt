@@ -1,7 +1,7 @@
-//! Laws of all tables of locks: of lists of calls, and of what a table knows to be its past.
-ghost use Rattle.pcache_lock.specs.PastLaws.{AllGivenAlways, AtMostOneWaitsAlways, GivesByPastAlways, OneFetchAtATimeAlways};
+//! Laws of all tables of locks, by their pasts.
+ghost use Rattle.pcache_lock.specs.PastLaws.{AllGivenAlways, AskFindsTheWaitingAlways, AtMostOneWaitsAlways, GivesByPastAlways, NothingRemainsAlways, OneFetchAtATimeAlways, OneWaitsAlways, WaitsUntilItsEnd};
 ghost use Rattle.pcache_lock.specs.PastWaits.{EndsByPastAlways, StatusByPastAlways};
-ghost use Rattle.pcache_lock.specs.Waits.{AskFindsTheWaitingAlways, LooksAtEachPublication, NothingRemainsAlways, OneWaitsAlways, WaitsUntilItsEnd};
+ghost use Rattle.pcache_lock.specs.Waits.{LooksAtEachPublication};
 
 /// Of the permits that were given for one key at most one waits.
 pub fn at_most_one_waits()
