@@ -5,5 +5,5 @@
 # takes twice as long as with harmless keys: then a table does not hash under the seed that it was given. The program is proved and
 # built in a copy of the repository.
 . "$(dirname "$0")/in_a_copy.sh"
-build 'hostile_hashes: pcache_base pcache_evict pcache_meta pcache_policies pcache_predict pcache_put pcache_store bytes http'
+build 'hostile_hashes: pcache_base pcache_evict pcache_meta pcache_policies pcache_predict pcache_response pcache_store bytes http'
 tell '^(names|keys)='

@@ -3,7 +3,7 @@ ghost use Rattle.std.specs.Prelude.{◌≡◌, ℕ, IfErr, IfOk, Option, Some, o
 ghost use Rattle.std.specs.Duration.{as_nanos};
 ghost use Rattle.std.specs.declared.time.Duration.{Duration};
 ghost use Rattle.pcache_base.specs.declared.error.ErrorType.TheVariants.{OutOfMemory};
-ghost use Rattle.pcache_put_ctx.specs.Policies.{SaysByDefault};
+ghost use Rattle.pcache_put.specs.Policies.{SaysByDefault};
 ghost use Rattle.cache_script.specs.Lifetimes.{IsOneSecond};
 
 use http::StatusCode;
@@ -12,7 +12,7 @@ use pcache_base::moment::Moment;
 use pcache_control::defaults::FreshDurationByStatusFn;
 use pcache_control::{CacheMetaDefaults, RespCacheable};
 use pcache_meta::header::ResponseHeader;
-use pcache_put_ctx::policy::default_cacheable;
+use pcache_put::policy::default_cacheable;
 use pcache_world::world::policy::PutPolicy;
 use std::alloc::Global;
 use std::time::Duration;

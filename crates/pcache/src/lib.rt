@@ -27,11 +27,11 @@ pub use pcache_evict::eviction::{CacheEntryId, CacheEntryKey, CacheEntryKeyRef};
 pub use pcache_meta::meta::CacheMeta;
 pub use pcache_meta::{header, trace};
 pub use pcache_predict::{admission, predictor};
-pub use pcache_put::{max_file_size, response_parse};
 pub use pcache_request::{
     CacheOptionOverrides, CachePhase, FinishReport, ForcedFreshness, HitStatus, HttpCache,
     HttpCacheDigest, InUse, LockAbandon, LockCtx, cache, digest, phase,
 };
+pub use pcache_response::{max_file_size, response_parse};
 pub use pcache_shared_cache::{
     Mark, NewPart, OverParts, Portion, SharedCache, SharedPermit, SharedPut, SharedRequest,
     Unnamed, Unused, new_lists, new_parts, over_parts, place_of, portion_of, portion_of_watermark,

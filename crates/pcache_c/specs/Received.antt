@@ -2,7 +2,7 @@
 use Rattle.std.specs.Prelude.{◌≡◌, ◌⊎◌, ◌≤◌, ◌++◌, ℕ, List, drop, length}
 use Rattle.httparse.specs.Grammar.{HasNoResponse, MayBecomeResponse, ReadsResponse, ResponseHead, print_response}
 use Rattle.pcache_meta.specs.declared.header.ResponseHeader.{ResponseHeader}
-use Rattle.pcache_put.specs.Head.{IsAccepted, header_of}
+use Rattle.pcache_response.specs.Head.{IsAccepted, header_of}
 use Rattle.pcache_c.specs.Codes.{no_memory, nothing, unreadable}
 use Rattle.pcache_c.specs.Handles.{Fills, IsSame}
 use Rattle.pcache_c.specs.declared.handle.PcacheHandle.{PcacheHandle}

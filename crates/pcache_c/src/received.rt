@@ -2,8 +2,8 @@
 ghost use Rattle.std.specs.Prelude.{◌≡◌, ◌⊎◌, ◌≤◌, All, IfErr, IfOk, OnOk, length, map, take};
 ghost use Rattle.httparse.specs.Grammar.{ResponseHead};
 ghost use Rattle.httparse.specs.Spans.{IsHeaderWithin, IsResponseAt, header_bytes};
-ghost use Rattle.pcache_put.specs.Fields.{IsPair, IsShort, append_pair, fields_after};
-ghost use Rattle.pcache_put.specs.Head.{version_of};
+ghost use Rattle.pcache_response.specs.Fields.{IsPair, IsShort, append_pair, fields_after};
+ghost use Rattle.pcache_response.specs.Head.{version_of};
 ghost use Rattle.pcache_c.specs.Received.{IsHeadOf, Receives, RefusesBytes};
 
 use crate::codes::{BAD_VALUE, NONE, OK, UNREADABLE};

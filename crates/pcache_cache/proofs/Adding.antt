@@ -25,12 +25,12 @@ use Rattle.pcache_lock.specs.declared.lock.status.LockStatus.{LockStatus}
 use Rattle.pcache_lock.specs.declared.lock.status.LockStatus.TheVariants.{Done, TransientError}
 use Rattle.pcache_meta.specs.Meta.{Meta}
 use Rattle.pcache_predict.specs.declared.admission.Decision.{Decision}
-use Rattle.pcache_put_ctx.specs.Pasts.{EndsPutPast, past_begun, past_left, past_wrote}
-use Rattle.pcache_put_ctx.specs.State.{Put, Stage, InHead, InBody, HasDeclined, IsOver, write_in}
-use Rattle.pcache_put_ctx.specs.Steps as steps
-use Rattle.pcache_put_ctx.specs.Steps.{stage_begun, write_end}
-use Rattle.pcache_put_ctx.specs.declared.report.PutEnd.{PutEnd}
-use Rattle.pcache_put_ctx.specs.declared.report.Written.{Written}
+use Rattle.pcache_put.specs.Pasts.{EndsPutPast, past_begun, past_left, past_wrote}
+use Rattle.pcache_put.specs.State.{Put, Stage, InHead, InBody, HasDeclined, IsOver, write_in}
+use Rattle.pcache_put.specs.Steps as steps
+use Rattle.pcache_put.specs.Steps.{stage_begun, write_end}
+use Rattle.pcache_put.specs.declared.report.PutEnd.{PutEnd}
+use Rattle.pcache_put.specs.declared.report.Written.{Written}
 use Rattle.pcache_request.specs.Admissions.{is_deferral}
 use Rattle.pcache_request.specs.Finishing.{TakesAll}
 use Rattle.pcache_request.specs.LockPasts.{Deeds, asked_deeds, end_deeds, ended_deeds, found_deeds, given_deed, handed_deeds, key_locked_deeds, let_go_deed, let_go_deeds, looked_deeds, looked_with_deeds, polled_deeds, published_deeds, settled_deeds, varied_deeds, waited_deeds}

@@ -5,14 +5,14 @@ use Rattle.pcache_base.specs.declared.error.ErrorType.{ErrorType}
 use Rattle.pcache_base.specs.declared.reason.NoCacheReason.{NoCacheReason}
 use Rattle.pcache_evict.specs.Tracked.{Tracked, Limits}
 use Rattle.pcache_meta.specs.Meta.{Meta}
-use Rattle.pcache_put.specs.Progress.{Parsed}
-use Rattle.pcache_put_ctx.specs.State.{Stage, InHead, InBody, HasDeclined, IsOver, entry_in, write_in}
-use Rattle.pcache_put_ctx.specs.Steps.{EndsAs, EndsPut, EndsEarly, stage_begun, store_after, store_begun, store_left, store_wrote, tracked_before_put, write_end}
-use Rattle.pcache_put_ctx.specs.declared.report.PutEnd.{PutEnd}
-use Rattle.pcache_put_ctx.specs.declared.report.PutEnd.TheVariants as end
-use Rattle.pcache_put_ctx.specs.declared.report.PutOutcome.{PutOutcome}
-use Rattle.pcache_put_ctx.specs.declared.report.PutOutcome.TheVariants as answer
-use Rattle.pcache_put_ctx.specs.declared.report.Written.{Written}
+use Rattle.pcache_response.specs.Progress.{Parsed}
+use Rattle.pcache_put.specs.State.{Stage, InHead, InBody, HasDeclined, IsOver, entry_in, write_in}
+use Rattle.pcache_put.specs.Steps.{EndsAs, EndsPut, EndsEarly, stage_begun, store_after, store_begun, store_left, store_wrote, tracked_before_put, write_end}
+use Rattle.pcache_put.specs.declared.report.PutEnd.{PutEnd}
+use Rattle.pcache_put.specs.declared.report.PutEnd.TheVariants as end
+use Rattle.pcache_put.specs.declared.report.PutOutcome.{PutOutcome}
+use Rattle.pcache_put.specs.declared.report.PutOutcome.TheVariants as answer
+use Rattle.pcache_put.specs.declared.report.Written.{Written}
 use Rattle.pcache_request.specs.Requests.{dropped_by}
 use Rattle.pcache_request.specs.WriteEnds.{EndsBody, HoldsNoLock}
 use Rattle.pcache_store.specs.Readers.{in_memory}

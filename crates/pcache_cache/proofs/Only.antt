@@ -15,12 +15,12 @@ use Rattle.pcache_lock.specs.Locks.{Locks}
 use Rattle.pcache_lock.specs.declared.lock.status.LockStatus.{LockStatus}
 use Rattle.pcache_meta.specs.HeaderText.{header_written}
 use Rattle.pcache_meta.specs.Meta.{Meta, expired_at}
-use Rattle.pcache_put.specs.Progress.{Parsed}
-use Rattle.pcache_put_ctx.specs.State.{Stage, InHead, InBody, HasDeclined, IsOver, entry_in, write_in}
-use Rattle.pcache_put_ctx.specs.Steps.{EndsEarly, EndsPut, tracked_before_put, write_end}
-use Rattle.pcache_put_ctx.specs.Steps as put_steps
-use Rattle.pcache_put_ctx.specs.declared.report.PutEnd.{PutEnd}
-use Rattle.pcache_put_ctx.specs.declared.report.PutOutcome.{PutOutcome}
+use Rattle.pcache_response.specs.Progress.{Parsed}
+use Rattle.pcache_put.specs.State.{Stage, InHead, InBody, HasDeclined, IsOver, entry_in, write_in}
+use Rattle.pcache_put.specs.Steps.{EndsEarly, EndsPut, tracked_before_put, write_end}
+use Rattle.pcache_put.specs.Steps as put_steps
+use Rattle.pcache_put.specs.declared.report.PutEnd.{PutEnd}
+use Rattle.pcache_put.specs.declared.report.PutOutcome.{PutOutcome}
 use Rattle.pcache_request.specs.Finishing.{PurgesAll, Stores, Withdraws}
 use Rattle.pcache_request.specs.Replacing.{tracked_before, tracked_before_end, without_entry}
 use Rattle.pcache_request.specs.Requests.{Request, entry_of, settled, tracked_gone, tracked_gone_for}

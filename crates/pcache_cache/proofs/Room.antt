@@ -14,13 +14,13 @@ use Rattle.pcache_evict.specs.Tracked.{IsWithin, Limits, Tracked, weight}
 use Rattle.pcache_evict.specs.declared.eviction.entry_key.CacheEntryKey.{CacheEntryKey}
 use Rattle.pcache_lock.specs.Locks.{Locks}
 use Rattle.pcache_lock.specs.declared.lock.status.LockStatus.{LockStatus}
-use Rattle.pcache_put.specs.Progress.{Parsed}
-use Rattle.pcache_put_ctx.specs.State.{Stage, InHead, InBody, HasDeclined, IsOver}
-use Rattle.pcache_put_ctx.specs.Steps.{EndsPut, tracked_before_put}
-use Rattle.pcache_put_ctx.specs.Steps as put_steps
-use Rattle.pcache_put_ctx.specs.declared.report.PutEnd.TheVariants as put_end
-use Rattle.pcache_put_ctx.specs.declared.report.PutOutcome.{PutOutcome}
-use Rattle.pcache_put_ctx.specs.declared.report.PutOutcome.TheVariants as answer
+use Rattle.pcache_response.specs.Progress.{Parsed}
+use Rattle.pcache_put.specs.State.{Stage, InHead, InBody, HasDeclined, IsOver}
+use Rattle.pcache_put.specs.Steps.{EndsPut, tracked_before_put}
+use Rattle.pcache_put.specs.Steps as put_steps
+use Rattle.pcache_put.specs.declared.report.PutEnd.TheVariants as put_end
+use Rattle.pcache_put.specs.declared.report.PutOutcome.{PutOutcome}
+use Rattle.pcache_put.specs.declared.report.PutOutcome.TheVariants as answer
 use Rattle.pcache_meta.specs.Meta.{Meta}
 use Rattle.pcache_request.specs.Finishing.{PurgesAll, Stores}
 use Rattle.pcache_request.specs.Replacing.{tracked_before, tracked_before_end, without_entry}

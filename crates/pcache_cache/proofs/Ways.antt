@@ -1,11 +1,11 @@
 -- A call that may have ended in several ways: what follows of each way follows of its result.
 use Rattle.std.proofs.Common.{inl, inr, Option, None, Some, Result, Ok, Err}
 use Rattle.pcache_base.specs.declared.error.ErrorType.{ErrorType}
-use Rattle.pcache_put_ctx.specs.Steps as put
-use Rattle.pcache_put_ctx.specs.declared.report.PutEnd.{PutEnd}
-use Rattle.pcache_put_ctx.specs.declared.report.PutEnd.TheVariants as put_end
-use Rattle.pcache_put_ctx.specs.declared.report.PutOutcome.{PutOutcome}
-use Rattle.pcache_put_ctx.specs.declared.report.PutOutcome.TheVariants as answer
+use Rattle.pcache_put.specs.Steps as put
+use Rattle.pcache_put.specs.declared.report.PutEnd.{PutEnd}
+use Rattle.pcache_put.specs.declared.report.PutEnd.TheVariants as put_end
+use Rattle.pcache_put.specs.declared.report.PutOutcome.{PutOutcome}
+use Rattle.pcache_put.specs.declared.report.PutOutcome.TheVariants as answer
 use Rattle.pcache_request.specs.WriteEnds.{EndsAs}
 use Rattle.pcache_request.specs.declared.cache.finish.FinishReport.{FinishReport}
 use Rattle.pcache_request.specs.declared.cache.finish.WriteEnd.{WriteEnd}

@@ -6,10 +6,10 @@ use Rattle.pcache_cache.specs.Parts.{Parts, is_own_write}
 use Rattle.pcache_base.specs.Key.{slot}
 use Rattle.pcache_evict.specs.Tracked.{Evicted, Tracked}
 use Rattle.pcache_request.specs.StorePasts.{Past}
-use Rattle.pcache_put_ctx.specs.Pasts.{past_after, past_left}
-use Rattle.pcache_put_ctx.specs.State.{Put, write_in}
-use Rattle.pcache_put_ctx.specs.Steps.{Done, EndsPut, evicted_ended, stage_begun, store_after, store_left, tracked_before_put}
-use Rattle.pcache_put_ctx.specs.declared.report.PutEnd.{PutEnd}
+use Rattle.pcache_put.specs.Pasts.{past_after, past_left}
+use Rattle.pcache_put.specs.State.{Put, write_in}
+use Rattle.pcache_put.specs.Steps.{Done, EndsPut, evicted_ended, stage_begun, store_after, store_left, tracked_before_put}
+use Rattle.pcache_put.specs.declared.report.PutEnd.{PutEnd}
 use Rattle.pcache_store.specs.Finishes.{body_number}
 use Rattle.pcache_store.specs.Readers.{in_memory}
 use Rattle.pcache_store.specs.Store.{Store}

@@ -6,8 +6,8 @@ use Rattle.pcache_base.specs.Key.{Key, slot}
 use Rattle.pcache_base.specs.declared.error.ErrorType.{ErrorType}
 use Rattle.pcache_evict.specs.Tracked.{Limits}
 use Rattle.pcache_evict.specs.declared.eviction.entry_key.CacheEntryKey.{CacheEntryKey}
-use Rattle.pcache_put_ctx.specs.declared.report.PutOutcome.{PutOutcome}
-use Rattle.pcache_put_ctx.specs.declared.report.PutOutcome.TheVariants as put
+use Rattle.pcache_put.specs.declared.report.PutOutcome.{PutOutcome}
+use Rattle.pcache_put.specs.declared.report.PutOutcome.TheVariants as put
 use Rattle.pcache_meta.specs.Meta.{Meta}
 use Rattle.pcache_request.specs.declared.cache.finish.FinishReport.{FinishReport}
 use Rattle.pcache_store.specs.Store.{Store, complete_body, meta_set, purged}

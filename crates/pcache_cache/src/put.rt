@@ -1,11 +1,11 @@
 //! A put of a cache.
 ghost use Rattle.std.specs.Prelude.{◌≡◌, [], None, option_map};
-ghost use Rattle.pcache_put.specs.Progress.{AtHead};
-ghost use Rattle.pcache_put_ctx.specs.State.{InHead, HasTaken, write_in};
+ghost use Rattle.pcache_response.specs.Progress.{AtHead};
+ghost use Rattle.pcache_put.specs.State.{InHead, HasTaken, write_in};
 
 use pcache_base::key::CacheKey;
-use pcache_put_ctx::context::CachePutCtx;
-use pcache_put_ctx::policy::CachePut;
+use pcache_put::context::CachePutCtx;
+use pcache_put::policy::CachePut;
 use pcache_store::memory::{MemCache, MemMissHandler};
 use std::alloc::Global;
 use std::marker::{Model, PhantomData};

@@ -5,10 +5,10 @@ use Rattle.std.proofs.lemmas.Bool.Decides.{nat_tests}
 use Rattle.pcache_base.specs.Key.{Key}
 use Rattle.pcache_base.specs.declared.error.ErrorType.{ErrorType}
 use Rattle.pcache_evict.specs.Tracked.{Tracked, Limits}
-use Rattle.pcache_put.specs.Response.{Response, IsResponse, is_whole}
-use Rattle.pcache_put.proofs.PartLemmas.{response_more}
-use Rattle.pcache_put_ctx.specs.Puts.{Piece, Says, joined}
-use Rattle.pcache_put_ctx.proofs.Pieces.{joined_push}
+use Rattle.pcache_response.specs.Response.{Response, IsResponse, is_whole}
+use Rattle.pcache_response.proofs.PartLemmas.{response_more}
+use Rattle.pcache_put.specs.Puts.{Piece, Says, joined}
+use Rattle.pcache_put.proofs.Pieces.{joined_push}
 use Rattle.pcache_history.specs.declared.call.Act.{Act}
 use Rattle.pcache_history.specs.declared.call.Act.TheVariants as C
 use Rattle.pcache_history.specs.declared.call.Reply.{Reply}

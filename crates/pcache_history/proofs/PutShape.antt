@@ -11,8 +11,8 @@ use Rattle.pcache_history.specs.declared.call.Act.{Act}
 use Rattle.pcache_history.specs.declared.call.Act.TheVariants as C
 use Rattle.pcache_history.specs.declared.call.RequestAct.{RequestAct}
 use Rattle.pcache_history.specs.declared.call.RequestAct.TheVariants as Q
-use Rattle.pcache_put_ctx.specs.State.{Filled}
-use Rattle.pcache_put_ctx.specs.Puts.{Piece}
+use Rattle.pcache_put.specs.State.{Filled}
+use Rattle.pcache_put.specs.Puts.{Piece}
 use Rattle.pcache_history.specs.PutHistory.{filled_after, pieces_on}
 use Rattle.pcache_history.specs.declared.call.Reply.{Reply}
 use Rattle.pcache_history.specs.declared.call.Reply.TheVariants as R

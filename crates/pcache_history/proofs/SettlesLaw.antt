@@ -9,9 +9,9 @@ use Rattle.pcache_evict.specs.Tracked.{Evicted, Tracked, Limits}
 use Rattle.pcache_lock.specs.Permits.{Permit}
 use Rattle.pcache_lock.specs.declared.lock.permit.Locked.{Locked}
 use Rattle.pcache_meta.specs.Meta.{Meta}
-use Rattle.pcache_put_ctx.specs.State.{Stage, InHead, InBody, HasDeclined, IsOver, write_in}
-use Rattle.pcache_put_ctx.specs.Steps.{stage_begun}
-use Rattle.pcache_put_ctx.specs.declared.report.Written.{Written}
+use Rattle.pcache_put.specs.State.{Stage, InHead, InBody, HasDeclined, IsOver, write_in}
+use Rattle.pcache_put.specs.Steps.{stage_begun}
+use Rattle.pcache_put.specs.declared.report.Written.{Written}
 use Rattle.pcache_request.specs.Admissions.{is_deferral}
 use Rattle.pcache_request.specs.Requests.{Request, entry_of, counts_found}
 use Rattle.pcache_request.specs.Variants.{is_unseen, leaves_variant}

@@ -42,7 +42,7 @@ use Rattle.pcache_history.specs.Rules.{FindsKind, MayBe, wait_reply}
 use Rattle.pcache_history.specs.Waiting.{NoneWaits, waiting_in}
 use Rattle.pcache_history.specs.Waits.{wait_of}
 use Rattle.pcache_history.specs.ReadSoFar.{read_by, HasRead}
-use Rattle.pcache_put_ctx.specs.State.{Filled}
+use Rattle.pcache_put.specs.State.{Filled}
 use Rattle.pcache_history.specs.PutHistory.{filled_of}
 use Rattle.pcache_history.specs.Taking.{Taking}
 

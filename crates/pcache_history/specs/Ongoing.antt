@@ -16,7 +16,7 @@ use Rattle.pcache_base.specs.declared.error.ErrorType.{ErrorType}
 use Rattle.pcache_base.specs.declared.error.ErrorType.TheVariants.{OutOfMemory}
 use Rattle.pcache_base.specs.declared.reason.NoCacheReason.{NoCacheReason}
 use Rattle.pcache_base.specs.declared.reason.NoCacheReason.TheVariants.{Deferred}
-use Rattle.pcache_put_ctx.specs.State.{Stage, InBody, HasDeclined, IsOver, entry_in, write_in}
+use Rattle.pcache_put.specs.State.{Stage, InBody, HasDeclined, IsOver, entry_in, write_in}
 use Rattle.pcache_predict.specs.declared.admission.Decision.{Decision}
 use Rattle.pcache_predict.specs.declared.admission.Decision.TheVariants as decision
 use Rattle.pcache_request.specs.Admissions.{is_deferral, kept_if, observes, with_decision}

@@ -1,12 +1,12 @@
 -- The outcome of the pieces of a put, by the history (own): the pieces that were fed, what its write was given of them, and what
 -- the calls of the put say of that. Histories are listed newest first.
 use Rattle.std.specs.Prelude.{◌≡◌, ℕ, ◌==◌, ◌↔◌, true, cond, if◌then◌else◌, Option, None, Some, List, [], ◌∷◌, ◌++◌}
-use Rattle.pcache_put.specs.Progress.{Parsed}
-use Rattle.pcache_put.specs.Counted.{Counted}
-use Rattle.pcache_put.specs.Response.{Response, IsResponse, is_whole}
-use Rattle.pcache_put_ctx.specs.Puts.{Piece, Says, Outcome as Comes, Declines, IsResult, joined}
-use Rattle.pcache_put_ctx.specs.State.{Accepted, Stage, InBody, Filled, TakenBy, limit_of}
-use Rattle.pcache_put_ctx.specs.Steps.{IsRefusal, StoresFilled}
+use Rattle.pcache_response.specs.Progress.{Parsed}
+use Rattle.pcache_response.specs.Counted.{Counted}
+use Rattle.pcache_response.specs.Response.{Response, IsResponse, is_whole}
+use Rattle.pcache_put.specs.Puts.{Piece, Says, Outcome as Comes, Declines, IsResult, joined}
+use Rattle.pcache_put.specs.State.{Accepted, Stage, InBody, Filled, TakenBy, limit_of}
+use Rattle.pcache_put.specs.Steps.{IsRefusal, StoresFilled}
 use Rattle.pcache_history.specs.declared.call.Act.{Act}
 use Rattle.pcache_history.specs.declared.call.Act.TheVariants as C
 use Rattle.pcache_history.specs.declared.call.Reply.{Reply}

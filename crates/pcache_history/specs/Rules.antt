@@ -7,9 +7,9 @@ use Rattle.pcache_meta.specs.Meta.{Meta}
 use Rattle.pcache_base.specs.declared.error.ErrorType.{ErrorType}
 use Rattle.pcache_base.specs.declared.error.ErrorType.TheVariants.{IncompleteHttpBody, InternalError, InvalidHttpHeader, Io, OutOfMemory, ResponseTooLarge, WriteRemoved, NumbersExhausted}
 use Rattle.pcache_base.specs.declared.reason.NoCacheReason.{NoCacheReason}
-use Rattle.pcache_put_ctx.specs.State.{Stage, InHead, InBody, HasDeclined, IsOver, write_in}
-use Rattle.pcache_put_ctx.specs.Steps.{IsBegunBefore, stage_begun}
-use Rattle.pcache_put_ctx.specs.declared.report.Written.{Written}
+use Rattle.pcache_put.specs.State.{Stage, InHead, InBody, HasDeclined, IsOver, write_in}
+use Rattle.pcache_put.specs.Steps.{IsBegunBefore, stage_begun}
+use Rattle.pcache_put.specs.declared.report.Written.{Written}
 use Rattle.pcache_base.specs.declared.poll.Poll.{Poll}
 use Rattle.pcache_base.specs.declared.poll.Poll.TheVariants.{Ready, Pending}
 use Rattle.pcache_evict.specs.declared.eviction.entry_key.CacheEntryKey.{CacheEntryKey}

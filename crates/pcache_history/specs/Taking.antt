@@ -3,9 +3,9 @@
 use Rattle.std.specs.Prelude.{ℕ, Option, Some, [], true, false}
 use Rattle.std.specs.Option.{option_map}
 use Rattle.pcache_base.specs.Key.{Key}
-use Rattle.pcache_put.specs.Progress.{Parsed, AtHead}
-use Rattle.pcache_put.specs.Counted.{Counted}
-use Rattle.pcache_put_ctx.specs.State.{Put, Stage, InHead}
+use Rattle.pcache_response.specs.Progress.{Parsed, AtHead}
+use Rattle.pcache_response.specs.Counted.{Counted}
+use Rattle.pcache_put.specs.State.{Put, Stage, InHead}
 use Rattle.pcache_request.specs.Requests.{Request, enabled_request}
 use Rattle.pcache_request.specs.declared.phase.CachePhase.TheVariants as phase
 use Rattle.pcache_request.specs.declared.phase.InUse.{InUse}

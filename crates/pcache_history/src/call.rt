@@ -15,7 +15,7 @@ use pcache_lock::lock::LockWaitOutcome;
 use pcache_meta::header::ResponseHeader;
 use pcache_meta::meta::CacheMeta;
 use pcache_predict::admission::Decision;
-use pcache_put_ctx::boxed::Boxed;
+use pcache_put::boxed::Boxed;
 use pcache_request::cache::CacheOptionOverrides;
 use pcache_request::phase::{CachePhase, HitStatus};
 

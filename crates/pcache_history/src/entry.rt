@@ -8,7 +8,7 @@ use pcache_base::poll::Poll;
 use pcache_evict::eviction::CacheEntryKey;
 use pcache_meta::meta::CacheMeta;
 use pcache_meta::meta::spelled::SpelledMeta;
-use pcache_put_ctx::boxed::Boxed;
+use pcache_put::boxed::Boxed;
 
 /// What a look-up found. Its meta is a copy of what the store keeps, the bytes that spell it: `meta.get().meta(alloc)` reads it.
 #[derive(Drop)]

@@ -1,7 +1,10 @@
-pub mod FieldLemmas
-pub mod HeadLemmas
-pub mod Ends
-pub mod Joins
-pub mod Lengths
-pub mod PartLemmas
-pub mod Unique
+pub mod Answered
+pub mod Bodies
+pub mod Declared
+pub mod Halves
+pub mod Heads
+pub mod NoBody
+pub mod OneAnswer
+pub mod Pieces
+pub mod Results
+pub mod Why

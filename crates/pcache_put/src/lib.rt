@@ -1,11 +1,24 @@
 #![tactic(auto)]
-//! A response that comes in pieces, and the limit on its body.
+//! Responses that are pushed into a cache, in pieces.
 //!
-//! - `response_parse`: the head and the body, however the bytes are split into pieces
-//! - `head_end`: where the head ends; `head`: reading it
-//! - `max_file_size`: a count of body bytes with a limit
+//! - `policy`: what decides whether a response is stored, and the default decision
+//! - `context`: `CachePutCtx`, one put over a storage and an eviction manager
+//! - `reading`: what a piece is read as, before anything of it is stored
+//! - `report`: what its calls return, and the reports on what they did
+//! - `boxed`: values behind boxes
+//! - `laws`: the outcome of a put, however its bytes were split
 
-mod head;
-mod head_end;
-pub mod max_file_size;
-pub mod response_parse;
+pub mod boxed;
+mod brought;
+pub mod context;
+mod intake;
+pub mod laws;
+pub mod policy;
+pub mod reading;
+pub mod report;
+mod stage;
+
+pub use context::CachePutCtx;
+pub use policy::CachePut;
+pub use reading::ReadPiece;
+pub use report::PutOutcome;

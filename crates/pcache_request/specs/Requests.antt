@@ -16,7 +16,7 @@ use Rattle.pcache_lock.specs.declared.lock.permit.Locked.{Locked}
 use Rattle.pcache_lock.specs.declared.lock.permit.Locked.TheVariants.{Write, Read}
 use Rattle.pcache_lock.specs.declared.lock.status.LockStatus.{LockStatus}
 use Rattle.pcache_lock.specs.declared.lock.status.LockStatus.TheVariants.{Done}
-use Rattle.pcache_put.specs.Counted.{Counted}
+use Rattle.pcache_response.specs.Counted.{Counted}
 use Rattle.pcache_store.specs.Purge.{entry_given, entry_read, expire_outcome, purge_outcome}
 use Rattle.pcache_store.specs.Store.{Store, Reader, find, find_write, followed, left, begun, dropped, counts_access, reader_weight, is_whole, body_length}
 use Rattle.pcache_store.specs.declared.storage.PurgeOutcome.{PurgeOutcome}

@@ -1,6 +1,6 @@
 -- The number of a body's bytes, if it is limited (the phase table), and the length of a head, if that is (own).
 use Rattle.std.specs.Prelude.{ℕ, ◌+◌, ◌^◌, ◌-◌, nat_le, min, not, Bool, true, false, Option, Some, None, option_map}
-use Rattle.pcache_put.specs.Counted.{Counted}
+use Rattle.pcache_response.specs.Counted.{Counted}
 use Rattle.pcache_request.specs.Requests.{Request}
 
 -- a count of zero, with so many bytes allowed

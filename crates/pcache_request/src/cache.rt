@@ -51,7 +51,7 @@ use pcache_base::reason::NoCacheReason;
 use pcache_evict::eviction::{CacheEntryId, CacheEntryKey, EvictionManager};
 use pcache_lock::lock::{CacheKeyLock, LockStatus, Locked};
 use pcache_meta::meta::CacheMeta;
-use pcache_put::max_file_size::MaxFileSizeTracker;
+use pcache_response::max_file_size::MaxFileSizeTracker;
 use pcache_store::storage::{HandleHit, HandleMiss, Storage};
 pub use report::{
     Access, AskedLock, FoundReport, LockName, LookUp, ReleasedLock, Removal, Renewal, WaitReport,

@@ -6,16 +6,16 @@ use Rattle.pcache_cache.proofs.Adding.{dropped_keeps, ends_put_keeps, put_keeps}
 use Rattle.pcache_cache.proofs.Growing.{grew_by, grew_not, grew_same, kept_by_notes}
 use Rattle.pcache_cache.specs.OwnPut.{MayEndPut, put_past, store_put}
 use Rattle.pcache_cache.specs.Parts.{Adds, Parts}
-use Rattle.pcache_put_ctx.proofs.Halves.{reads_and_stores, why_answered}
-use Rattle.pcache_put_ctx.specs.Puts.{Piece, Says}
-use Rattle.pcache_put_ctx.specs.Readings.{IfUnread, MayFailOnceRead, MayFailRead, ReadsPiece, StoresPiece}
-use Rattle.pcache_put_ctx.specs.State.{Put}
-use Rattle.pcache_put_ctx.specs.Steps.{Done, EndsAs}
-use Rattle.pcache_put_ctx.specs.declared.reading.ReadPiece.{ReadPiece}
-use Rattle.pcache_put_ctx.specs.declared.report.PutEnd.{PutEnd}
-use Rattle.pcache_put_ctx.specs.declared.report.PutEnd.TheVariants as put_end
-use Rattle.pcache_put_ctx.specs.declared.report.PutOutcome.{PutOutcome}
-use Rattle.pcache_put_ctx.specs.declared.report.PutOutcome.TheVariants as answer
+use Rattle.pcache_put.proofs.Halves.{reads_and_stores, why_answered}
+use Rattle.pcache_put.specs.Puts.{Piece, Says}
+use Rattle.pcache_put.specs.Readings.{IfUnread, MayFailOnceRead, MayFailRead, ReadsPiece, StoresPiece}
+use Rattle.pcache_put.specs.State.{Put}
+use Rattle.pcache_put.specs.Steps.{Done, EndsAs}
+use Rattle.pcache_put.specs.declared.reading.ReadPiece.{ReadPiece}
+use Rattle.pcache_put.specs.declared.report.PutEnd.{PutEnd}
+use Rattle.pcache_put.specs.declared.report.PutEnd.TheVariants as put_end
+use Rattle.pcache_put.specs.declared.report.PutOutcome.{PutOutcome}
+use Rattle.pcache_put.specs.declared.report.PutOutcome.TheVariants as answer
 use Rattle.pcache_request.specs.StorePasts.{dropped_past}
 use Rattle.pcache_store.specs.Readers.{in_memory}
 use Rattle.pcache_shared_cache.specs.Seen.{Leads}

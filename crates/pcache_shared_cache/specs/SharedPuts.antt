@@ -9,12 +9,12 @@ use Rattle.pcache_cache.specs.Parts.{Adds, Parts}
 use Rattle.pcache_cache.specs.Room.{IfRoom, evicted_by_put}
 use Rattle.pcache_cache.specs.Strays.{LeavesNoStray}
 use Rattle.pcache_cache.specs.Weighing.{ending_weight}
-use Rattle.pcache_put.specs.Progress.{HasFailed}
-use Rattle.pcache_put_ctx.specs.Pasts.{EndsPutPast}
-use Rattle.pcache_put_ctx.specs.Puts.{Piece, Says}
-use Rattle.pcache_put_ctx.specs.State.{Put, write_in}
-use Rattle.pcache_put_ctx.specs.Steps.{Done, EndsAs, MayFailPiece, TakesPiece, stage_ended}
-use Rattle.pcache_put_ctx.specs.declared.report.PutOutcome.{PutOutcome}
+use Rattle.pcache_response.specs.Progress.{HasFailed}
+use Rattle.pcache_put.specs.Pasts.{EndsPutPast}
+use Rattle.pcache_put.specs.Puts.{Piece, Says}
+use Rattle.pcache_put.specs.State.{Put, write_in}
+use Rattle.pcache_put.specs.Steps.{Done, EndsAs, MayFailPiece, TakesPiece, stage_ended}
+use Rattle.pcache_put.specs.declared.report.PutOutcome.{PutOutcome}
 use Rattle.pcache_request.specs.NoBody.{LeavesNone}
 use Rattle.pcache_request.specs.Requests.{dropped_by}
 use Rattle.pcache_request.specs.StorePasts.{dropped_past}

@@ -7,15 +7,15 @@ use pcache_base::error::{Error, ErrorType, Result};
 use pcache_base::moment::Moment;
 use pcache_base::reason::NoCacheReason;
 use pcache_evict::eviction::EvictionManager;
-use pcache_put_ctx::policy::CachePut;
-use pcache_put_ctx::report::PutOutcome;
+use pcache_put::policy::CachePut;
+use pcache_put::report::PutOutcome;
 use std::sync::Wait;
 
 impl<M: EvictionManager, K: Mark, const N: usize> SharedCache<M, K, N> {
     ghost use Rattle.std.specs.Prelude.{◌≡◌, List, Option};
-    ghost use Rattle.pcache_put_ctx.specs.Puts.{IsResult, Piece};
-    ghost use Rattle.pcache_put_ctx.specs.State.{Filled, HasTaken, limit_of, write_in};
-    ghost use Rattle.pcache_put_ctx.specs.Steps.{EndsAs, IsStageAfter, RepeatsResult, TellsResult};
+    ghost use Rattle.pcache_put.specs.Puts.{IsResult, Piece};
+    ghost use Rattle.pcache_put.specs.State.{Filled, HasTaken, limit_of, write_in};
+    ghost use Rattle.pcache_put.specs.Steps.{EndsAs, IsStageAfter, RepeatsResult, TellsResult};
     ghost use Rattle.pcache_shared_cache.specs.Seen.{Goes};
     ghost use Rattle.pcache_shared_cache.specs.SharedPuts.{DropsLeft, EndsPutOf, TakesIn};
 

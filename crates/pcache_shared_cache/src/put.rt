@@ -4,9 +4,9 @@ use crate::mark::Mark;
 use pcache_base::key::CacheKey;
 use pcache_base::moment::Moment;
 use pcache_cache::{LeftWrite, PendingPut};
-use pcache_put_ctx::context::CachePutCtx;
-use pcache_put_ctx::policy::CachePut;
-use pcache_put_ctx::reading::ReadPiece;
+use pcache_put::context::CachePutCtx;
+use pcache_put::policy::CachePut;
+use pcache_put::reading::ReadPiece;
 use pcache_store::memory::MemCache;
 use std::alloc::Global;
 use std::marker::Model;
@@ -36,10 +36,10 @@ impl<C: CachePut, K: Mark, const N: usize> Model for SharedPut<C, K, N> {
 
 impl<C: CachePut, K: Mark, const N: usize> SharedPut<C, K, N> {
     ghost use Rattle.std.specs.Prelude.{◌≡◌, ◌<◌, [], List, None, Some};
-    ghost use Rattle.pcache_put.specs.Progress.{AtHead};
-    ghost use Rattle.pcache_put_ctx.specs.Puts.{Piece};
-    ghost use Rattle.pcache_put_ctx.specs.Readings.{IfUnread, IsReadAt, MayFailRead, ReadsPiece};
-    ghost use Rattle.pcache_put_ctx.specs.State.{InHead, HasTaken, write_in};
+    ghost use Rattle.pcache_response.specs.Progress.{AtHead};
+    ghost use Rattle.pcache_put.specs.Puts.{Piece};
+    ghost use Rattle.pcache_put.specs.Readings.{IfUnread, IsReadAt, MayFailRead, ReadsPiece};
+    ghost use Rattle.pcache_put.specs.State.{InHead, HasTaken, write_in};
     ghost use Rattle.pcache_shared_cache.specs.Seen.{IsLog};
 
     // A put of a key, which has seen this of the key's part.

@@ -16,7 +16,7 @@ use pcache_base::error::Result;
 use pcache_base::key::CacheKey;
 use pcache_base::seed::Seed;
 use pcache_evict::eviction::EvictionManager;
-use pcache_put_ctx::policy::CachePut;
+use pcache_put::policy::CachePut;
 use std::alloc::Global;
 use std::marker::Model;
 use std::sync::Wait;
@@ -54,8 +54,8 @@ impl<M: EvictionManager, K: Mark, const N: usize> Model for SharedCache<M, K, N>
 impl<M: EvictionManager, K: Mark, const N: usize> SharedCache<M, K, N> {
     ghost use Rattle.std.specs.Prelude.{◌≡◌, ◌<◌, ◌≤◌, ℕ, [], true, false, None, Some, IfErr, IfOk, IfSome, length, map, slice_get, sum_by};
     ghost use Rattle.pcache_base.specs.declared.error.ErrorType.TheVariants.{OutOfMemory};
-    ghost use Rattle.pcache_put.specs.Progress.{AtHead};
-    ghost use Rattle.pcache_put_ctx.specs.State.{HasTaken, InHead};
+    ghost use Rattle.pcache_response.specs.Progress.{AtHead};
+    ghost use Rattle.pcache_put.specs.State.{HasTaken, InHead};
     ghost use Rattle.pcache_request.specs.Requests.{enabled_with, new_request, with_key};
     ghost use Rattle.pcache_store.specs.Totals.{slots, stored_bytes};
     ghost use Rattle.std.specs.Duration.{as_nanos};

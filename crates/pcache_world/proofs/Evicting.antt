@@ -6,11 +6,11 @@ use Rattle.pcache_base.specs.declared.error.ErrorType.TheVariants.{WriteRemoved}
 use Rattle.pcache_base.specs.Key.{Key}
 use Rattle.pcache_evict.specs.Tracked.{Tracked, Evicted, Limits, evicted_with}
 use Rattle.pcache_evict.specs.declared.eviction.entry_key.CacheEntryKey.{CacheEntryKey}
-use Rattle.pcache_put.specs.Progress.{Parsed}
-use Rattle.pcache_put_ctx.specs.State.{Stage, InHead, InBody, HasDeclined, IsOver, write_in}
-use Rattle.pcache_put_ctx.specs.Steps.{EndsPut, entry_reported, evicted_ended}
-use Rattle.pcache_put_ctx.specs.declared.report.PutEnd.{PutEnd}
-use Rattle.pcache_put_ctx.specs.declared.report.PutEnd.TheVariants as end
+use Rattle.pcache_response.specs.Progress.{Parsed}
+use Rattle.pcache_put.specs.State.{Stage, InHead, InBody, HasDeclined, IsOver, write_in}
+use Rattle.pcache_put.specs.Steps.{EndsPut, entry_reported, evicted_ended}
+use Rattle.pcache_put.specs.declared.report.PutEnd.{PutEnd}
+use Rattle.pcache_put.specs.declared.report.PutEnd.TheVariants as end
 use Rattle.pcache_request.specs.Phases.{IsFilling}
 use Rattle.pcache_request.specs.Requests.{Request, entry_of}
 use Rattle.pcache_request.specs.WriteEnds.{evicted_after, finishes_of}

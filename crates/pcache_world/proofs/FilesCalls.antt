@@ -11,7 +11,7 @@ use Rattle.pcache_evict.specs.Recency.{Recency}
 use Rattle.pcache_evict.specs.Tracked.{Tracked, Limits}
 use Rattle.pcache_evict.specs.declared.eviction.entry_key.CacheEntryKey.{CacheEntryKey}
 use Rattle.pcache_lock.specs.Locks.{Locks}
-use Rattle.pcache_put_ctx.specs.Puts.{Says as PutSays}
+use Rattle.pcache_put.specs.Puts.{Says as PutSays}
 use Rattle.pcache_request.specs.Requests.{Request}
 use Rattle.pcache_store.specs.Store.{Store}
 use Rattle.pcache_history.specs.declared.call.Act.{Act}

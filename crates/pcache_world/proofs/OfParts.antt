@@ -3,7 +3,7 @@ use Rattle.std.proofs.Common.{◌≡◌, ℕ, Option, Some, List, subst, sym}
 use Rattle.pcache_evict.specs.Tracked.{Tracked, Evicted}
 use Rattle.pcache_lock.specs.Locks.{Locks}
 use Rattle.pcache_lock.specs.declared.lock.permit.Locked.{Locked}
-use Rattle.pcache_put_ctx.specs.Puts.{Says}
+use Rattle.pcache_put.specs.Puts.{Says}
 use Rattle.pcache_store.specs.Store.{Store}
 use Rattle.pcache_history.specs.declared.call.Act.{Act}
 use Rattle.pcache_history.specs.declared.call.Act.TheVariants as C

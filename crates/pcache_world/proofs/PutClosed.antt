@@ -8,12 +8,12 @@ use Rattle.pcache_base.specs.declared.error.ErrorType.TheVariants.{OutOfMemory, 
 use Rattle.pcache_evict.specs.Tracked.{Tracked, Limits}
 use Rattle.pcache_evict.specs.declared.eviction.entry_key.CacheEntryKey.{CacheEntryKey}
 use Rattle.pcache_lock.specs.Locks.{Locks, no_locks}
-use Rattle.pcache_put.specs.Counted.{Counted}
-use Rattle.pcache_put_ctx.specs.Puts.{Piece, Says, Outcome as Comes, IsResult}
-use Rattle.pcache_put_ctx.specs.State.{Stage, InHead, InBody, HasDeclined, IsOver, Filled, TakenBy, limit_of, entry_in, write_in}
-use Rattle.pcache_put_ctx.specs.Steps.{EndsEarly, EndsPut, TellsResult, entry_reported, stage_ended, write_end}
-use Rattle.pcache_put_ctx.specs.declared.report.PutEnd.{PutEnd}
-use Rattle.pcache_put_ctx.specs.declared.report.PutEnd.TheVariants as end
+use Rattle.pcache_response.specs.Counted.{Counted}
+use Rattle.pcache_put.specs.Puts.{Piece, Says, Outcome as Comes, IsResult}
+use Rattle.pcache_put.specs.State.{Stage, InHead, InBody, HasDeclined, IsOver, Filled, TakenBy, limit_of, entry_in, write_in}
+use Rattle.pcache_put.specs.Steps.{EndsEarly, EndsPut, TellsResult, entry_reported, stage_ended, write_end}
+use Rattle.pcache_put.specs.declared.report.PutEnd.{PutEnd}
+use Rattle.pcache_put.specs.declared.report.PutEnd.TheVariants as end
 use Rattle.pcache_request.specs.Finishing.{after_finish}
 use Rattle.pcache_request.specs.Requests.{Request, dropped_by, entry_of}
 use Rattle.pcache_request.specs.WriteEnds.{EndsBody, EndsWrite as EndsIn, HoldsNoLock}

@@ -7,18 +7,18 @@ use Rattle.pcache_base.specs.declared.reason.NoCacheReason.{NoCacheReason}
 use Rattle.pcache_evict.specs.Tracked.{Tracked, Limits}
 use Rattle.pcache_lock.specs.Locks.{Locks}
 use Rattle.pcache_meta.specs.Meta.{Meta}
-use Rattle.pcache_put.specs.Parts.{left_behind}
-use Rattle.pcache_put.specs.Progress.{Parsed, AtBody, AtHead, HasFailed}
-use Rattle.pcache_put.specs.Counted.{Counted}
-use Rattle.pcache_put_ctx.specs.Puts.{Piece, Says, joined}
-use Rattle.pcache_put.specs.Response.{Response, is_whole}
-use Rattle.pcache_put.proofs.Unique.{one_response}
-use Rattle.pcache_put_ctx.specs.State.{Accepted, BodyRead, Stage, InHead, InBody, HasDeclined, IsOver, Filled, TakenBy, limit_of, write_in}
-use Rattle.pcache_put_ctx.specs.Steps.{ReturnsAgain, BeginsAtHead, EndsPiece, HasWholeBody, IfRefused, IsBegunBefore, MayFailPiece, filled_on, filled_wrote, is_done, stage_begun, store_after}
-use Rattle.pcache_put_ctx.proofs.Bodies.{done_whole}
-use Rattle.pcache_put_ctx.specs.declared.report.PieceEnd.{PieceEnd}
-use Rattle.pcache_put_ctx.specs.declared.report.PieceEnd.TheVariants as piece
-use Rattle.pcache_put_ctx.specs.declared.report.Written.{Written}
+use Rattle.pcache_response.specs.Parts.{left_behind}
+use Rattle.pcache_response.specs.Progress.{Parsed, AtBody, AtHead, HasFailed}
+use Rattle.pcache_response.specs.Counted.{Counted}
+use Rattle.pcache_put.specs.Puts.{Piece, Says, joined}
+use Rattle.pcache_response.specs.Response.{Response, is_whole}
+use Rattle.pcache_response.proofs.Unique.{one_response}
+use Rattle.pcache_put.specs.State.{Accepted, BodyRead, Stage, InHead, InBody, HasDeclined, IsOver, Filled, TakenBy, limit_of, write_in}
+use Rattle.pcache_put.specs.Steps.{ReturnsAgain, BeginsAtHead, EndsPiece, HasWholeBody, IfRefused, IsBegunBefore, MayFailPiece, filled_on, filled_wrote, is_done, stage_begun, store_after}
+use Rattle.pcache_put.proofs.Bodies.{done_whole}
+use Rattle.pcache_put.specs.declared.report.PieceEnd.{PieceEnd}
+use Rattle.pcache_put.specs.declared.report.PieceEnd.TheVariants as piece
+use Rattle.pcache_put.specs.declared.report.Written.{Written}
 use Rattle.pcache_request.specs.Requests.{dropped_by}
 use Rattle.pcache_store.specs.Store.{Store, is_told}
 use Rattle.std.specs.FinMap.{get}

@@ -5,10 +5,10 @@ use Rattle.std.specs.BTreeMap.{is_at}
 use Rattle.std.specs.Map.{lookup}
 use Rattle.std.specs.Ordering.{nat_cmp}
 use Rattle.std.specs.FinMap.{FinMap, empty, from_entries, get, get-empty}
-use Rattle.pcache_put.specs.Counted.{Counted}
+use Rattle.pcache_response.specs.Counted.{Counted}
 use Rattle.pcache_base.specs.declared.error.ErrorType.TheVariants.{OutOfMemory}
-use Rattle.pcache_put_ctx.specs.Puts.{Piece, Says, IsResult}
-use Rattle.pcache_put_ctx.specs.State.{Stage, InBody, Filled, limit_of}
+use Rattle.pcache_put.specs.Puts.{Piece, Says, IsResult}
+use Rattle.pcache_put.specs.State.{Stage, InBody, Filled, limit_of}
 use Rattle.pcache_evict.specs.Tracked.{Tracked, Limits}
 use Rattle.pcache_lock.specs.Locks.{Locks}
 use Rattle.pcache_meta.specs.Meta.{Meta}

@@ -7,7 +7,7 @@ use Rattle.pcache_evict.specs.Tracked.{Tracked, Limits}
 use Rattle.pcache_lock.specs.Locks.{Locks}
 use Rattle.pcache_lock.specs.declared.lock.permit.Locked.{Locked}
 use Rattle.pcache_lock.specs.declared.lock.status.LockStatus.TheVariants.{Done}
-use Rattle.pcache_put_ctx.specs.Puts.{Says}
+use Rattle.pcache_put.specs.Puts.{Says}
 use Rattle.pcache_store.specs.Store.{Store}
 use Rattle.pcache_request.specs.declared.cache.lock_use.CacheOptionOverrides.{CacheOptionOverrides}
 use Rattle.pcache_history.specs.declared.call.Act.{Act}

@@ -49,9 +49,9 @@ use Rattle.pcache_world.specs.Untold.{untold, uncounted, untold_put, untold_lock
 use Rattle.pcache_history.specs.Rules.{FollowsRule, AsksIf, Closes, Does, Feeds, FindsKind, IsOfKind, Replies, Finishes, HandsOn, IsLockRefusal, IsStarved, Looks, LooksOn, MayBe, Misses, Takes, Waits, accesses}
 use Rattle.pcache_world.specs.Step.{IsRow}
 use Rattle.pcache_history.specs.Taking.{Taking, counted_none, new_put}
-use Rattle.pcache_put.specs.Progress.{AtHead}
-use Rattle.pcache_put.specs.Counted.{Counted}
-use Rattle.pcache_put_ctx.specs.State.{InHead}
+use Rattle.pcache_response.specs.Progress.{AtHead}
+use Rattle.pcache_response.specs.Counted.{Counted}
+use Rattle.pcache_put.specs.State.{InHead}
 use Rattle.pcache_history.specs.Watching.{fills_of, lock_watching, waited_on, waited_with}
 
 -- a request that holds this

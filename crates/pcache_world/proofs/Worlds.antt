@@ -14,7 +14,7 @@ use Rattle.pcache_history.specs.declared.call.Act.TheVariants as C
 use Rattle.pcache_history.specs.declared.call.Reply.{Reply}
 use Rattle.pcache_history.specs.declared.entry.Entry.{Entry}
 use Rattle.pcache_history.specs.declared.entry.Event.{Event}
-use Rattle.pcache_put_ctx.specs.Puts.{Says}
+use Rattle.pcache_put.specs.Puts.{Says}
 use Rattle.pcache_history.specs.Events.{evicted_by, tracked}
 use Rattle.pcache_history.specs.Facts.{request_in}
 use Rattle.pcache_history.specs.History.{events_of}

@@ -16,7 +16,7 @@ use Rattle.pcache_history.specs.declared.entry.Event.{Event}
 use Rattle.pcache_history.specs.Facts.{request_in}
 use Rattle.pcache_world.specs.PartFacts.{facts_for}
 use Rattle.pcache_history.specs.Ongoing.{Ongoing, ReplyKind, was_done, handed_by, on_request, kind_of_reply, permit_held, row, taken_over, IsOfOne}
-use Rattle.pcache_put_ctx.specs.Puts.{Says}
+use Rattle.pcache_put.specs.Puts.{Says}
 use Rattle.pcache_world.specs.PutsSound.{HasSome, PutTurn}
 use Rattle.pcache_history.specs.Rules.{Replies}
 use Rattle.pcache_world.specs.State.{State}

@@ -2,7 +2,7 @@
 use Rattle.std.specs.Prelude.{Option, None, Some}
 use Rattle.pcache_meta.specs.Meta.{Meta}
 use Rattle.pcache_predict.specs.declared.admission.Decision.{Decision}
-use Rattle.pcache_put_ctx.specs.State.{Put}
+use Rattle.pcache_put.specs.State.{Put}
 use Rattle.pcache_request.specs.Requests.{Request}
 use Rattle.pcache_store.specs.Readers.{reader_of}
 use Rattle.pcache_store.specs.Store.{Reader}

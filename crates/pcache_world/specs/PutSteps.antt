@@ -1,8 +1,8 @@
 -- The events of and the reply to the end of a put, as the code makes them (own).
 use Rattle.std.specs.Prelude.{ℕ, true, Option, None, Some, IsSome, List, [], ◌∷◌, length}
 use Rattle.pcache_evict.specs.declared.eviction.entry_key.CacheEntryKey.{CacheEntryKey}
-use Rattle.pcache_put_ctx.specs.declared.report.PutEnd.{PutEnd}
-use Rattle.pcache_put_ctx.specs.declared.report.PutEnd.TheVariants as end
+use Rattle.pcache_put.specs.declared.report.PutEnd.{PutEnd}
+use Rattle.pcache_put.specs.declared.report.PutEnd.TheVariants as end
 use Rattle.pcache_history.specs.declared.call.Reply.{Reply}
 use Rattle.pcache_history.specs.declared.call.Reply.TheVariants as R
 use Rattle.pcache_history.specs.declared.entry.Event.{Event}

@@ -2,8 +2,8 @@
 use Rattle.std.specs.Prelude.{◌≡◌, ℕ, true, Option, None, Some, List}
 use Rattle.std.specs.Ordering.{nat_cmp}
 use Rattle.std.specs.FinMap as map
-use Rattle.pcache_put_ctx.specs.Puts.{Piece, Says}
-use Rattle.pcache_put_ctx.specs.State.{Filled, TakenBy}
+use Rattle.pcache_put.specs.Puts.{Piece, Says}
+use Rattle.pcache_put.specs.State.{Filled, TakenBy}
 use Rattle.pcache_store.specs.Store.{Store, is_told}
 use Rattle.pcache_history.specs.declared.call.Act.{Act}
 use Rattle.pcache_history.specs.declared.call.Act.TheVariants as C

@@ -5,8 +5,8 @@ use Rattle.std.specs.Option.{option_map}
 use Rattle.pcache_lock.specs.Permits.{Reader, Watch}
 use Rattle.pcache_lock.specs.declared.lock.permit.Locked.{Locked}
 use Rattle.pcache_lock.specs.declared.lock.permit.Locked.TheVariants.{Write, Read}
-use Rattle.pcache_put.specs.Counted.{Counted}
-use Rattle.pcache_put.specs.Progress.{AtHead}
+use Rattle.pcache_response.specs.Counted.{Counted}
+use Rattle.pcache_response.specs.Progress.{AtHead}
 use Rattle.pcache_request.specs.Requests.{Request}
 use Rattle.pcache_history.specs.Ongoing.{Ongoing}
 use Rattle.pcache_history.specs.Taking.{Taking, counted_none}

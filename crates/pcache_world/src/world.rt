@@ -19,5 +19,5 @@ mod vary;
 mod world_type;
 
 pub use pcache_history::{call, entry, laws, tokens};
-pub use pcache_put_ctx::boxed;
+pub use pcache_put::boxed;
 pub use world_type::{Totals, World};

@@ -2,7 +2,7 @@
 ghost use Rattle.std.specs.Prelude.{◌≡◌, ℕ, IfErr, IfOk, Option};
 ghost use Rattle.std.specs.declared.time.Duration.{Duration};
 ghost use Rattle.pcache_base.specs.declared.error.ErrorType.TheVariants.{OutOfMemory};
-ghost use Rattle.pcache_put_ctx.specs.Policies.{SaysByDefault};
+ghost use Rattle.pcache_put.specs.Policies.{SaysByDefault};
 ghost use Rattle.tests_of_caches.specs.Lifetimes.{IsOneSecond};
 
 use http::StatusCode;
@@ -10,7 +10,7 @@ use pcache_base::error::Result;
 use pcache_base::moment::Moment;
 use pcache_control::{CacheMetaDefaults, FreshDurationByStatusFn, RespCacheable};
 use pcache_meta::header::ResponseHeader;
-use pcache_put_ctx::policy::default_cacheable;
+use pcache_put::policy::default_cacheable;
 use std::alloc::Global;
 use std::time::Duration;
 

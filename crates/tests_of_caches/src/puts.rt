@@ -3,7 +3,7 @@
 //!
 //! The result is that of each call, then what is stored and what is tracked. Every response is fresh for a second unless
 //! it says something else.
-ghost use Rattle.pcache_put_ctx.specs.Policies.{SaysByDefault};
+ghost use Rattle.pcache_put.specs.Policies.{SaysByDefault};
 ghost use Rattle.tests_of_caches.specs.Lifetimes.{IsOneSecond};
 
 use crate::lifetimes::{by_one_second, one_second};
@@ -17,8 +17,8 @@ use pcache_control::{CacheMetaDefaults, RespCacheable};
 use pcache_evict::eviction::{EvictionManager, simple_lru};
 use pcache_meta::header::ResponseHeader;
 use pcache_policies::s3_fifo;
-use pcache_put_ctx::policy::{CachePut, HeadLimit};
-use pcache_put_ctx::report::PutOutcome;
+use pcache_put::policy::{CachePut, HeadLimit};
+use pcache_put::report::PutOutcome;
 use std::alloc::Global;
 use std::process::Abort;
 use std::time::Duration;

@@ -11,7 +11,7 @@ use pcache_meta::header::ResponseHeader;
 use pcache_meta::header_text::reader::header_deserialize;
 use pcache_meta::header_text::writer::header_serialize;
 use pcache_meta::meta::CacheMeta;
-use pcache_put::response_parse::{ParsePart, ResponseParse};
+use pcache_response::response_parse::{ParsePart, ResponseParse};
 use pcache_store::memory::MemCache;
 use pcache_store::storage::{HandleHit, HandleMiss, Storage};
 use std::alloc::Global;

@@ -6,7 +6,7 @@ use Rattle.pcache_base.specs.declared.error.ErrorType.{ErrorType}
 use Rattle.pcache_control.specs.Filters.{FreshBy, forbids, said_moment}
 use Rattle.pcache_control.specs.declared.response.RespCacheable.{RespCacheable}
 use Rattle.pcache_meta.specs.declared.header.ResponseHeader.{ResponseHeader}
-use Rattle.pcache_put_ctx.specs.Policies.{SaysByDefault}
+use Rattle.pcache_put.specs.Policies.{SaysByDefault}
 
 fresh-more : (now : ℕ) (o : Option ℕ) (P Q : Option Duration → Type 0) (result : Option ℕ) → ((d : Option Duration) → P d → Q d) → FreshBy now o P result → FreshBy now o Q result
 fresh-more now (Some m) P Q result more h = h

@@ -1,5 +1,5 @@
 //! Puts: responses that are pushed into a store in memory, in pieces.
-ghost use Rattle.pcache_put_ctx.specs.Policies.{SaysByDefault};
+ghost use Rattle.pcache_put.specs.Policies.{SaysByDefault};
 ghost use Rattle.tests_of_requests.specs.Lifetimes.{IsSeconds};
 
 use crate::lifetimes::{by_seconds, one_second};
@@ -16,9 +16,9 @@ use pcache_control::{CacheMetaDefaults, RespCacheable};
 use pcache_evict::eviction::EvictionManager;
 use pcache_evict::eviction::simple_lru::Manager;
 use pcache_meta::header::ResponseHeader;
-use pcache_put_ctx::context::CachePutCtx;
-use pcache_put_ctx::policy::{ByDefaults, CachePut};
-use pcache_put_ctx::report::{PieceEnd, PieceReport, PutEnd, PutOutcome, PutReport, Written};
+use pcache_put::context::CachePutCtx;
+use pcache_put::policy::{ByDefaults, CachePut};
+use pcache_put::report::{PieceEnd, PieceReport, PutEnd, PutOutcome, PutReport, Written};
 use pcache_store::memory::{MemCache, MemHitHandler, MemMissHandler};
 use pcache_store::storage::{HandleHit, HandleMiss, PurgeTarget, PurgeType, Storage};
 use std::alloc::Global;

@@ -1,5 +1,5 @@
 //! Puts of a cache in parts: responses that are pushed in, in pieces. A bar stands between two pieces.
-ghost use Rattle.pcache_put_ctx.specs.Policies.{SaysByDefault};
+ghost use Rattle.pcache_put.specs.Policies.{SaysByDefault};
 ghost use Rattle.tests_of_sharing.specs.Lifetimes.{IsOneSecond};
 
 use crate::gates::Gate;
@@ -11,8 +11,8 @@ use pcache_base::moment::Moment;
 use pcache_base::reason::NoCacheReason;
 use pcache_control::{CacheMetaDefaults, RespCacheable};
 use pcache_meta::header::ResponseHeader;
-use pcache_put_ctx::policy::CachePut;
-use pcache_put_ctx::report::PutOutcome;
+use pcache_put::policy::CachePut;
+use pcache_put::report::PutOutcome;
 use pcache_shared_cache::{SharedPut, Unnamed};
 use std::alloc::Global;
 use std::sync::{Arc, Wait};

@@ -312,7 +312,13 @@ fn a_long_trace_has_columns_of_operations(rt: HostRuntime) -> Result<(), Fail> {
 
 #[test]
 fn a_long_trace_has_records(rt: HostRuntime) -> Result<(), Fail> {
-    plays(&rt, rt.alloc(), "long.oracleGeneral", Form::Records, RECORDS)?;
+    plays(
+        &rt,
+        rt.alloc(),
+        "long.oracleGeneral",
+        Form::Records,
+        RECORDS,
+    )?;
     Ok(())
 }
 

@@ -1,7 +1,7 @@
 //! The limit on the size of what is stored.
 //! Expected counts are hand-computed.
 use pcache_base::error::ErrorType;
-use pcache_put::max_file_size::*;
+use pcache_response::max_file_size::*;
 
 // Whether the body is within the limit before it comes, at three bytes, at one more, at the most that can be said, and
 // from then on.

@@ -4,7 +4,7 @@
 use crate::rows::{Desk, Told, number, play, rest, unescape, word};
 use pcache_base::error::{ErrorType, Result};
 use pcache_meta::header::ResponseHeader;
-use pcache_put::response_parse::*;
+use pcache_response::response_parse::*;
 use std::alloc::Global;
 use std::fmt::Write;
 use std::process::Abort;

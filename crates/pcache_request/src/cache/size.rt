@@ -1,6 +1,6 @@
 //! The limits on a body's size and on a head's.
 use super::HttpCache;
-use pcache_put::max_file_size::MaxFileSizeTracker;
+use pcache_response::max_file_size::MaxFileSizeTracker;
 use pcache_store::storage::Storage;
 
 impl<S: Storage> HttpCache<S> {

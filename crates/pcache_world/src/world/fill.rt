@@ -31,7 +31,7 @@ use pcache_history::call::Reply;
 use pcache_history::entry::{Entries, Event};
 use pcache_lock::lock::CacheLock;
 use pcache_meta::meta::CacheMeta;
-use pcache_put_ctx::boxed::Boxed;
+use pcache_put::boxed::Boxed;
 use pcache_request::cache::{FinishReport, HttpCache, WriteBegin, WriteEnd, WriteReport};
 use pcache_store::memory::MemCache;
 use pcache_store::storage::HandleMiss;

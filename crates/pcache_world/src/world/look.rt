@@ -30,7 +30,7 @@ use pcache_lock::lock::CacheLock;
 use pcache_meta::meta::CacheMeta;
 use pcache_meta::meta::spelled::SpelledMeta;
 use pcache_predict::admission::Decision;
-use pcache_put_ctx::boxed::Boxed;
+use pcache_put::boxed::Boxed;
 use pcache_request::cache::{Access, AskedLock, FoundReport, HttpCache, LookUp, Witness};
 use pcache_request::phase::{CachePhase, HitStatus};
 use pcache_store::memory::{MemCache, MemHitHandler};

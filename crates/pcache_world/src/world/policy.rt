@@ -4,14 +4,14 @@ ghost use Rattle.std.specs.declared.time.Duration.{Duration};
 ghost use Rattle.pcache_base.specs.declared.error.ErrorType.TheVariants.{OutOfMemory};
 ghost use Rattle.pcache_control.specs.declared.response.RespCacheable.{RespCacheable};
 ghost use Rattle.pcache_meta.specs.declared.header.ResponseHeader.{ResponseHeader};
-ghost use Rattle.pcache_put_ctx.specs.Policies.{SaysByDefault};
+ghost use Rattle.pcache_put.specs.Policies.{SaysByDefault};
 
 use http::StatusCode;
 use pcache_base::error::Result;
 use pcache_base::moment::Moment;
 use pcache_control::{CacheMetaDefaults, FreshDurationByStatusFn, RespCacheable};
 use pcache_meta::header::ResponseHeader;
-use pcache_put_ctx::policy::{CachePut, default_cacheable};
+use pcache_put::policy::{CachePut, default_cacheable};
 use std::alloc::Global;
 use std::marker::PhantomData;
 use std::time::Duration;

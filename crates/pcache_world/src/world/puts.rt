@@ -1,7 +1,7 @@
 //! Calls of puts: responses that are pushed in, in pieces.
 ghost use Rattle.std.specs.Prelude.{◌≡◌, ◌+◌, ◌≤◌, ◌++◌, [], Some, None, IsSome, option_map, vec_len};
 ghost use Rattle.std.specs.Vec.{vec_capacity};
-ghost use Rattle.pcache_put_ctx.specs.State.{entry_in, write_in};
+ghost use Rattle.pcache_put.specs.State.{entry_in, write_in};
 ghost use Rattle.pcache_request.specs.Requests.{dropped_by};
 ghost use Rattle.pcache_history.specs.Due.{KeepsKey};
 ghost use Rattle.pcache_history.specs.Events.{evicted_by};
@@ -27,9 +27,9 @@ use pcache_evict::eviction::{CacheEntryKey, EvictionManager};
 use pcache_history::call::Reply;
 use pcache_history::entry::Event;
 use pcache_meta::meta::CacheMeta;
-use pcache_put_ctx::boxed::Boxed;
-use pcache_put_ctx::context::CachePutCtx;
-use pcache_put_ctx::report::{PieceEnd, PieceReport, PutEnd, PutReport, Written};
+use pcache_put::boxed::Boxed;
+use pcache_put::context::CachePutCtx;
+use pcache_put::report::{PieceEnd, PieceReport, PutEnd, PutReport, Written};
 use pcache_store::memory::{MemCache, MemMissHandler};
 use pcache_store::storage::HandleMiss;
 use std::alloc::Global;

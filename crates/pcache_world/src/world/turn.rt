@@ -37,7 +37,7 @@ use pcache_evict::eviction::EvictionManager;
 use pcache_history::call::{Act, Call, Reply, RequestAct};
 use pcache_history::entry::Event;
 use pcache_lock::lock::CacheLock;
-use pcache_put_ctx::boxed::Boxed;
+use pcache_put::boxed::Boxed;
 use pcache_request::cache::{CacheOptionOverrides, HttpCache};
 use pcache_store::memory::MemCache;
 use std::alloc::Global;

@@ -24,7 +24,7 @@ use pcache_history::call::{Act, Reply, RequestAct};
 use pcache_history::entry::Event;
 use pcache_lock::lock::CacheLock;
 use pcache_meta::meta::CacheMeta;
-use pcache_put_ctx::boxed::Boxed;
+use pcache_put::boxed::Boxed;
 use pcache_request::cache::{HttpCache, Renewal};
 use pcache_store::memory::MemCache;
 

@@ -1,5 +1,5 @@
 //! Ends of freshness, why something is purged, and heads that were read.
-ghost use Rattle.pcache_put_ctx.specs.Policies.{SaysByDefault};
+ghost use Rattle.pcache_put.specs.Policies.{SaysByDefault};
 ghost use Rattle.tests_of_requests.specs.Lifetimes.{IsSeconds};
 
 use super::*;
@@ -9,8 +9,8 @@ use pcache_base::error::{Error, ErrorType};
 use pcache_control::{CacheMetaDefaults, RespCacheable};
 use pcache_evict::eviction::simple_lru::Manager;
 use pcache_meta::header::ResponseHeader;
-use pcache_put_ctx::context::CachePutCtx;
-use pcache_put_ctx::policy::CachePut;
+use pcache_put::context::CachePutCtx;
+use pcache_put::policy::CachePut;
 use pcache_store::storage::PurgeType;
 use std::cell::Cell;
 

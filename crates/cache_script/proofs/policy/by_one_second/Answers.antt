@@ -1,4 +1,4 @@
-use Rattle.pcache_put_ctx.proofs.Answered.{answered-more}
+use Rattle.pcache_put.proofs.Answered.{answered-more}
 use Rattle.cache_script.specs.Lifetimes.{IsOneSecond}
 use Rattle.cache_script.proofs.policy.by_one_second.Goals as goal
 

@@ -2,8 +2,8 @@ use Rattle.std.proofs.Common.{rules, ◌≡◌, length, map, take, All, get_or, 
 use Rattle.std.proofs.lemmas.List.Elements.{All-push, All-get_or}
 use Rattle.httparse.specs.Spans.{header_bytes, IsHeaderWithin}
 use Rattle.httparse.specs.declared.spans.HeaderSpan.{HeaderSpan}
-use Rattle.pcache_put.specs.Fields.{IsPair, IsShort, append_pair, fields_after}
-use Rattle.pcache_put.proofs.FieldLemmas.{mapped_more, All-map_at, fields_more}
+use Rattle.pcache_response.specs.Fields.{IsPair, IsShort, append_pair, fields_after}
+use Rattle.pcache_response.proofs.FieldLemmas.{mapped_more, All-map_at, fields_more}
 use Rattle.pcache_c.proofs.received.fields_in.Goals as goal
 
 empty : HeaderSpan

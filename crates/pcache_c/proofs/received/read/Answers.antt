@@ -3,8 +3,8 @@ use Rattle.http.specs.StatusCode.{IsStatusCode}
 use Rattle.httparse.specs.Grammar.{ResponseHead, status_code}
 use Rattle.httparse.specs.Spans.{name_and_value}
 use Rattle.httparse.proofs.GrammarLemmas.{ReadsResponse-append, response_unique}
-use Rattle.pcache_put.specs.Fields.{IsPair, IsShort}
-use Rattle.pcache_put.proofs.HeadLemmas.{fields_are_pairs}
+use Rattle.pcache_response.specs.Fields.{IsPair, IsShort}
+use Rattle.pcache_response.proofs.HeadLemmas.{fields_are_pairs}
 use Rattle.pcache_c.proofs.received.read.Goals as goal
 
 pub returns-in_default-clause-refused : goal.returns-in_default-clause-refused

@@ -1,4 +1,4 @@
-use Rattle.pcache_put_ctx.proofs.Answered.{answered-more}
+use Rattle.pcache_put.proofs.Answered.{answered-more}
 use Rattle.tests_of_caches.specs.Lifetimes.{IsOneSecond}
 use Rattle.tests_of_caches.proofs.lifetimes.by_one_second.Goals as goal
 

@@ -1,4 +1,4 @@
-use Rattle.pcache_put_ctx.proofs.Answered.{answered-more}
+use Rattle.pcache_put.proofs.Answered.{answered-more}
 use Rattle.tests_of_sharing.specs.Lifetimes.{IsOneSecond}
 use Rattle.tests_of_sharing.proofs.lifetimes.by_one_second.Goals as goal
 

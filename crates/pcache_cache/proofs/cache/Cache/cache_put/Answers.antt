@@ -1,7 +1,7 @@
 use Rattle.std.proofs.Common.{◌∙◌, ap, Some}
 use Rattle.pcache_cache.specs.OwnPut.{put_past, store_put}
-use Rattle.pcache_put_ctx.proofs.Halves.{reads_and_stores, why_answered}
-use Rattle.pcache_put_ctx.specs.State.{Put}
+use Rattle.pcache_put.proofs.Halves.{reads_and_stores, why_answered}
+use Rattle.pcache_put.specs.State.{Put}
 use Rattle.pcache_cache.proofs.cache.Cache.cache_put.Goals as goal
 
 pub returns-clause-step : goal.returns-clause-step

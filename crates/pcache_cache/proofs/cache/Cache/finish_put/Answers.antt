@@ -1,6 +1,6 @@
 use Rattle.std.proofs.Common.{ap, ◌≡◌, true, Some, subst, sym, ◌∙◌}
 use Rattle.pcache_base.specs.Key.{slot}
-use Rattle.pcache_put_ctx.specs.State.{write_in}
+use Rattle.pcache_put.specs.State.{write_in}
 use Rattle.pcache_store.specs.Finishes.{body_number}
 use Rattle.pcache_cache.specs.Parts.{IsKept, Parts, is_own_write}
 use Rattle.pcache_cache.proofs.Ended.{same-number}

@@ -1,7 +1,7 @@
 use Rattle.std.proofs.Common.{ap, subst, sym, ◌∙◌}
-use Rattle.pcache_put_ctx.specs.Puts.{Piece}
-use Rattle.pcache_put_ctx.specs.Readings.{ReadsPiece}
-use Rattle.pcache_put_ctx.specs.State.{Put}
+use Rattle.pcache_put.specs.Puts.{Piece}
+use Rattle.pcache_put.specs.Readings.{ReadsPiece}
+use Rattle.pcache_put.specs.State.{Put}
 use Rattle.pcache_shared_cache.specs.SharedPuts.{SeatedPut, TakesIn}
 use Rattle.pcache_shared_cache.proofs.Logs.{goes_by, lent}
 use Rattle.pcache_shared_cache.proofs.Pushed.{piece_taken, takes_in}

@@ -1,6 +1,6 @@
 use Rattle.std.proofs.Common.{ℕ, List, Some, ◌∙◌, ap, subst}
 use Rattle.pcache_base.specs.Key.{slot}
-use Rattle.pcache_put_ctx.specs.State.{write_in}
+use Rattle.pcache_put.specs.State.{write_in}
 use Rattle.pcache_history.specs.Ongoing.{ongoing_put}
 use Rattle.pcache_history.specs.Taking.{taking}
 use Rattle.pcache_history.specs.declared.call.Act.TheVariants.{Feed}

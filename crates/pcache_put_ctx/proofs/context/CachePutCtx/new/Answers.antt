@@ -1,5 +1,0 @@
-use Rattle.pcache_put_ctx.proofs.Results.{taken_nothing}
-use Rattle.pcache_put_ctx.proofs.context.CachePutCtx.new.Goals as goal
-
-pub returns-clause-taken : goal.returns-clause-taken
-returns-clause-taken g c = rw c.new.ensures.empty (taken_nothing (g.C.CachePut.says c.args.policy))

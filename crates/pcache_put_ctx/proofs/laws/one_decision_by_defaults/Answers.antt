@@ -1,5 +1,0 @@
-use Rattle.pcache_put_ctx.proofs.OneAnswer.{one_by_default}
-use Rattle.pcache_put_ctx.proofs.laws.one_decision_by_defaults.Goals as goal
-
-pub returns : goal.returns
-returns g c = one_by_default _ _

@@ -1,0 +1,7 @@
+pub mod FieldLemmas
+pub mod HeadLemmas
+pub mod Ends
+pub mod Joins
+pub mod Lengths
+pub mod PartLemmas
+pub mod Unique

@@ -1,0 +1,10 @@
+use Rattle.std.proofs.Common.{◌≡◌, map, take, All}
+use Rattle.httparse.specs.Spans.{header_bytes}
+use Rattle.pcache_response.specs.Fields.{IsShort, fields_after}
+use Rattle.pcache_response.proofs.head.fields_of.Given as goal
+
+abbrev pub invariant-spans : goal.invariant-spans
+invariant-spans l = record {
+  so_far : l.fields ≡ fields_after (map (header_bytes l.bytes) (take l.i l.spans));
+  short : All IsShort (map (header_bytes l.bytes) (take l.i l.spans));
+}

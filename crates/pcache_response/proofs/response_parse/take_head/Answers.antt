@@ -1,0 +1,37 @@
+use Rattle.std.proofs.Common.{inr, drop, length, ap, ◌∙◌}
+use Rattle.std.proofs.lemmas.Result.{err_from_is_err_and}
+use Rattle.pcache_response.specs.Response.{Response}
+use Rattle.pcache_response.specs.Parts.{nothing, add_all, left_behind, body_parts}
+use Rattle.pcache_response.proofs.PartLemmas.{response_starts, unreadable_there, parts_there, whole_given, rest_is}
+use Rattle.pcache_response.proofs.response_parse.take_head.Goals as goal
+
+pub returns-in_err-head-in-Ended-clause-invalid : goal.returns-in_err-head-in-Ended-clause-invalid
+returns-in_err-head-in-Ended-clause-invalid c =
+    let p = err_from_is_err_and c.from_residual-in_err-head-in-Ended.result c.from_residual-in_err-head-in-Ended.ensures.1 in
+    let joined = rw c.in-Ended.is at c.in_ok-head.ensures.ok in
+    rw (p.1, p.2) (λ e. unreadable_there c.args.head c.args.piece.now c.in-Ended.head.items c.in-Ended.used joined.2 joined.1
+    (λ header reads. c.in_err-head-in-Ended.ensures.invalid e header reads))
+
+pub returns-in_ok-body-in-Ended-clause-joined : goal.returns-in_ok-body-in-Ended-clause-joined
+returns-in_ok-body-in-Ended-clause-joined c =
+    let joined = rw c.in-Ended.is at c.in_ok-head.ensures.ok in
+    let read = c.in_ok-head-in-Ended in
+    let r : Response = record { head = read.head.0; size = read.size; behind = drop c.in-Ended.used c.args.piece.now } in (
+      r,
+      response_starts c.args.head c.args.piece.now c.in-Ended.head.items c.in-Ended.used read.head.0 read.size joined.2 joined.1 read.ensures.reads read.ensures.size,
+      c.in_ok-body-in-Ended.ensures.left ∙ ap (λ xs. left_behind read.size (length xs)) (rest_is c.in-Ended.used c.args.piece.now),
+      ap (add_all nothing) (parts_there read.head read.size c.in_ok-body-in-Ended.body r.behind read.ensures.whole
+          (c.in_ok-body-in-Ended.ensures.part ∙ ap (body_parts read.size) (rest_is c.in-Ended.used c.args.piece.now))) ∙ whole_given r,
+    )
+
+pub returns-in_ok-body-in-Ended-clause-gives : goal.returns-in_ok-body-in-Ended-clause-gives
+returns-in_ok-body-in-Ended-clause-gives c =
+    let joined = rw c.in-Ended.is at c.in_ok-head.ensures.ok in
+    let read = c.in_ok-head-in-Ended in
+    let r : Response = record { head = read.head.0; size = read.size; behind = drop c.in-Ended.used c.args.piece.now } in
+    inr (
+      r,
+      response_starts c.args.head c.args.piece.now c.in-Ended.head.items c.in-Ended.used read.head.0 read.size joined.2 joined.1 read.ensures.reads read.ensures.size,
+      parts_there read.head read.size c.in_ok-body-in-Ended.body r.behind read.ensures.whole
+          (c.in_ok-body-in-Ended.ensures.part ∙ ap (body_parts read.size) (rest_is c.in-Ended.used c.args.piece.now)),
+    )

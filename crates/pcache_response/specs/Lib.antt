@@ -1,0 +1,9 @@
+pub mod Counted
+pub mod Fields
+pub mod Head
+pub mod HeadEnd
+pub mod HeadPiece
+pub mod Parts
+pub mod HeadStates
+pub mod Progress
+pub mod Response
