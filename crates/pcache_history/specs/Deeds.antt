@@ -1,15 +1,15 @@
--- What the entries of a history do to locks, as deeds, and what a list of deeds says (own). Deeds are listed newest first,
--- those of one call oldest first. One function says how one deed changes the result so far; the definition over the list then
--- has two clauses.
-use Rattle.std.specs.Prelude.{ℕ, ◌==◌, Bool, true, false, cond, if◌then◌else◌, Option, None, Some, is_some, List, [], ◌∷◌, ◌++◌, reverse}
+-- What the entries of a history do to locks, as deeds of the lock table with who did them, and what a list of deeds says
+-- (own). Deeds are listed newest first, those of one call oldest first. What concerns a lock alone is said by the table's
+-- own words, of the deeds that the table's past has too (`done`).
+use Rattle.std.specs.Prelude.{ℕ, ◌==◌, Bool, false, cond, if◌then◌else◌, Option, None, Some, List, [], ◌∷◌, ◌++◌, reverse}
 use Rattle.std.specs.List.{list_any}
 use Rattle.std.specs.Option.{option_map}
 use Rattle.pcache_base.specs.declared.poll.Poll.TheVariants.{Pending}
-use Rattle.pcache_lock.specs.Permits.{released_status, dropped_status}
+use Rattle.pcache_lock.specs.Deeds as table
 use Rattle.pcache_lock.specs.declared.lock.permit.Locked.{Locked}
 use Rattle.pcache_lock.specs.declared.lock.permit.Locked.TheVariants.{Write, Read}
 use Rattle.pcache_lock.specs.declared.lock.status.LockStatus.{LockStatus}
-use Rattle.pcache_lock.specs.declared.lock.status.LockStatus.TheVariants.{Waiting, Done, TransientError, GiveUp, AgeTimeout}
+use Rattle.pcache_lock.specs.declared.lock.status.LockStatus.TheVariants.{Done, TransientError, GiveUp}
 use Rattle.pcache_request.specs.Releasing.{status_for}
 use Rattle.pcache_history.specs.declared.call.Act.{Act}
 use Rattle.pcache_history.specs.declared.call.Act.TheVariants as C
@@ -21,17 +21,10 @@ use Rattle.pcache_history.specs.Ongoing.{Ongoing, ReplyKind, was_done, was_waite
 
 -- what an entry does to locks
 pub data Deed : Type 0 where
-  -- a request asks for the lock of a key at a moment, and is given the permit, or a read lock
-  Asked : (by slot lock : ℕ) (is_permit : Bool) (at : ℕ) → Deed
-  -- a permit is released with a status, let go, or found too old
-  Released : (lock : ℕ) (status : LockStatus) → Deed
-  LetGo : (lock : ℕ) → Deed
-  Aged : (lock : ℕ) → Deed
-  -- a held permit is handed to a request
+  -- a request does this to the lock table. Whether a permit is to replace a stale entry no event tells, and no word here asks
+  Did : (by : ℕ) (deed : table.Deed) → Deed
+  -- a held permit is handed to a request; a request polls its read lock, and has to wait
   Handed : (lock by : ℕ) → Deed
-  -- the holder of a permit publishes tokens
-  Published : (lock : ℕ) (tokens : List ℕ) → Deed
-  -- a request polls its read lock, and has to wait
   Polled : (by : ℕ) → Deed
 
 -- The deeds of an entry.
@@ -60,10 +53,10 @@ status_left _ events = Done
 
 -- the deed of one event, of a call of the request r at a moment, which releases with this status
 abbrev pub deed_of : ℕ → ℕ → LockStatus → Event → List Deed
-deed_of r at s (E.Ask k n is_permit) = Asked r k n is_permit at ∷ []
-deed_of r at s (E.Release n) = Released n s ∷ []
-deed_of r at s (E.LetGo n) = LetGo n ∷ []
-deed_of r at s (E.Aged n) = Aged n ∷ []
+deed_of r at s (E.Ask k n is_permit) = Did r (table.asked k false at n is_permit) ∷ []
+deed_of r at s (E.Release n) = Did r (table.Released n s) ∷ []
+deed_of r at s (E.LetGo n) = Did r (table.LetGo n) ∷ []
+deed_of r at s (E.Aged n) = Did r (table.Aged n at) ∷ []
 deed_of r at s _ = []
 
 -- the deeds of these events, of a call of the request r at a moment, which releases with this status
@@ -77,10 +70,10 @@ held_in None = None
 held_in (Some x) = x.request.held
 
 -- tokens are published if a permit is held; a permit that is held is handed over
-abbrev pub published_on : List ℕ → Option Locked → List Deed
-published_on tokens None = []
-published_on tokens (Some (Write p)) = Published p.number tokens ∷ []
-published_on tokens (Some (Read rd)) = []
+abbrev pub published_on : ℕ → List ℕ → Option Locked → List Deed
+published_on r tokens None = []
+published_on r tokens (Some (Write p)) = Did r (table.Published p.number tokens) ∷ []
+published_on r tokens (Some (Read rd)) = []
 
 abbrev pub handed_on : ℕ → Option Locked → List Deed
 handed_on to None = []
@@ -90,7 +83,7 @@ handed_on to (Some (Read rd)) = []
 -- what a call does to locks that no event shows: tokens are published, if a permit is held; a wait has to go on; a permit is
 -- handed over
 abbrev pub said_by : ℕ → Act → ReplyKind → Option Locked → List Deed
-said_by r (C.Request (Q.Publish tokens)) was_done held = published_on tokens held
+said_by r (C.Request (Q.Publish tokens)) was_done held = published_on r tokens held
 said_by r (C.Wait t) (was_waited Pending) held = Polled r ∷ []
 said_by r (C.Give to) was_done held = handed_on to held
 said_by r _ _ held = []
@@ -104,34 +97,28 @@ abbrev pub deeds_of : List Entry → List Deed
 deeds_of [] = []
 deeds_of (e ∷ h) = reverse (deeds_in e.call.request e.call.act (kind_of_reply e.reply) e.events (request_of e.call.request h)) ++ deeds_of h
 
--- What one deed says.
+-- the deeds that the past of the lock table has too
+abbrev pub done : List Deed → List table.Deed
+done [] = []
+done (Did r deed ∷ ds) = deed ∷ done ds
+done (_ ∷ ds) = done ds
 
--- the slot of a permit, and the moment when it was given
-abbrev pub ask_at : ℕ → Deed → Option (ℕ × ℕ) → Option (ℕ × ℕ)
-ask_at l (Asked r k n true t) before = if n == l then Some (k, t) else before
-ask_at l _ before = before
+-- What one deed says.
 
 -- the request that holds a permit
 abbrev pub holds_at : ℕ → Deed → Option ℕ → Option ℕ
-holds_at l (Asked r k n true t) before = if n == l then Some r else before
-holds_at l (Released n s) before = if n == l then None else before
-holds_at l (LetGo n) before = if n == l then None else before
+holds_at l (Did r (table.Granted k n stale t)) before = if n == l then Some r else before
+holds_at l (Did r (table.Made n age stale t)) before = if n == l then Some r else before
+holds_at l (Did r (table.Released n s)) before = if n == l then None else before
+holds_at l (Did r (table.LetGo n)) before = if n == l then None else before
 holds_at l (Handed n r) before = if n == l then option_map (λ _. r) before else before
 holds_at l _ before = before
 
--- the status of a permit for those who wait for it: waiting, too old, dangling once it is let go, or else the status that
--- it was released with, unless it was found too old
-abbrev pub status_at : ℕ → Deed → LockStatus → LockStatus
-status_at l (Asked r k n true t) before = if n == l then Waiting else before
-status_at l (Released n s) before = if n == l then released_status s before else before
-status_at l (LetGo n) before = if n == l then dropped_status before else before
-status_at l (Aged n) before = if n == l then AgeTimeout else before
-status_at l _ before = before
-
 -- the current publication
 abbrev pub publication_at : ℕ → Deed → List ℕ → List ℕ
-publication_at l (Asked r k n true t) before = if n == l then [] else before
-publication_at l (Published n tokens) before = if n == l then tokens else before
+publication_at l (Did r (table.Granted k n stale t)) before = if n == l then [] else before
+publication_at l (Did r (table.Made n age stale t)) before = if n == l then [] else before
+publication_at l (Did r (table.Published n tokens)) before = if n == l then tokens else before
 publication_at l _ before = before
 
 -- one more publication for a reader that has some; for one that has none, the current one
@@ -147,30 +134,18 @@ shown_first p (q ∷ qs) = q ∷ qs
 -- the publications of the lock l that the request r, which waits for it, has to look at: the one that is current at its
 -- first poll, and the later ones
 abbrev pub shown_at : ℕ → ℕ → List ℕ → Deed → List (List ℕ) → List (List ℕ)
-shown_at r l publication (Asked q k n is_permit t) before = if q == r then [] else before
-shown_at r l publication (Published n tokens) before = if n == l then shown_more tokens before else before
+shown_at r l publication (Did q (table.Granted k n stale t)) before = if q == r then [] else before
+shown_at r l publication (Did q (table.Joined k n t)) before = if q == r then [] else before
+shown_at r l publication (Did q (table.Published n tokens)) before = if n == l then shown_more tokens before else before
 shown_at r l publication (Polled q) before = if q == r then shown_first publication before else before
 shown_at r l publication _ before = before
 
 -- What a list of deeds says.
 
-abbrev pub ask_of : ℕ → List Deed → Option (ℕ × ℕ)
-ask_of l [] = None
-ask_of l (d ∷ ds) = ask_at l d (ask_of l ds)
-
 -- the request that holds a permit
 abbrev pub who_holds : ℕ → List Deed → Option ℕ
 who_holds l [] = None
 who_holds l (d ∷ ds) = holds_at l d (who_holds l ds)
-
--- whether a permit is held
-abbrev pub is_held : ℕ → List Deed → Bool
-is_held l ds = is_some (who_holds l ds)
-
--- the status of a permit
-abbrev pub status_of : ℕ → List Deed → LockStatus
-status_of l [] = Waiting
-status_of l (d ∷ ds) = status_at l d (status_of l ds)
 
 -- the current publication of a permit
 abbrev pub publication : ℕ → List Deed → List ℕ

@@ -1,5 +1,5 @@
 -- A permit that one request hands to another leaves a sound world sound.
-use Rattle.std.proofs.Common.{◌≡◌, ◌≢◌, ℕ, ◌+◌, ◌^◌, ◌<◌, ◌==◌, Bool, true, false, cond, if◌then◌else◌, Option, None, Some, IsSome, is_some, List, [], ◌∷◌, ◌++◌, reverse, refl, ap, sym, subst, ◌∙◌, arith, inl, inr, length, option_map}
+use Rattle.std.proofs.Common.{◌≡◌, ◌≢◌, ℕ, ◌+◌, ◌^◌, ◌<◌, ◌==◌, Bool, true, false, cond, if◌then◌else◌, Option, None, Some, IsSome, List, [], ◌∷◌, ◌++◌, reverse, refl, ap, sym, subst, ◌∙◌, arith, inl, inr, length, option_map}
 use Rattle.std.specs.Ordering.{nat_cmp}
 use Rattle.std.specs.BTreeMap.{is_at}
 use Rattle.std.specs.Cmp.{nat_cmp_total}
@@ -20,7 +20,9 @@ use Rattle.pcache_history.specs.declared.call.Reply.TheVariants as R
 use Rattle.pcache_history.specs.declared.entry.Entry.{Entry}
 use Rattle.pcache_history.specs.declared.entry.Event.{Event}
 use Rattle.pcache_history.specs.declared.entry.Event.TheVariants as E
-use Rattle.pcache_history.specs.Deeds.{Deed, Handed, LetGo, deeds_by, deeds_of, handed_on, held_in, is_held, shown, who_holds}
+use Rattle.pcache_lock.specs.Deeds.{LetGo}
+use Rattle.pcache_lock.specs.PastWaits.{is_held}
+use Rattle.pcache_history.specs.Deeds.{Deed, Did, Handed, deeds_by, deeds_of, done, handed_on, held_in, shown, who_holds}
 use Rattle.pcache_history.specs.Due.{AreDue}
 use Rattle.pcache_history.specs.Facts.{Facts, request_in}
 use Rattle.pcache_world.specs.PartFacts.{facts_for, facts_in}
@@ -37,10 +39,10 @@ use Rattle.pcache_world.specs.Sound.{AllHold, AreOpen, IsSound, readers}
 use Rattle.pcache_world.specs.Step.{Turn}
 use Rattle.pcache_history.specs.Taking.{Taking}
 use Rattle.pcache_history.specs.Waiting.{AreGiven, Waiting, waiting_in}
-use Rattle.pcache_world.proofs.LockKept.{go, holds-none, reversed-two}
+use Rattle.pcache_world.proofs.LockKept.{go, held-by, holds-none, reversed-two}
 use Rattle.pcache_world.proofs.LockSteps.{let-go-deeds}
 use Rattle.pcache_world.proofs.LockTable as table
-use Rattle.pcache_world.proofs.LockTable.{Follows, given-asked, held-handed, some-same}
+use Rattle.pcache_world.proofs.LockTable.{Follows, given-there, read-there, some-same}
 use Rattle.pcache_world.proofs.LockWatch.{watch-same}
 use Rattle.pcache_world.proofs.MovedState.{readers-set, readers-split, set_to}
 use Rattle.pcache_world.proofs.MovesOf.{idle}
@@ -120,30 +122,30 @@ taker-is all h from to are =
 
 -- ---- a lock that a request goes on to hold
 
-abbrev Deeds : ℕ → ℕ → Option ℕ → List Deed → List Deed
-Deeds l to o ds = each_deed LetGo o ++ Handed l to ∷ ds
+abbrev Deeds : ℕ → ℕ → ℕ → Option ℕ → List Deed → List Deed
+Deeds r l to o ds = each_deed (λ x. Did r (LetGo x)) o ++ Handed l to ∷ ds
 
-who-still : (ds : List Deed) (l to z : ℕ) (o : Option ℕ) → (l == z) ≡ false → ((w : ℕ) → o ≡ Some w → (w == z) ≡ false) → who_holds z (Deeds l to o ds) ≡ who_holds z ds
-who-still ds l to z None other others = ap (λ b. if b then option_map (λ _. to) (who_holds z ds) else who_holds z ds) other
-who-still ds l to z (Some w) other others = ap (λ b. if b then None else who_holds z (Handed l to ∷ ds)) (others w refl) ∙ ap (λ b. if b then option_map (λ _. to) (who_holds z ds) else who_holds z ds) other
+who-still : (who : ℕ) (ds : List Deed) (l to z : ℕ) (o : Option ℕ) → (l == z) ≡ false → ((w : ℕ) → o ≡ Some w → (w == z) ≡ false) → who_holds z (Deeds who l to o ds) ≡ who_holds z ds
+who-still who ds l to z None other others = ap (λ b. if b then option_map (λ _. to) (who_holds z ds) else who_holds z ds) other
+who-still who ds l to z (Some w) other others = ap (λ b. if b then None else who_holds z (Handed l to ∷ ds)) (others w refl) ∙ ap (λ b. if b then option_map (λ _. to) (who_holds z ds) else who_holds z ds) other
 
-who-takes : (ds : List Deed) (l from to : ℕ) (o : Option ℕ) → who_holds l ds ≡ Some from → ((w : ℕ) → o ≡ Some w → (w == l) ≡ false) → who_holds l (Deeds l to o ds) ≡ Some to
-who-takes ds l from to None is others = ap (λ b. if b then option_map (λ _. to) (who_holds l ds) else who_holds l ds) (same-number l) ∙ ap (option_map (λ _. to)) is
-who-takes ds l from to (Some w) is others =
+who-takes : (who : ℕ) (ds : List Deed) (l from to : ℕ) (o : Option ℕ) → who_holds l ds ≡ Some from → ((w : ℕ) → o ≡ Some w → (w == l) ≡ false) → who_holds l (Deeds who l to o ds) ≡ Some to
+who-takes who ds l from to None is others = ap (λ b. if b then option_map (λ _. to) (who_holds l ds) else who_holds l ds) (same-number l) ∙ ap (option_map (λ _. to)) is
+who-takes who ds l from to (Some w) is others =
     ap (λ b. if b then None else who_holds l (Handed l to ∷ ds)) (others w refl) ∙ ap (λ b. if b then option_map (λ _. to) (who_holds l ds) else who_holds l ds) (same-number l) ∙ ap (option_map (λ _. to)) is
 
-shown-still : (ds : List Deed) (l to r q : ℕ) (o : Option ℕ) → shown r q (Deeds l to o ds) ≡ shown r q ds
-shown-still ds l to r q None = refl
-shown-still ds l to r q (Some w) = refl
+shown-still : (who : ℕ) (ds : List Deed) (l to r q : ℕ) (o : Option ℕ) → shown r q (Deeds who l to o ds) ≡ shown r q ds
+shown-still who ds l to r q None = refl
+shown-still who ds l to r q (Some w) = refl
 
 holds-on : (r : ℕ) (ds es : List Deed) (n m : ℕ → ℕ) (t u : Locks) (h : Option Locked) → IsTable ds n t → Follows es m t u → ((z : ℕ) → permit_of h ≡ Some z → who_holds z es ≡ Some r) → ((q : ℕ) → shown r q es ≡ shown r q ds) → ((rd : Reader) → h ≡ Some (Read rd) → 0 < n rd.number)
     → Holds r ds t h → Holds r es u h
 holds-on r ds es n m t u h k a permit shows read old = record {
   permit = permit;
-  watch = λ rd c is there.
+  watch = λ rd is there.
       let l = rd.number in
-      let w = a.kept l c (given-asked ds n t k l (k.known l (read rd is))) there in
-      watch-same r l ds es rd.watch c w.core (shows l) w.same (old.watch rd w.core is w.is);
+      let w = a.kept l (given-there ds n t k l (read-there ds n t k l (read rd is))) there in
+      watch-same r l ds es rd.watch _ _ (shows l) w.1 (old.watch rd is w.0);
 }
 
 -- ---- a permit is handed over
@@ -215,9 +217,9 @@ module _ (limits : Limits) (start m : Tracked) (s : Store) (t : Locks) (all : Fi
       by true same = let no : ◌≡◌ {A = Option ℕ} None (Some z) = sym (ap permit_of (taker-self same)) ∙ e in absurd (cc)
       by false other = ((λ same. both_ways (from == to) other (eq-eqb from to (sym same))), (k.holds to y (taker-other other)).permit z e)
 
-  taker-held : (b : Bool) (z : ℕ) → permit_of (cond b y.request.held (Some (Write p))) ≡ Some z → is_held z ds ≡ true
-  taker-held true z e = ap is_some (taker-permit z e).1
-  taker-held false z e = let same : p.number ≡ z = some-same p.number z e in ap (λ l. is_some (who_holds l ds)) (sym same) ∙ ap is_some held-by-giver
+  taker-held : (b : Bool) (z : ℕ) → permit_of (cond b y.request.held (Some (Write p))) ≡ Some z → is_held z (done ds) ≡ true
+  taker-held true z e = held-by z ds to (taker-permit z e).1
+  taker-held false z e = held-by z ds from (ap (λ l. who_holds l ds) (sym (some-same p.number z e)) ∙ held-by-giver)
 
   -- ---- the lock table
 
@@ -243,8 +245,8 @@ module _ (limits : Limits) (start m : Tracked) (s : Store) (t : Locks) (all : Fi
   first : Follows (Handed p.number to ∷ ds) n t t
   first = table.hands ds n t k.table p.number to
 
-  second : Follows (Deeds p.number to (permit_of g) ds) (read_locks after) t t'
-  second = go (Handed p.number to ∷ ds) n (read_locks after) t g first.table (λ z e. held-handed (p.number == z) to (who_holds z ds) ∙ taker-held y.request.uses.lock z e) count
+  second : Follows (Deeds from p.number to (permit_of g) ds) (read_locks after) t t'
+  second = go from (Handed p.number to ∷ ds) n (read_locks after) t g first.table (λ z e. taker-held y.request.uses.lock z e) count
 
   -- ---- what requests hold
 
@@ -257,40 +259,40 @@ module _ (limits : Limits) (start m : Tracked) (s : Store) (t : Locks) (all : Fi
       let was = taker-permit w e in
       ne_eqb w p.number (λ same. was.0 (some-same to from (sym was.1 ∙ ap (λ l. who_holds l ds) same ∙ held-by-giver)))
 
-  hold-others : (r : ℕ) (z : Ongoing) → r ≢ from → r ≢ to → get all r ≡ Some z → Holds r (Deeds p.number to (permit_of g) ds) t' z.request.held
+  hold-others : (r : ℕ) (z : Ongoing) → r ≢ from → r ≢ to → get all r ≡ Some z → Holds r (Deeds from p.number to (permit_of g) ds) t' z.request.held
   hold-others r z not-from not-to is =
       let old = k.holds r z is in
-      holds-on r ds (Deeds p.number to (permit_of g) ds) n (read_locks after) t t' z.request.held k.table second
-      (λ l e. let was = old.permit l e in who-still ds p.number to l (permit_of g) (not-this r l not-from was) (λ w at. gone-other y.request.uses.lock r l not-from not-to was w at) ∙ was)
-      (λ q. shown-still ds p.number to r q (permit_of g)) (λ rd e. lock-counted all r z rd is e) old
+      holds-on r ds (Deeds from p.number to (permit_of g) ds) n (read_locks after) t t' z.request.held k.table second
+      (λ l e. let was = old.permit l e in who-still from ds p.number to l (permit_of g) (not-this r l not-from was) (λ w at. gone-other y.request.uses.lock r l not-from not-to was w at) ∙ was)
+      (λ q. shown-still from ds p.number to r q (permit_of g)) (λ rd e. lock-counted all r z rd is e) old
 
   -- the taker holds the permit, if it uses a lock; else what it held
-  taker-by : (b : Bool) → (from == to) ≡ b → Follows (Deeds p.number to (Some p.number) ds) (read_locks after) t t' → Holds to (Deeds p.number to (Some p.number) ds) t' y.request.held
-  taker-by true same a = subst (Holds to (Deeds p.number to (Some p.number) ds) t') (sym (taker-self same)) (holds-none to _ _)
+  taker-by : (b : Bool) → (from == to) ≡ b → Follows (Deeds from p.number to (Some p.number) ds) (read_locks after) t t' → Holds to (Deeds from p.number to (Some p.number) ds) t' y.request.held
+  taker-by true same a = subst (Holds to (Deeds from p.number to (Some p.number) ds) t') (sym (taker-self same)) (holds-none to _ _)
   taker-by false other a =
       let is = taker-other other in
       let old = k.holds to y is in
       let apart : to ≢ from = λ same. both_ways (from == to) other (eq-eqb from to (sym same)) in
-      holds-on to ds (Deeds p.number to (Some p.number) ds) n (read_locks after) t t' y.request.held k.table a
-      (λ l e. let was = old.permit l e in who-still ds p.number to l (Some p.number) (not-this to l apart was) (λ w at. ap (λ z. z == l) (sym (some-same p.number w at)) ∙ not-this to l apart was) ∙ was)
-      (λ q. shown-still ds p.number to to q (Some p.number)) (λ rd e. lock-counted all to y rd is e) old
+      holds-on to ds (Deeds from p.number to (Some p.number) ds) n (read_locks after) t t' y.request.held k.table a
+      (λ l e. let was = old.permit l e in who-still from ds p.number to l (Some p.number) (not-this to l apart was) (λ w at. ap (λ z. z == l) (sym (some-same p.number w at)) ∙ not-this to l apart was) ∙ was)
+      (λ q. shown-still from ds p.number to to q (Some p.number)) (λ rd e. lock-counted all to y rd is e) old
 
-  taker-holds : (b : Bool) → Follows (Deeds p.number to (permit_of (cond b y.request.held (Some (Write p)))) ds) (read_locks after) t t' → Holds to (Deeds p.number to (permit_of (cond b y.request.held (Some (Write p)))) ds) t' (cond b (Some (Write p)) y.request.held)
+  taker-holds : (b : Bool) → Follows (Deeds from p.number to (permit_of (cond b y.request.held (Some (Write p)))) ds) (read_locks after) t t' → Holds to (Deeds from p.number to (permit_of (cond b y.request.held (Some (Write p)))) ds) t' (cond b (Some (Write p)) y.request.held)
   taker-holds true a = record {
-    permit = λ l e. subst (λ z. who_holds z (Deeds p.number to (permit_of y.request.held) ds) ≡ Some to) (some-same p.number l e) (who-takes ds p.number from to (permit_of y.request.held) held-by-giver gone-not-this);
-    watch = λ rd c e. absurd (cc);
+    permit = λ l e. subst (λ z. who_holds z (Deeds from p.number to (permit_of y.request.held) ds) ≡ Some to) (some-same p.number l e) (who-takes from ds p.number from to (permit_of y.request.held) held-by-giver gone-not-this);
+    watch = λ rd e. absurd (cc);
   }
   taker-holds false a = taker-by (from == to) refl a
 
-  all-after : AllHold (Deeds p.number to (permit_of g) ds) t' after
+  all-after : AllHold (Deeds from p.number to (permit_of g) ds) t' after
   all-after r z is =
-      elim (to == r) as (λ b. (to == r) ≡ b → cond b (Some y2) (get mid r) ≡ Some z → Holds r (Deeds p.number to (permit_of g) ds) t' z.request.held) [
+      elim (to == r) as (λ b. (to == r) ≡ b → cond b (Some y2) (get mid r) ≡ Some z → Holds r (Deeds from p.number to (permit_of g) ds) t' z.request.held) [
         | true ↦ λ same e.
-            subst (λ q. Holds q (Deeds p.number to (permit_of g) ds) t' z.request.held) (eqb-true to r same)
-            (subst (λ o. Holds to (Deeds p.number to (permit_of g) ds) t' o) (sym held-after ∙ ap (λ (w : Ongoing). w.request.held) (some-same y2 z e)) (taker-holds y.request.uses.lock second))
+            subst (λ q. Holds q (Deeds from p.number to (permit_of g) ds) t' z.request.held) (eqb-true to r same)
+            (subst (λ o. Holds to (Deeds from p.number to (permit_of g) ds) t' o) (sym held-after ∙ ap (λ (w : Ongoing). w.request.held) (some-same y2 z e)) (taker-holds y.request.uses.lock second))
         | false ↦ λ not-to e.
-            elim (from == r) as (λ b. (from == r) ≡ b → cond b (Some x1) (get all r) ≡ Some z → Holds r (Deeds p.number to (permit_of g) ds) t' z.request.held) [
-              | true ↦ λ _ a. subst (λ o. Holds r (Deeds p.number to (permit_of g) ds) t' o) (ap (λ (w : Ongoing). w.request.held) (some-same x1 z a)) (holds-none r _ _)
+            elim (from == r) as (λ b. (from == r) ≡ b → cond b (Some x1) (get all r) ≡ Some z → Holds r (Deeds from p.number to (permit_of g) ds) t' z.request.held) [
+              | true ↦ λ _ a. subst (λ o. Holds r (Deeds from p.number to (permit_of g) ds) t' o) (ap (λ (w : Ongoing). w.request.held) (some-same x1 z a)) (holds-none r _ _)
               | false ↦ λ not-from a. hold-others r z (λ same. both_ways (from == r) not-from (eq-eqb from r (sym same))) (λ same. both_ways (to == r) not-to (eq-eqb to r (sym same))) a
             ] refl (sym (get-set_to all from (Some x1) r) ∙ e)
       ] refl (sym (get-set_to mid to (Some y2) r) ∙ is)
@@ -306,12 +308,12 @@ module _ (limits : Limits) (start m : Tracked) (s : Store) (t : Locks) (all : Fi
   taker-named : taker_in from (C.Give to) h ≡ Some (untold y)
   taker-named = taker-is all h from to k.requests ∙ ap (option_map untold) taker
 
-  deeds-after : deeds_of (entry ∷ h) ≡ Deeds p.number to (permit_of g) ds
+  deeds-after : deeds_of (entry ∷ h) ≡ Deeds from p.number to (permit_of g) ds
   deeds-after =
       ap (λ q. reverse (handed_on to (held_in q) ++ deeds_by from 0 status.Done events) ++ ds) named
       ∙ ap (λ o. reverse (handed_on to o ++ deeds_by from 0 status.Done events) ++ ds) (ap (option_map untold_lock) holds)
       ∙ ap (λ xs. reverse (Handed p.number to ∷ xs) ++ ds) (let-go-deeds from 0 status.Done (permit_of g))
-      ∙ reversed-two (Handed p.number to) LetGo (permit_of g) ds
+      ∙ reversed-two (Handed p.number to) (λ x. Did from (LetGo x)) (permit_of g) ds
 
   row-after : (q : ℕ) → option_map untold (get mid q) ≡ (if from == q then row (C.Give to) R.Done events (request_of q h) else request_of q h)
   row-after q =

@@ -1,7 +1,6 @@
 -- What a request's move makes of the lock table, and of the locks that requests hold, is what the deeds say.
 use Rattle.std.proofs.Common.{◌≡◌, ◌≢◌, ℕ, ◌+◌, ◌^◌, ◌<◌, ◌==◌, Bool, true, false, cond, if◌then◌else◌, Option, None, Some, is_some, List, [], ◌∷◌, ◌++◌, reverse, refl, ap, sym, subst, ◌∙◌, arith}
-use Rattle.std.specs.Option.{option_map}
-use Rattle.std.specs.FinMap.{get, insert}
+use Rattle.std.specs.FinMap.{get}
 use Rattle.std.proofs.lemmas.Bool.{eqb-true, ne_eqb}
 use Rattle.pcache_base.specs.declared.fills.UnusableFill.{UnusableFill}
 use Rattle.pcache_base.specs.declared.poll.Poll.TheVariants.{Pending}
@@ -11,19 +10,22 @@ use Rattle.pcache_lock.specs.declared.lock.permit.Locked.{Locked}
 use Rattle.pcache_lock.specs.declared.lock.permit.Locked.TheVariants.{Write, Read}
 use Rattle.pcache_lock.specs.declared.lock.status.LockStatus.{LockStatus}
 use Rattle.pcache_lock.specs.Statuses.{IsReason, is_free}
-use Rattle.pcache_lock.specs.Permits.{Core, Permit, Reader, Watch}
+use Rattle.pcache_lock.specs.Deeds.{Granted, Joined, Released, LetGo, Aged, Published, asked}
+use Rattle.pcache_lock.specs.PastWaits.{is_held}
+use Rattle.pcache_lock.specs.Permits.{Core, Permit, Reader, Watch, publications_at, readers_at}
 use Rattle.pcache_lock.specs.Locks.{Locks, holder, held_by, unless_free, lock_given, after_request, changed, is_permit, number_of_lock}
-use Rattle.pcache_lock.specs.Waiting.{answer_at, is_old, watched, polled, published, reader_at, reader_polled, permit_state, told_or_pending, watch_at, with_publication}
+use Rattle.pcache_lock.specs.Waiting.{answer_at, is_old, watched, polled, published, reader_at, reader_polled, permit_state, told_or_pending, watch_at, publications_with, with_publication}
 use Rattle.pcache_lock.specs.Waits.{is_old_at}
 use Rattle.pcache_request.specs.LockWaits.{is_old_result, too_old_for}
 use Rattle.pcache_request.specs.Requests.{let_go_by, settled}
-use Rattle.pcache_history.specs.Deeds.{Deed, Asked, Released, LetGo, Aged, Published, Polled, who_holds, is_held, shown, shown_first, shown_more, publication}
+use Rattle.pcache_history.specs.Deeds.{Deed, Did, Polled, done, who_holds, shown, shown_first, shown_more, publication}
 use Rattle.pcache_world.specs.LockMoves.{LockMove, rests, asks, settles, lets_go, publishes, polls, ages, each_deed, deeds_moved, table_moved, held_moved, table_polled, MayMove, MovesLocks}
-use Rattle.pcache_world.specs.LockTable.{IsTable, Holds, IsWatch, last_of, locks_read, plain}
+use Rattle.pcache_world.specs.LockTable.{IsTable, Holds, IsWatch, last_of, locks_read}
 use Rattle.pcache_history.specs.Rules.{permit_of}
 use Rattle.pcache_world.proofs.LockTable as table
-use Rattle.pcache_world.proofs.LockTable.{Follows, some-same, lock-at, held-there, given-asked, held-given}
-use Rattle.pcache_world.proofs.LockWatch.{last-with, watch-polled, watch-published, watch-same}
+use Rattle.pcache_world.proofs.LockTable.{Follows, some-same, given-there, held-given, read-there, who-held}
+use Rattle.pcache_lock.proofs.Ends.{kept-if}
+use Rattle.pcache_world.proofs.LockWatch.{watch-polled, watch-published, watch-same}
 use Rattle.pcache_world.proofs.StateWrites.{get-set}
 use Rattle.pcache_history.proofs.Sums.{same-number}
 
@@ -34,10 +36,7 @@ both es fs m p t u v a b = record {
   table = b.table;
   age = b.age ∙ a.age;
   next = omega (arith, a.next, b.next);
-  kept = λ l c lt is.
-      let w = b.kept l c (omega (arith, lt, a.next)) is in
-      let x = a.kept l w.core lt w.is in
-      record { core = x.core; is = x.is; same = x.same ∙ w.same };
+  kept = λ l lt there. let w = b.kept l (omega (arith, lt, a.next)) there in let x = a.kept l lt w.0 in (x.0, w.1 ∙ x.1);
 }
 
 -- as many read locks, counted another way
@@ -60,17 +59,17 @@ pub record Kept (r : ℕ) (ds es : List Deed) (n m : ℕ → ℕ) (t u : Locks) 
   pub others : OthersHold r ds es n t u
 
 pub holds-none : (r : ℕ) (ds : List Deed) (t : Locks) → Holds r ds t None
-holds-none r ds t = record { permit = λ p e. absurd (cc); watch = λ rd c e. absurd (cc) }
+holds-none r ds t = record { permit = λ p e. absurd (cc); watch = λ rd e. absurd (cc) }
 
 -- a step by which no other request loses a permit, and that shows no other anything
 others-by : (r : ℕ) (ds es : List Deed) (n m : ℕ → ℕ) (t u : Locks) → IsTable ds n t → Follows es m t u
     → ((p q : ℕ) → q ≢ r → who_holds p ds ≡ Some q → who_holds p es ≡ Some q) → ((q l : ℕ) → q ≢ r → shown q l es ≡ shown q l ds) → OthersHold r ds es n t u
 others-by r ds es n m t u k a holds shows q other ne old read = record {
   permit = λ p e. holds p q ne (old.permit p e);
-  watch = λ rd c is there.
+  watch = λ rd is there.
       let l = rd.number in
-      let w = a.kept l c (given-asked ds n t k l (k.known l (read rd is))) there in
-      watch-same q l ds es rd.watch c w.core (shows q l ne) w.same (old.watch rd w.core is w.is);
+      let w = a.kept l (given-there ds n t k l (read-there ds n t k l (read rd is))) there in
+      watch-same q l ds es rd.watch _ _ (shows q l ne) w.1 (old.watch rd is w.0);
 }
 
 kept-by : (r : ℕ) (ds es : List Deed) (n m : ℕ → ℕ) (t u : Locks) (last : Option Locked) → IsTable ds n t → Follows es m t u → Holds r es u last
@@ -101,22 +100,21 @@ still-shown q l gs f (Some x) same = same x
 
 -- ---- what is held is let go, or released
 
-pub go : (ds : List Deed) (n m : ℕ → ℕ) (t : Locks) (old : Option Locked) → IsTable ds n t → ((p : ℕ) → permit_of old ≡ Some p → is_held p ds ≡ true) → ((q : ℕ) → m q + locks_read q old ≡ n q) → Follows (each_deed LetGo (permit_of old) ++ ds) m t (let_go_by old t)
-go ds n m t None k held count = same-count ds n m t t (λ q. omega (arith, count q)) (table.rests ds n t k)
-go ds n m t (Some (Write p)) k held count = same-count (LetGo p.number ∷ ds) n m t _ (λ q. omega (arith, count q)) (table.lets_go ds n t k p (held p.number refl))
-go ds n m t (Some (Read rd)) k held count = table.leaves ds n t k m rd (λ q. sym (count q))
+pub go : (r : ℕ) (ds : List Deed) (n m : ℕ → ℕ) (t : Locks) (old : Option Locked) → IsTable ds n t → ((p : ℕ) → permit_of old ≡ Some p → is_held p (done ds) ≡ true) → ((q : ℕ) → m q + locks_read q old ≡ n q) → Follows (each_deed (λ x. Did r (LetGo x)) (permit_of old) ++ ds) m t (let_go_by old t)
+go r ds n m t None k held count = same-count ds n m t t (λ q. omega (arith, count q)) (table.rests ds n t k)
+go r ds n m t (Some (Write p)) k held count = same-count (Did r (LetGo p.number) ∷ ds) n m t _ (λ q. omega (arith, count q)) (table.lets-go ds n t k r p (held p.number refl))
+go r ds n m t (Some (Read rd)) k held count = table.leaves ds n t k m rd (λ q. sym (count q))
 
-release : (ds : List Deed) (n m : ℕ → ℕ) (t : Locks) (s : LockStatus) (old : Option Locked) → IsTable ds n t → ((p : ℕ) → permit_of old ≡ Some p → is_held p ds ≡ true) → IsReason s → ((q : ℕ) → m q + locks_read q old ≡ n q)
-    → Follows (each_deed (λ x. Released x s) (permit_of old) ++ ds) m t (settled s old t)
-release ds n m t s None k held reason count = same-count ds n m t t (λ q. omega (arith, count q)) (table.rests ds n t k)
-release ds n m t s (Some (Write p)) k held reason count = same-count (Released p.number s ∷ ds) n m t _ (λ q. omega (arith, count q)) (table.releases ds n t k p.number s (held p.number refl) reason)
-release ds n m t s (Some (Read rd)) k held reason count = table.leaves ds n t k m rd (λ q. sym (count q))
+release : (r : ℕ) (ds : List Deed) (n m : ℕ → ℕ) (t : Locks) (s : LockStatus) (old : Option Locked) → IsTable ds n t → ((p : ℕ) → permit_of old ≡ Some p → is_held p (done ds) ≡ true) → IsReason s → ((q : ℕ) → m q + locks_read q old ≡ n q)
+    → Follows (each_deed (λ x. Did r (Released x s)) (permit_of old) ++ ds) m t (settled s old t)
+release r ds n m t s None k held reason count = same-count ds n m t t (λ q. omega (arith, count q)) (table.rests ds n t k)
+release r ds n m t s (Some (Write p)) k held reason count = same-count (Did r (Released p.number s) ∷ ds) n m t _ (λ q. omega (arith, count q)) (table.releases ds n t k r p.number s (held p.number refl) reason)
+release r ds n m t s (Some (Read rd)) k held reason count = table.leaves ds n t k m rd (λ q. sym (count q))
 
 -- ---- one move
 
-still-held : (b : Bool) (r : ℕ) (w : Option ℕ) → is_some w ≡ true → is_some (if b then Some r else w) ≡ true
-still-held true r w h = refl
-still-held false r w h = h
+pub held-by : (p : ℕ) (ds : List Deed) (r : ℕ) → who_holds p ds ≡ Some r → is_held p (done ds) ≡ true
+held-by p ds r e = sym (who-held p ds) ∙ ap is_some e
 
 -- the lock on which a request would wait is known
 holder-there : (t : Locks) (k l : ℕ) → holder t k ≡ Some l → (c : Core) × (get t.cores l ≡ Some c)
@@ -137,117 +135,104 @@ read-same : (a b : Reader) → ◌≡◌ {A = Option Locked} (Some (Read a)) (So
 read-same a b e = cc e
 
 module _ (r : ℕ) (ds : List Deed) (n m : ℕ → ℕ) (t : Locks) (mine : Option Locked) (k : IsTable ds n t) (holds : Holds r ds t mine) where
-  held-mine : (p : ℕ) → permit_of mine ≡ Some p → is_held p ds ≡ true
-  held-mine p e = ap is_some (holds.permit p e)
+  held-mine : (p : ℕ) → permit_of mine ≡ Some p → is_held p (done ds) ≡ true
+  held-mine p e = held-by p ds r (holds.permit p e)
+
+  still-held : (p l : ℕ) (h : Bool) → h ≡ true → cond (p == l) true h ≡ true
+  still-held p l h e = elim (p == l) as (λ b. cond b true h ≡ true) [ true ↦ refl | false ↦ e ]
 
   -- the permit is given, or a read lock, and the lock that was held goes
-  asked-holds : (o : Option ℕ) (slot at : ℕ) → IsHolder r ds o → who_holds t.next (each_deed LetGo o ++ Asked r slot t.next true at ∷ ds) ≡ Some r
+  asked-holds : (o : Option ℕ) (slot at : ℕ) → IsHolder r ds o → who_holds t.next (each_deed (λ x. Did r (LetGo x)) o ++ Did r (Granted slot t.next false at) ∷ ds) ≡ Some r
   asked-holds None slot at old = ap (λ b. if b then Some r else who_holds t.next ds) (same-number t.next)
   asked-holds (Some x) slot at old =
-      let lt = held-given ds n t k x (ap is_some (old x refl)) in
+      let lt = held-given ds n t k x (held-by x ds r (old x refl)) in
       ap (λ b. if b then None else (if t.next == t.next then Some r else who_holds t.next ds)) (ne_eqb x t.next (λ same. absurd (omega (arith, same, lt)))) ∙ ap (λ b. if b then Some r else who_holds t.next ds) (same-number t.next)
 
   asked-kept : (slot : ℕ) (stale : Bool) (at : ℕ) (o : Option ℕ) → holder t slot ≡ o → ((l : ℕ) → n l + 1 < 2 ^ 128) → ((l : ℕ) → m l + locks_read l mine ≡ n l + locks_read l (Some (lock_given t stale o)))
-      → Kept r ds (each_deed LetGo (permit_of mine) ++ Asked r slot (number_of_lock (lock_given t stale o)) (is_permit (lock_given t stale o)) at ∷ ds) n m t (let_go_by mine (after_request t slot stale at o)) (Some (lock_given t stale o))
+      → Kept r ds (each_deed (λ x. Did r (LetGo x)) (permit_of mine) ++ Did r (asked slot false at (number_of_lock (lock_given t stale o)) (is_permit (lock_given t stale o))) ∷ ds) n m t (let_go_by mine (after_request t slot stale at o)) (Some (lock_given t stale o))
   asked-kept slot stale at None is few count =
-      let gs = Asked r slot t.next true at ∷ ds in
-      let es = each_deed LetGo (permit_of mine) ++ gs in
-      let first = table.gives ds n t k r slot stale at in
-      let second = go gs n m (after_request t slot stale at None) mine first.table (λ p e. still-held (t.next == p) r (who_holds p ds) (held-mine p e)) (λ q. omega (arith, count q)) in
+      let gs = Did r (Granted slot t.next false at) ∷ ds in
+      let es = each_deed (λ x. Did r (LetGo x)) (permit_of mine) ++ gs in
+      let first = table.gives-permit ds n t k r slot stale at is in
+      let second = go r gs n m (after_request t slot stale at None) mine first.table (λ p e. still-held p t.next (is_held p (done ds)) (held-mine p e)) (λ q. omega (arith, count q)) in
       kept-by r ds es n m t _ _ k (both gs es n m t _ _ first second)
       (record {
         permit = λ p e. subst (λ x. who_holds x es ≡ Some r) (some-same t.next p e) (asked-holds (permit_of mine) slot at holds.permit);
-        watch = λ rd c e. absurd (cc);
+        watch = λ rd e. absurd (cc);
       })
-      (λ p q ne e. still-others r ds gs LetGo (permit_of mine) (λ x p gs. refl) holds.permit p q ne e
-      (ap (λ b. if b then Some r else who_holds p ds) (ne_eqb t.next p (λ same. absurd (omega (arith, same, held-given ds n t k p (ap is_some e))))) ∙ e))
-      (λ q l ne. still-shown q l gs LetGo (permit_of mine) (λ x. refl) ∙ ap (λ b. if b then [] else shown q l ds) (other-number r q ne))
+      (λ p q ne e. still-others r ds gs (λ x. Did r (LetGo x)) (permit_of mine) (λ x p gs. refl) holds.permit p q ne e
+      (ap (λ b. if b then Some r else who_holds p ds) (ne_eqb t.next p (λ same. absurd (omega (arith, same, held-given ds n t k p (held-by p ds q e))))) ∙ e))
+      (λ q l ne. still-shown q l gs (λ x. Did r (LetGo x)) (permit_of mine) (λ x. refl) ∙ ap (λ b. if b then [] else shown q l ds) (other-number r q ne))
   asked-kept slot stale at (Some l) is few count =
-      let gs = Asked r slot l false at ∷ ds in
-      let es = each_deed LetGo (permit_of mine) ++ gs in
+      let gs = Did r (Joined slot l at) ∷ ds in
+      let es = each_deed (λ x. Did r (LetGo x)) (permit_of mine) ++ gs in
       let more : ℕ → ℕ = λ q. n q + (if l == q then 1 else 0) in
       let found = holder-there t slot l is in
-      let first = table.joins ds n t k more r slot at l found.0 found.1 (λ q. refl) (at-most (n l) (few l) (l == l)) in
-      let second = go gs more m (after_request t slot stale at (Some l)) mine first.table held-mine count in
+      let first = table.joins ds n t k more r slot stale at l is (ap is_some found.1) (λ q. refl) few in
+      let second = go r gs more m (after_request t slot stale at (Some l)) mine first.table (λ p e. kept-if (p == l) refl ∙ held-mine p e) count in
       kept-by r ds es n m t _ _ k (both gs es more m t _ _ first second)
       (record {
         permit = λ p e. absurd (cc);
-        watch = λ rd c e _. subst (λ x. IsWatch r x.number es x.watch c) (read-same (record { number = l; watch = None }) rd e)
-            (still-shown r l gs LetGo (permit_of mine) (λ x. refl) ∙ ap (λ b. if b then [] else shown r l ds) (same-number r));
+        watch = λ rd e _. subst (λ x. IsWatch r x.number es x.watch (publications_at (get (let_go_by mine (after_request t slot stale at (Some l))).cores x.number))) (read-same (record { number = l; watch = None }) rd e)
+            (still-shown r l gs (λ x. Did r (LetGo x)) (permit_of mine) (λ x. refl) ∙ ap (λ b. if b then [] else shown r l ds) (same-number r));
       })
-      (λ p q ne e. still-others r ds gs LetGo (permit_of mine) (λ x p gs. refl) holds.permit p q ne e e)
-      (λ q l ne. still-shown q l gs LetGo (permit_of mine) (λ x. refl) ∙ ap (λ b. if b then [] else shown q l ds) (other-number r q ne))
-    where
-      at-most : (x : ℕ) → x + 1 < 2 ^ 128 → (b : Bool) → x + (if b then 1 else 0) < 2 ^ 128
-      at-most x lt true = lt
-      at-most x lt false = omega arith
+      (λ p q ne e. still-others r ds gs (λ x. Did r (LetGo x)) (permit_of mine) (λ x p gs. refl) holds.permit p q ne e e)
+      (λ q l ne. still-shown q l gs (λ x. Did r (LetGo x)) (permit_of mine) (λ x. refl) ∙ ap (λ b. if b then [] else shown q l ds) (other-number r q ne))
 
-  settled-kept : (s : LockStatus) → IsReason s → ((l : ℕ) → m l + locks_read l mine ≡ n l + 0) → Kept r ds (each_deed (λ x. Released x s) (permit_of mine) ++ ds) n m t (settled s mine t) None
+  settled-kept : (s : LockStatus) → IsReason s → ((l : ℕ) → m l + locks_read l mine ≡ n l + 0) → Kept r ds (each_deed (λ x. Did r (Released x s)) (permit_of mine) ++ ds) n m t (settled s mine t) None
   settled-kept s reason count =
-      let es = each_deed (λ x. Released x s) (permit_of mine) ++ ds in
-      kept-by r ds es n m t _ None k (release ds n m t s mine k held-mine reason (λ q. omega (arith, count q))) (holds-none r es _)
-      (λ p q ne e. still-others r ds ds (λ x. Released x s) (permit_of mine) (λ x p gs. refl) holds.permit p q ne e e)
-      (λ q l ne. still-shown q l ds (λ x. Released x s) (permit_of mine) (λ x. refl))
+      let es = each_deed (λ x. Did r (Released x s)) (permit_of mine) ++ ds in
+      kept-by r ds es n m t _ None k (release r ds n m t s mine k held-mine reason (λ q. omega (arith, count q))) (holds-none r es _)
+      (λ p q ne e. still-others r ds ds (λ x. Did r (Released x s)) (permit_of mine) (λ x p gs. refl) holds.permit p q ne e e)
+      (λ q l ne. still-shown q l ds (λ x. Did r (Released x s)) (permit_of mine) (λ x. refl))
 
-  gone-kept : ((l : ℕ) → m l + locks_read l mine ≡ n l + 0) → Kept r ds (each_deed LetGo (permit_of mine) ++ ds) n m t (let_go_by mine t) None
+  gone-kept : ((l : ℕ) → m l + locks_read l mine ≡ n l + 0) → Kept r ds (each_deed (λ x. Did r (LetGo x)) (permit_of mine) ++ ds) n m t (let_go_by mine t) None
   gone-kept count =
-      let es = each_deed LetGo (permit_of mine) ++ ds in
-      kept-by r ds es n m t _ None k (go ds n m t mine k held-mine (λ q. omega (arith, count q))) (holds-none r es _)
-      (λ p q ne e. still-others r ds ds LetGo (permit_of mine) (λ x p gs. refl) holds.permit p q ne e e)
-      (λ q l ne. still-shown q l ds LetGo (permit_of mine) (λ x. refl))
+      let es = each_deed (λ x. Did r (LetGo x)) (permit_of mine) ++ ds in
+      kept-by r ds es n m t _ None k (go r ds n m t mine k held-mine (λ q. omega (arith, count q))) (holds-none r es _)
+      (λ p q ne e. still-others r ds ds (λ x. Did r (LetGo x)) (permit_of mine) (λ x p gs. refl) holds.permit p q ne e e)
+      (λ q l ne. still-shown q l ds (λ x. Did r (LetGo x)) (permit_of mine) (λ x. refl))
 
   rest-kept : ((l : ℕ) → m l + locks_read l mine ≡ n l + locks_read l mine) → Kept r ds ds n m t t mine
   rest-kept count = kept-by r ds ds n m t t mine k (same-count ds n m t t (λ q. omega (arith, count q)) (table.rests ds n t k)) holds (λ p q ne e. e) (λ q l ne. refl)
 
--- tokens are published if a permit is held
-published-table : (ds : List Deed) (n : ℕ → ℕ) (t : Locks) (l : ℕ) (tokens : List ℕ) (c : Core) → IsTable ds n t → get t.cores l ≡ Some c → IsTable (Published l tokens ∷ ds) n (record t { cores = insert t.cores l (with_publication tokens c) })
-published-table ds n t l tokens c k is =
-    let new : Core = with_publication tokens c in
-    record {
-      unasked = k.unasked;
-      locks = table.changed-at t.cores (insert t.cores l new) t.age_timeout ds (Published l tokens ∷ ds) n n l (Some new) (get-set t.cores l new) k.locks (ap (option_map plain) (sym is) ∙ k.locks l) (λ q f. refl);
-      known = k.known;
-      over = k.over;
-      said = λ q d there.
-          elim (l == q) as (λ b. cond b (Some new) (get t.cores q) ≡ Some d → last_of d.publications ≡ (if b then tokens else publication q ds)) [
-            | true ↦ λ e. ap (λ x. last_of x.publications) (sym (some-same new d e)) ∙ last-with c.readers tokens c.publications
-            | false ↦ λ e. k.said q d e
-          ] (sym (get-set t.cores l new q) ∙ there);
-    }
+-- tokens are published if a permit is held, and shown to who waits on it
+module _ (r : ℕ) (ds : List Deed) (n m : ℕ → ℕ) (t : Locks) (p : Permit) (tokens : List ℕ) (k : IsTable ds n t) where
+  abbrev l : ℕ
+  l = p.number
 
--- and shown to who waits on it
-published-others : (r : ℕ) (ds : List Deed) (n : ℕ → ℕ) (t : Locks) (l : ℕ) (tokens : List ℕ) (c : Core) → IsTable ds n t → get t.cores l ≡ Some c → OthersHold r ds (Published l tokens ∷ ds) n t (record t { cores = insert t.cores l (with_publication tokens c) })
-published-others r ds n t l tokens c k is q other ne old read =
-    let new : Core = with_publication tokens c in
-    record {
-      permit = λ x e. old.permit x e;
-      watch = λ rd d at there.
-          elim (l == rd.number) as (λ b. (l == rd.number) ≡ b → cond b (Some new) (get t.cores rd.number) ≡ Some d → IsWatch q rd.number (Published l tokens ∷ ds) rd.watch d) [
-            | true ↦ λ same e.
-                let here : l ≡ rd.number = eqb-true l rd.number same in
-                let stands : get t.cores rd.number ≡ Some c = ap (get t.cores) (sym here) ∙ is in
-                let lock = lock-at ds n t k rd.number c stands in
-                let readers : c.readers ≡ n rd.number = ap (λ x. x.readers) lock.same in
-                subst (λ x. IsWatch q rd.number (Published x tokens ∷ ds) rd.watch d) (sym here)
-                (watch-published q rd.number ds rd.watch tokens d c (omega (arith, readers, read rd at)) (ap (λ x. x.publications) (sym (some-same new d e))) (old.watch rd c at stands))
-            | false ↦ λ off e. watch-same q rd.number ds (Published l tokens ∷ ds) rd.watch d d (ap (λ b. if b then shown_more tokens (shown q rd.number ds) else shown q rd.number ds) off) refl (old.watch rd d at e)
-          ] refl (sym (get-set t.cores l new rd.number) ∙ there);
-    }
+  abbrev es : List Deed
+  es = Did r (Published l tokens) ∷ ds
 
-published-kept : (r : ℕ) (ds : List Deed) (n m : ℕ → ℕ) (t : Locks) (p : Permit) (tokens : List ℕ) → IsTable ds n t → Holds r ds t (Some (Write p)) → ((l : ℕ) → m l + 0 ≡ n l + 0)
-    → Kept r ds (Published p.number tokens ∷ ds) n m t (published t p.number tokens) (Some (Write p))
-published-kept r ds n m t p tokens k holds count =
-    let l = p.number in
-    let es = Published l tokens ∷ ds in
-    let found = held-there ds n t k l (ap is_some (holds.permit l refl)) in
-    let v : Locks = record t { cores = insert t.cores l (with_publication tokens found.0) } in
-    let same : (q : ℕ) → n q ≡ m q = λ q. omega (arith, count q) in
-    subst (λ o. Kept r ds es n m t (record t { cores = changed (with_publication tokens) t.cores l o }) (Some (Write p))) (sym found.1) (record {
-      table = subst (λ f. IsTable es f v) (λ i q. same q i) (published-table ds n t l tokens found.0 k found.1);
-      age = refl;
-      mine = record { permit = λ x e. holds.permit x e; watch = λ rd c e. absurd (cc) };
-      others = published-others r ds n t l tokens found.0 k found.1;
-    })
+  abbrev u : Locks
+  u = published t l tokens
+
+  at-lock : (o : Option Core) → get t.cores l ≡ o → is_some o ≡ true → publications_at (get (changed (with_publication tokens) t.cores l o) l) ≡ publications_with (readers_at o) tokens (publications_at o)
+  at-lock None is there = absurd (cc)
+  at-lock (Some c) is there = let d : Core = with_publication tokens c in ap publications_at (get-set t.cores l d l ∙ ap (λ b. cond b (Some d) (get t.cores l)) (same-number l))
+
+  off : (q : ℕ) (o : Option Core) → get t.cores l ≡ o → (l == q) ≡ false → get (changed (with_publication tokens) t.cores l o) q ≡ get t.cores q
+  off q None is f = refl
+  off q (Some c) is f = let d : Core = with_publication tokens c in get-set t.cores l d q ∙ ap (λ b. cond b (Some d) (get t.cores q)) f
+
+  shown-on : (q : ℕ) (rd : Reader) → 0 < n rd.number → IsWatch q rd.number ds rd.watch (publications_at (get t.cores rd.number)) → (b : Bool) → (l == rd.number) ≡ b → IsWatch q rd.number es rd.watch (publications_at (get u.cores rd.number))
+  shown-on q rd read old true e =
+      let here : l ≡ rd.number = eqb-true l rd.number e in
+      let count : 0 < n l = subst (λ x. 0 < n x) (sym here) read in
+      subst (λ x. IsWatch q x es rd.watch (publications_at (get u.cores x))) here
+      (subst (IsWatch q l es rd.watch) (sym (at-lock (get t.cores l) refl (read-there ds n t k l count)))
+      (watch-published r q l ds rd.watch tokens (readers_at (get t.cores l)) (publications_at (get t.cores l)) (subst (λ x. 0 < x) (sym (k.readers l)) count)
+      (subst (λ x. IsWatch q x ds rd.watch (publications_at (get t.cores x))) (sym here) old)))
+  shown-on q rd read old false e =
+      watch-same q rd.number ds es rd.watch _ (publications_at (get t.cores rd.number)) (ap (λ b. if b then shown_more tokens (shown q rd.number ds) else shown q rd.number ds) e) (ap publications_at (off rd.number (get t.cores l) refl e)) old
+
+  published-kept : Holds r ds t (Some (Write p)) → ((q : ℕ) → m q + 0 ≡ n q + 0) → Kept r ds es n m t u (Some (Write p))
+  published-kept holds count = record {
+    table = subst (λ f. IsTable es f u) (λ i q. (let same : n q ≡ m q = omega (arith, count q) in same) i) (table.publishes ds n t k r l tokens (held-by l ds r (holds.permit l refl)));
+    age = refl;
+    mine = record { permit = λ x e. holds.permit x e; watch = λ rd e. absurd (cc) };
+    others = λ q other ne old read. record { permit = λ x e. old.permit x e; watch = λ rd is there. shown-on q rd (read rd is) (old.watch rd is (read-there ds n t k rd.number (read rd is))) (l == rd.number) refl };
+  }
 
 -- a read lock is polled, and waits on
 module _ (r : ℕ) (ds : List Deed) (n m : ℕ → ℕ) (t : Locks) (rd : Reader) (k : IsTable ds n t) (holds : Holds r ds t (Some (Read rd))) where
@@ -262,10 +247,10 @@ module _ (r : ℕ) (ds : List Deed) (n m : ℕ → ℕ) (t : Locks) (rd : Reader
       kept-by r ds (Polled r ∷ ds) n m t t (Some (Read now)) k (same-count (Polled r ∷ ds) n m t t (λ q. omega (arith, count q)) (table.polls ds n t k r))
       (record {
         permit = λ p e. absurd (cc);
-        watch = λ rd' c' e there.
-            let same : c ≡ c' = some-same c c' (sym is ∙ ap (λ (y : Reader). get t.cores y.number) (read-same now rd' e) ∙ there) in
-            subst (λ y. IsWatch r rd'.number (Polled r ∷ ds) rd'.watch y) same
-            (subst (λ y. IsWatch r y.number (Polled r ∷ ds) y.watch c) (read-same now rd' e) (watch-polled ds c r rd.number fills rd.watch (k.said rd.number c is) (holds.watch rd c refl is)));
+        watch = λ rd' e there.
+            subst (λ y. IsWatch r y.number (Polled r ∷ ds) y.watch (publications_at (get t.cores y.number))) (read-same now rd' e)
+            (subst (IsWatch r rd.number (Polled r ∷ ds) (Some x)) (ap publications_at (sym is))
+            (watch-polled ds c r rd.number fills rd.watch (ap (λ o. last_of (publications_at o)) (sym is) ∙ k.said rd.number (ap is_some is)) (subst (λ o. IsWatch r rd.number ds rd.watch (publications_at o)) is (holds.watch rd refl (ap is_some is)))));
       })
       (λ p q ne e. e) (λ q l ne. ap (λ b. if b then shown_first (publication l ds) (shown q l ds) else shown q l ds) (other-number r q ne))
 
@@ -288,12 +273,16 @@ module _ (r : ℕ) (ds : List Deed) (n m : ℕ → ℕ) (t : Locks) (rd : Reader
   old-core at fills None e = absurd (cc)
   old-core at fills (Some c) e = old-stage (permit_state at c) (watched c (watch_at c fills rd.watch)) e
 
+  aged-there : (at : ℕ) (o : Option Core) → is_old_at at o ≡ true → is_some o ≡ true
+  aged-there at None e = absurd (cc)
+  aged-there at (Some c) e = refl
+
   aged-kept : (at : ℕ) (fills : Option (List UnusableFill)) → too_old_for t at (Some (Read rd)) fills ≡ true → ((l : ℕ) → m l + locks_read l (Some (Read rd)) ≡ n l + 0)
-      → Kept r ds (Aged rd.number ∷ ds) n m t (let_go_by (Some (Read rd)) (table_polled at (Some (Read rd)) t)) None
+      → Kept r ds (Did r (Aged rd.number at) ∷ ds) n m t (let_go_by (Some (Read rd)) (table_polled at (Some (Read rd)) t)) None
   aged-kept at fills old count =
-      let es = Aged rd.number ∷ ds in
+      let es = Did r (Aged rd.number at) ∷ ds in
       let v : Locks = table_polled at (Some (Read rd)) t in
-      let first = table.ages ds n t k rd.number at (old-core at fills (get t.cores rd.number) old) in
+      let first = table.ages ds n t k r rd.number at (aged-there at (get t.cores rd.number) (old-core at fills (get t.cores rd.number) old)) (old-core at fills (get t.cores rd.number) old) in
       let second = table.leaves es n v first.table m rd (λ q. omega (arith, count q)) in
       kept-by r ds es n m t _ None k (both es es n m t v _ first second) (holds-none r es _) (λ p q ne e. e) (λ q l ne. refl)
 
@@ -311,10 +300,10 @@ moved-kept : (r : ℕ) (ds : List Deed) (n m : ℕ → ℕ) (t : Locks) (move : 
     → ((l : ℕ) → m l + locks_read l mine ≡ n l + locks_read l (held_moved move mine t)) → Kept r ds (reverse (deeds_moved move r mine t) ++ ds) n m t (table_moved move mine t) (held_moved move mine t)
 moved-kept r ds n m t rests mine k holds may few count = rest-kept r ds n m t mine k holds count
 moved-kept r ds n m t (asks slot stale at) mine k holds may few count =
-    subst (λ es. Kept r ds es n m t (let_go_by mine (after_request t slot stale at (holder t slot))) (Some (lock_given t stale (holder t slot)))) (sym (reversed-two (Asked r slot (number_of_lock (lock_given t stale (holder t slot))) (is_permit (lock_given t stale (holder t slot))) at) LetGo (permit_of mine) ds))
+    subst (λ es. Kept r ds es n m t (let_go_by mine (after_request t slot stale at (holder t slot))) (Some (lock_given t stale (holder t slot)))) (sym (reversed-two (Did r (asked slot false at (number_of_lock (lock_given t stale (holder t slot))) (is_permit (lock_given t stale (holder t slot))))) (λ x. Did r (LetGo x)) (permit_of mine) ds))
     (asked-kept r ds n m t mine k holds slot stale at (holder t slot) refl few count)
-moved-kept r ds n m t (settles s) mine k holds may few count = subst (λ es. Kept r ds es n m t (settled s mine t) None) (sym (reversed-one (λ x. Released x s) (permit_of mine) ds)) (settled-kept r ds n m t mine k holds s may count)
-moved-kept r ds n m t lets_go mine k holds may few count = subst (λ es. Kept r ds es n m t (let_go_by mine t) None) (sym (reversed-one LetGo (permit_of mine) ds)) (gone-kept r ds n m t mine k holds count)
+moved-kept r ds n m t (settles s) mine k holds may few count = subst (λ es. Kept r ds es n m t (settled s mine t) None) (sym (reversed-one (λ x. Did r (Released x s)) (permit_of mine) ds)) (settled-kept r ds n m t mine k holds s may count)
+moved-kept r ds n m t lets_go mine k holds may few count = subst (λ es. Kept r ds es n m t (let_go_by mine t) None) (sym (reversed-one (λ x. Did r (LetGo x)) (permit_of mine) ds)) (gone-kept r ds n m t mine k holds count)
 moved-kept r ds n m t (publishes tokens) None k holds may few count = rest-kept r ds n m t None k holds count
 moved-kept r ds n m t (publishes tokens) (Some (Write p)) k holds may few count = published-kept r ds n m t p tokens k holds count
 moved-kept r ds n m t (publishes tokens) (Some (Read rd)) k holds may few count = rest-kept r ds n m t (Some (Read rd)) k holds count

@@ -22,7 +22,9 @@ use Rattle.pcache_store.specs.Store.{Reader, reader_weight, write_read}
 use Rattle.pcache_history.specs.declared.entry.Answer.{Answer}
 use Rattle.pcache_history.specs.declared.entry.Event.{Event}
 use Rattle.pcache_history.specs.declared.entry.Event.TheVariants as E
-use Rattle.pcache_history.specs.Deeds.{Deed, Asked, Released, LetGo, deed_of, deeds_by, keeps, published_on}
+use Rattle.pcache_lock.specs.Deeds as deed
+use Rattle.pcache_lock.specs.Deeds.{Released, LetGo}
+use Rattle.pcache_history.specs.Deeds.{Deed, Did, deed_of, deeds_by, keeps, published_on}
 use Rattle.pcache_world.specs.LockMoves.{MovesLocks, asks, each_deed, lets_go, publishes, rests, settles}
 use Rattle.pcache_history.specs.Rules.{accesses, drop_of, each, permit_of}
 use Rattle.pcache_world.specs.Step.{asking, permit_in, refused_end, renewing, untracking}
@@ -57,11 +59,11 @@ no-more (d ∷ ds) = ap (λ xs. d ∷ xs) (no-more ds)
 quiet-last : (r at : ℕ) (s : LockStatus) (xs ys : List Event) → AreOfNoLock ys → deeds_by r at s (xs ++ ys) ≡ deeds_by r at s xs
 quiet-last r at s xs ys h = deeds-both r at s xs ys ∙ ap (λ ds. deeds_by r at s xs ++ ds) (quiet-deeds r at s ys h) ∙ no-more (deeds_by r at s xs)
 
-released-deeds : (r at : ℕ) (s : LockStatus) (o : Option ℕ) → deeds_by r at s (each E.Release o) ≡ each_deed (λ n. Released n s) o
+released-deeds : (r at : ℕ) (s : LockStatus) (o : Option ℕ) → deeds_by r at s (each E.Release o) ≡ each_deed (λ n. Did r (Released n s)) o
 released-deeds r at s None = refl
 released-deeds r at s (Some n) = refl
 
-pub let-go-deeds : (r at : ℕ) (s : LockStatus) (o : Option ℕ) → deeds_by r at s (each E.LetGo o) ≡ each_deed LetGo o
+pub let-go-deeds : (r at : ℕ) (s : LockStatus) (o : Option ℕ) → deeds_by r at s (each E.LetGo o) ≡ each_deed (λ n. Did r (LetGo n)) o
 let-go-deeds r at s None = refl
 let-go-deeds r at s (Some n) = refl
 
@@ -94,8 +96,8 @@ none_noted r at s events h last t u none same is = no_locks_move r (deeds_by r a
 
 -- ---- what is held is released
 
-settles-as : (r : ℕ) (s : LockStatus) (t u : Locks) (h last : Option Locked) (o : Option ℕ) (ds : List Deed) → IsReason s → o ≡ permit_of h → ds ≡ each_deed (λ n. Released n s) o → last ≡ None → u ≡ settled s h t → MovesLocks r ds h t last u
-settles-as r s t u h last o ds reason permit is none to = record { move = settles s; may = reason; done = is ∙ ap (each_deed (λ n. Released n s)) permit; held = none; table = to }
+settles-as : (r : ℕ) (s : LockStatus) (t u : Locks) (h last : Option Locked) (o : Option ℕ) (ds : List Deed) → IsReason s → o ≡ permit_of h → ds ≡ each_deed (λ n. Did r (Released n s)) o → last ≡ None → u ≡ settled s h t → MovesLocks r ds h t last u
+settles-as r s t u h last o ds reason permit is none to = record { move = settles s; may = reason; done = is ∙ ap (each_deed (λ n. Did r (Released n s))) permit; held = none; table = to }
 
 -- with these events before it and after it
 pub settle-locks : (r at : ℕ) (s : LockStatus) (t u : Locks) (h last : Option Locked) (o : Option ℕ) (first behind events : List Event) → IsReason s → AreOfNoLock first → AreOfNoLock behind → events ≡ (first ++ each E.Release o) ++ behind → o ≡ permit_of h → last ≡ None → u ≡ settled s h t
@@ -153,15 +155,15 @@ pub ended-locks : (r at : ℕ) (s : LockStatus) (t u : Locks) (h : Option Locked
 ended-locks r at s t u h write permit old mid events held none one is to = record {
   move = lets_go;
   may = tt;
-  done = ap (deeds_by r at s) is ∙ quiet-first r at s mid (each E.LetGo permit) (subst AreOfNoLock (sym (one ∙ ap (λ es. es ++ drop_of write) none)) (quiet-drop write)) ∙ let-go-deeds r at s permit ∙ ap (each_deed LetGo) held;
+  done = ap (deeds_by r at s) is ∙ quiet-first r at s mid (each E.LetGo permit) (subst AreOfNoLock (sym (one ∙ ap (λ es. es ++ drop_of write) none)) (quiet-drop write)) ∙ let-go-deeds r at s permit ∙ ap (each_deed (λ n. Did r (LetGo n))) held;
   held = refl;
   table = to;
 }
 
 -- ---- tokens are published
 
-pub publish-locks : (r : ℕ) (t u : Locks) (tokens : List ℕ) (h : Option Locked) → u ≡ published_by tokens h t → MovesLocks r (published_on tokens h ++ []) h t h u
-publish-locks r t u tokens h to = record { move = publishes tokens; may = tt; done = no-more (published_on tokens h); held = refl; table = to }
+pub publish-locks : (r : ℕ) (t u : Locks) (tokens : List ℕ) (h : Option Locked) → u ≡ published_by tokens h t → MovesLocks r (published_on r tokens h ++ []) h t h u
+publish-locks r t u tokens h to = record { move = publishes tokens; may = tt; done = no-more (published_on r tokens h); held = refl; table = to }
 
 -- ---- the lock of a key is asked for
 
@@ -169,8 +171,8 @@ publish-locks r t u tokens h to = record { move = publishes tokens; may = tt; do
 abbrev asked_if : Bool → Bool → Locks → Option Key → Option Locked → Option AskedLock
 asked_if b stale t o h = cond b (option_map (λ k. asked_with stale t k h) o) None
 
-asked-deeds : (r at : ℕ) (s : LockStatus) (j n : ℕ) (b : Bool) (o : Option ℕ) → deeds_by r at s (E.Ask j n b ∷ each E.LetGo o) ≡ Asked r j n b at ∷ each_deed LetGo o
-asked-deeds r at s j n b o = ap (λ ds. Asked r j n b at ∷ ds) (let-go-deeds r at s o)
+asked-deeds : (r at : ℕ) (s : LockStatus) (j n : ℕ) (b : Bool) (o : Option ℕ) → deeds_by r at s (E.Ask j n b ∷ each E.LetGo o) ≡ Did r (deed.asked j false at n b) ∷ each_deed (λ n. Did r (LetGo n)) o
+asked-deeds r at s j n b o = ap (λ ds. Did r (deed.asked j false at n b) ∷ ds) (let-go-deeds r at s o)
 
 -- of a request that holds h, after these events
 asks-locks : (r at : ℕ) (s : LockStatus) (t u : Locks) (b stale : Bool) (j : ℕ) (o : Option Key) (k : Key) (h last : Option Locked) (a : Option AskedLock) (first events : List Event) → o ≡ Some k → j ≡ slot k → a ≡ asked_if b stale t o h → last ≡ cond b (option_map (λ k. lock_given t stale (holder t (slot k))) o) h
@@ -182,7 +184,7 @@ asks-locks r at s t u b stale j o k h last a first events key is asked now to qu
         may = tt;
         done = ap (deeds_by r at s) (all ∙ (λ i. first ++ asking (is i) (e i)) ∙ ap (λ q. first ++ asking (slot k) (asked_if true stale t q h)) key) ∙ quiet-first r at s first (asking (slot k) (asked_if true stale t (Some k) h)) quiet
             ∙ asked-deeds r at s (slot k) (number_of_lock (lock_given t stale (holder t (slot k)))) (is_permit (lock_given t stale (holder t (slot k)))) (permit_in (option_map name_of h))
-            ∙ ap (λ p. Asked r (slot k) (number_of_lock (lock_given t stale (holder t (slot k)))) (is_permit (lock_given t stale (holder t (slot k)))) at ∷ each_deed LetGo p) (permit-named h);
+            ∙ ap (λ p. Did r (deed.asked (slot k) false at (number_of_lock (lock_given t stale (holder t (slot k)))) (is_permit (lock_given t stale (holder t (slot k))))) ∷ each_deed (λ n. Did r (LetGo n)) p) (permit-named h);
         held = f ∙ ap (option_map (λ k. lock_given t stale (holder t (slot k)))) key;
         table = g ∙ ap (λ q. table_asked stale at q h t) key;
       }

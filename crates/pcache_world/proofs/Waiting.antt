@@ -1,19 +1,22 @@
 -- What calls make of the lock table is what their events say of it, and which locks a legal history gives.
-use Rattle.std.proofs.Common.{◌≡◌, ℕ, ◌==◌, Bool, true, false, ◌&&◌, ◌||◌, cond, Option, None, Some, List, [], ◌∷◌, ◌++◌, refl, ap, sym, subst, ◌∙◌, arith, inr, reverse}
+use Rattle.std.proofs.Common.{◌≡◌, ℕ, Bool, true, false, ◌||◌, cond, Option, None, Some, List, [], ◌∷◌, ◌++◌, refl, ap, sym, subst, ◌∙◌, reverse}
 use Rattle.std.specs.List.{list_any}
-use Rattle.std.specs.FinMap.{get, insert, remove, get-empty}
+use Rattle.std.specs.FinMap.{get, get-empty}
 use Rattle.std.specs.Ordering.{nat_cmp}
-use Rattle.std.proofs.lemmas.Bool.Decides.{nat_tests}
 use Rattle.std.proofs.lemmas.List.{append_assoc}
 use Rattle.pcache_base.specs.declared.fills.UnusableFill.{UnusableFill}
 use Rattle.pcache_base.specs.declared.poll.Poll.TheVariants.{Pending, Ready}
-use Rattle.pcache_lock.specs.Locks.{Locks, no_locks, holder, lock_given, after_request, with_read_lock, released, released_on, left, kept, let_go, permit_dropped, reader_dropped, is_permit, number_of_lock, without_entry}
+use Rattle.pcache_lock.specs.Locks.{Locks, no_locks, holder, lock_given, after_request, released, let_go, is_permit, number_of_lock}
 use Rattle.pcache_lock.specs.Permits as permits
-use Rattle.pcache_lock.specs.Permits.{Core, Permit, is_named, spent, released_status, dropped_status, without_reader}
-use Rattle.pcache_lock.specs.Statuses.{IsReason, is_aged}
-use Rattle.pcache_lock.specs.Waiting.{after_poll, answer_at, is_old, watched, polled, published, permit_state, table_at, told_or_pending, watch_at}
-use Rattle.pcache_lock.specs.Waits as table
-use Rattle.pcache_lock.specs.Waits.{Leads, LeadsAll, is_unlock, waiting_slot}
+use Rattle.pcache_lock.specs.Permits.{Core, Permit}
+use Rattle.pcache_lock.specs.Statuses.{IsReason}
+use Rattle.pcache_lock.specs.Waiting.{after_poll, answer_at, is_old, watched, polled, published, permit_state, told_or_pending, watch_at}
+use Rattle.pcache_lock.specs.Deeds as table
+use Rattle.pcache_lock.specs.Past.{Does}
+use Rattle.pcache_lock.specs.PastLaws.{is_unlocking, waits_after}
+use Rattle.pcache_lock.specs.Waits.{is_old_at, waiting_slot, waits_under}
+use Rattle.pcache_lock.proofs.Kept.{next-then, next_by}
+use Rattle.pcache_lock.proofs.Past.{begins, grows}
 use Rattle.pcache_lock.specs.declared.lock.outcome.PermitState.{PermitState}
 use Rattle.pcache_lock.specs.declared.lock.outcome.PermitState.TheVariants as stage
 use Rattle.pcache_lock.specs.declared.lock.permit.Locked.{Locked}
@@ -34,41 +37,18 @@ use Rattle.pcache_history.specs.declared.call.Act.TheVariants as C
 use Rattle.pcache_history.specs.declared.call.RequestAct.TheVariants as Q
 use Rattle.pcache_history.specs.declared.entry.Event.{Event}
 use Rattle.pcache_history.specs.declared.entry.Event.TheVariants as E
-use Rattle.pcache_history.specs.Deeds.{Deed, Asked, Released, LetGo, Aged, deed_of, deeds_by, deeds_in, held_in, moment_of, published_on, said_by, status_left, handed_on}
+use Rattle.pcache_history.specs.Deeds.{Deed, Did, deed_of, deeds_by, deeds_in, held_in, moment_of, published_on, said_by, status_left, handed_on}
 use Rattle.pcache_history.specs.Ongoing.{Ongoing, ReplyKind, was_done, was_other, was_taken, was_waited, was_wrong}
 use Rattle.pcache_world.specs.LockMoves.{LockMove, MayMove, MovesLocks, ages, asks, deeds_moved, each_deed, lets_go, polls, publishes, rests, settles, table_moved, table_polled}
 use Rattle.pcache_history.specs.Rules.{each, number_read, permit_of}
 use Rattle.pcache_history.specs.Waiting.{Waiting, then_waiting, waiting_after, waiting_in, IsGiven, AreGiven, IsOfNoLock, AreOfNoLock}
+use Rattle.pcache_world.proofs.LockTable.{flip}
 use Rattle.pcache_world.specs.TableWaiting.{waiting_of, IsReached, IsLocked, LocksMoved}
-
--- ---- calls that lead to a table
-
-leads-more : (calls : List table.Call) (act : table.Call) (s m t : Locks) → LeadsAll calls s m → Leads act m t → LeadsAll (calls ++ act ∷ []) s t
-leads-more [] act s m t h last = (t, (subst (λ x. Leads act x t) h last, refl))
-leads-more (c ∷ calls) act s m t (x, h) last = (x, (h.0, leads-more calls act x m t h.1 last))
-
-none-more : (calls : List table.Call) (act : table.Call) → list_any is_unlock calls ≡ false → is_unlock act ≡ false → list_any is_unlock (calls ++ act ∷ []) ≡ false
-none-more [] act none one = elim (is_unlock act) as (λ b. b ≡ false → b || false ≡ false) [ true ↦ λ e. e | false ↦ λ e. refl ] one
-none-more (c ∷ calls) act none one = elim (is_unlock c) as (λ b. b || list_any is_unlock calls ≡ false → b || list_any is_unlock (calls ++ act ∷ []) ≡ false) [
-  | true ↦ λ e. absurd (cc)
-  | false ↦ λ e. none-more calls act e one
-] none
-
-reached-more : (t u : Locks) (act : table.Call) → IsReached t → Leads act t u → is_unlock act ≡ false → IsReached u
-reached-more t u act k last locks = record {
-  age_timeout = k.age_timeout;
-  calls = k.calls ++ act ∷ [];
-  led = leads-more k.calls act (no_locks k.age_timeout) t u k.led last;
-  unlocks = none-more k.calls act k.unlocks locks;
-}
-
-reached-none : (age : ℕ) → IsReached (no_locks age)
-reached-none age = record { age_timeout = age; calls = []; led = refl; unlocks = refl }
 
 -- a table with no lock is what no events say
 pub locked-none : (age : ℕ) (t : Locks) → t ≡ no_locks age → IsLocked [] t
 locked-none age t is = subst (IsLocked []) (sym is) (record {
-  reached = reached-none age;
+  reached = record { past = []; led = begins 0 age; unlocks = refl };
   waiting = λ i. record { under = λ l. ap waiting_slot (get-empty nat_cmp l) i; asked = 0 };
 })
 
@@ -122,103 +102,39 @@ quiet t u events none is = subst (Steps t events) (sym is) (λ reached. record {
 
 -- ---- one deed on the table
 
-flip : (a b : ℕ) → (a == b) ≡ (b == a)
-flip a b = grind (arith, nat_tests)
-
-next-kept : (t : Locks) (l : ℕ) (d : Core) → (kept t l d).next ≡ t.next
-next-kept t l d = elim (is_named d) as (λ b. (cond b (record t { cores = insert t.cores l d }) (record t { cores = remove t.cores l; current = without_entry l d.slot t.current })).next ≡ t.next) [ true ↦ refl | false ↦ refl ]
-
-next-left : (t : Locks) (l : ℕ) (c : Core) → (left t l c).next ≡ t.next
-next-left t l c = elim (is_aged c.status) as (λ b. (cond b t (record t { current = without_entry l c.slot t.current })).next ≡ t.next) [ true ↦ refl | false ↦ refl ]
-
-next-joined : (t : Locks) (l : ℕ) (o : Option Core) → (with_read_lock t l o).next ≡ t.next
-next-joined t l None = refl
-next-joined t l (Some c) = refl
-
-next-released : (t : Locks) (l : ℕ) (s : LockStatus) (o : Option Core) → (released_on t l s o).next ≡ t.next
-next-released t l s None = refl
-next-released t l s (Some c) = next-kept (left t l c) l (spent c (released_status s c.status)) ∙ next-left t l c
-
-next-dropped : (t : Locks) (l : ℕ) (o : Option Core) → (permit_dropped t l o).next ≡ t.next
-next-dropped t l None = refl
-next-dropped t l (Some c) = next-kept t l (spent c (dropped_status c.status))
-
-next-left-by : (t : Locks) (l : ℕ) (o : Option Core) → (reader_dropped t l o).next ≡ t.next
-next-left-by t l None = refl
-next-left-by t l (Some c) = next-kept t l (without_reader c)
-
-next-at : (t : Locks) (l : ℕ) (c : Core) (s : PermitState) → (table_at s t l c).next ≡ t.next
-next-at t l c stage.Over = refl
-next-at t l c stage.Old = refl
-next-at t l c stage.Held = refl
-
-next-polled : (t : Locks) (l now : ℕ) (o : Option Core) → (after_poll t now l o).next ≡ t.next
-next-polled t l now None = refl
-next-polled t l now (Some c) = next-at t l c (permit_state now c)
-
--- the key under which a permit waits, and the number of the next one
-waiting-as : (t : Locks) (w : Waiting) → ((l : ℕ) → table.waits_under t l ≡ w.under l) → t.next ≡ w.asked → waiting_of t ≡ w
-waiting-as t w under asked = λ i. record { under = λ l. under l i; asked = asked i }
+by-deed : (deed : table.Deed) (events : List Event) (t u : Locks) → Does deed t u → is_unlocking deed ≡ false → (IsReached t → AreGiven (waiting_of t) events)
+    → ((q : ℕ) → waits_after q deed (waits_under t q) ≡ (waiting_after events (waiting_of t)).under q) → next_by deed t.next ≡ (waiting_after events (waiting_of t)).asked → Steps t events u
+by-deed deed events t u does locks given under asked reached = record {
+  reached = record { past = deed ∷ reached.past; led = grows t u reached.past deed reached.led does; unlocks = ap (λ b. b || list_any is_unlocking reached.past) locks ∙ reached.unlocks };
+  given = given reached;
+  waiting = λ i. record { under = λ q. (waits_until_its_end deed t u q does ∙ under q) i; asked = (next-then deed t u does ∙ asked) i };
+}
 
 gives-permit : (t : Locks) (k : ℕ) (stale : Bool) (now : ℕ) → holder t k ≡ None → Steps t (E.Ask k t.next true ∷ []) (after_request t k stale now None)
-gives-permit t k stale now free reached =
-    let u = after_request t k stale now None in
-    record {
-      reached = reached-more t u (table.Asked k stale now) reached (inr (ap (after_request t k stale now) (sym free))) refl;
-      given = (((λ l waits. let held : holder t k ≡ Some l = (finds_the_waiting reached.age_timeout reached.calls t reached.led reached.unlocks k l).1 waits in let no : ◌≡◌ {A = Option ℕ} None (Some l) = sym free ∙ held in absurd (cc)), refl), tt);
-      waiting = waiting-as u (then_waiting (E.Ask k t.next true) (waiting_of t)) (λ l. waits_until_its_end.asking t k stale now l ∙ ap (λ b. cond b (Some k) (table.waits_under t l)) (flip l t.next)) refl;
-    }
+gives-permit t k stale now free =
+    by-deed (table.Granted k t.next stale now) (E.Ask k t.next true ∷ []) t (after_request t k stale now None) (free, refl, refl) refl
+    (λ reached. (((λ l waits. let held : holder t k ≡ Some l = (finds_the_waiting t reached.past reached.led reached.unlocks k l).1 waits in let no : ◌≡◌ {A = Option ℕ} None (Some l) = sym free ∙ held in absurd (cc)), refl), tt))
+    (λ q. ap (λ b. cond b (Some k) (waits_under t q)) (flip q t.next)) refl
 
 gives-read : (t : Locks) (k : ℕ) (stale : Bool) (now l : ℕ) → holder t k ≡ Some l → Steps t (E.Ask k l false ∷ []) (after_request t k stale now (Some l))
-gives-read t k stale now l is reached =
-    let u = after_request t k stale now (Some l) in
-    record {
-      reached = reached-more t u (table.Asked k stale now) reached (inr (ap (after_request t k stale now) (sym is))) refl;
-      given = ((finds_the_waiting reached.age_timeout reached.calls t reached.led reached.unlocks k l).0 is, tt);
-      waiting = waiting-as u (waiting_of t) (λ q. waits_until_its_end.joining t k stale now l q) (next-joined t l (get t.cores l));
-    }
+gives-read t k stale now l is =
+    by-deed (table.Joined k l now) (E.Ask k l false ∷ []) t (after_request t k stale now (Some l)) (is, refl) refl (λ reached. ((finds_the_waiting t reached.past reached.led reached.unlocks k l).0 is, tt)) (λ q. refl) refl
 
 releases : (t : Locks) (l : ℕ) (s : LockStatus) → IsReason s → Steps t (E.Release l ∷ []) (released t l s)
-releases t l s reason reached = record {
-  reached = reached-more t (released t l s) (table.Released l s) reached (reason, refl) refl;
-  given = (tt, tt);
-  waiting = waiting-as (released t l s) (then_waiting (E.Release l) (waiting_of t)) (λ q. waits_until_its_end.releasing t l s q ∙ ap (λ b. cond b None (table.waits_under t q)) (flip q l)) (next-released t l s (get t.cores l));
-}
+releases t l s reason = by-deed (table.Released l s) (E.Release l ∷ []) t (released t l s) (reason, refl) refl (λ _. (tt, tt)) (λ q. ap (λ b. cond b None (waits_under t q)) (flip q l)) refl
 
 lets-go : (t : Locks) (p : Permit) → Steps t (E.LetGo p.number ∷ []) (let_go t (Write p))
-lets-go t p reached = record {
-  reached = reached-more t (let_go t (Write p)) (table.LetGo (Write p)) reached refl refl;
-  given = (tt, tt);
-  waiting = waiting-as (let_go t (Write p)) (then_waiting (E.LetGo p.number) (waiting_of t)) (λ q. waits_until_its_end.letting_go t p q ∙ ap (λ b. cond b None (table.waits_under t q)) (flip q p.number)) (next-dropped t p.number (get t.cores p.number));
-}
+lets-go t p = by-deed (table.LetGo p.number) (E.LetGo p.number ∷ []) t (let_go t (Write p)) refl refl (λ _. (tt, tt)) (λ q. ap (λ b. cond b None (waits_under t q)) (flip q p.number)) refl
 
 leaves : (t : Locks) (r : permits.Reader) → Steps t [] (let_go t (Read r))
-leaves t r reached = record {
-  reached = reached-more t (let_go t (Read r)) (table.LetGo (Read r)) reached refl refl;
-  given = tt;
-  waiting = waiting-as (let_go t (Read r)) (waiting_of t) (λ q. waits_until_its_end.leaving t r q) (next-left-by t r.number (get t.cores r.number));
-}
+leaves t r = by-deed (table.Left r.number) [] t (let_go t (Read r)) refl refl (λ _. tt) (λ q. refl) refl
 
 publishes-one : (t : Locks) (l : ℕ) (tokens : List ℕ) → Steps t [] (published t l tokens)
-publishes-one t l tokens reached = record {
-  reached = reached-more t (published t l tokens) (table.Published l tokens) reached (inr refl) refl;
-  given = tt;
-  waiting = waiting-as (published t l tokens) (waiting_of t) (λ q. waits_until_its_end.publishing t l tokens q) refl;
-}
+publishes-one t l tokens = by-deed (table.Published l tokens) [] t (published t l tokens) refl refl (λ _. tt) (λ q. refl) refl
 
 -- a permit is found too old
-ages-one : (t : Locks) (l now : ℕ) → table.is_old_at now (get t.cores l) ≡ true → Steps t (E.Aged l ∷ []) (after_poll t now l (get t.cores l))
-ages-one t l now old reached = record {
-  reached = reached-more t (after_poll t now l (get t.cores l)) (table.Polled l now) reached (inr refl) refl;
-  given = (tt, tt);
-  waiting = waiting-as (after_poll t now l (get t.cores l)) (then_waiting (E.Aged l) (waiting_of t))
-      (λ q. waits_until_its_end.polling t now l q ∙ ap (λ b. cond ((q == l) && b) None (table.waits_under t q)) old ∙ ap (λ b. cond b None (table.waits_under t q)) (and-true (q == l) ∙ flip q l))
-      (next-polled t l now (get t.cores l));
-}
-  where
-    and-true : (b : Bool) → (b && true) ≡ b
-    and-true true = refl
-    and-true false = refl
+ages-one : (t : Locks) (l now : ℕ) → is_old_at now (get t.cores l) ≡ true → Steps t (E.Aged l ∷ []) (after_poll t now l (get t.cores l))
+ages-one t l now old = by-deed (table.Aged l now) (E.Aged l ∷ []) t (after_poll t now l (get t.cores l)) (old, refl) refl (λ _. (tt, tt)) (λ q. ap (λ b. cond b None (waits_under t q)) (flip q l)) refl
 
 -- ---- the rows of a request
 
@@ -250,28 +166,33 @@ asks-for t k stale now (Some l) is = gives-read t k stale now l is
 
 -- the events that deeds are read off
 abbrev spoken_of : Deed → List Event
-spoken_of (Asked r k n b t) = E.Ask k n b ∷ []
-spoken_of (Released n s) = E.Release n ∷ []
-spoken_of (LetGo n) = E.LetGo n ∷ []
-spoken_of (Aged n) = E.Aged n ∷ []
+spoken_of (Did r (table.Granted k n stale t)) = E.Ask k n true ∷ []
+spoken_of (Did r (table.Joined k n t)) = E.Ask k n false ∷ []
+spoken_of (Did r (table.Released n s)) = E.Release n ∷ []
+spoken_of (Did r (table.LetGo n)) = E.LetGo n ∷ []
+spoken_of (Did r (table.Aged n t)) = E.Aged n ∷ []
 spoken_of _ = []
 
 abbrev spoken : List Deed → List Event
 spoken [] = []
 spoken (d ∷ ds) = spoken_of d ++ spoken ds
 
-spoken-let-go : (o : Option ℕ) → spoken (each_deed LetGo o) ≡ each E.LetGo o
-spoken-let-go None = refl
-spoken-let-go (Some n) = refl
+spoken-let-go : (r : ℕ) (o : Option ℕ) → spoken (each_deed (λ n. Did r (table.LetGo n)) o) ≡ each E.LetGo o
+spoken-let-go r None = refl
+spoken-let-go r (Some n) = refl
 
-spoken-released : (s : LockStatus) (o : Option ℕ) → spoken (each_deed (λ n. Released n s) o) ≡ each E.Release o
-spoken-released s None = refl
-spoken-released s (Some n) = refl
+spoken-released : (r : ℕ) (s : LockStatus) (o : Option ℕ) → spoken (each_deed (λ n. Did r (table.Released n s)) o) ≡ each E.Release o
+spoken-released r s None = refl
+spoken-released r s (Some n) = refl
 
-spoken-published : (tokens : List ℕ) (h : Option Locked) → spoken (published_on tokens h) ≡ []
-spoken-published tokens None = refl
-spoken-published tokens (Some (Write p)) = refl
-spoken-published tokens (Some (Read rd)) = refl
+spoken-published : (r : ℕ) (tokens : List ℕ) (h : Option Locked) → spoken (published_on r tokens h) ≡ []
+spoken-published r tokens None = refl
+spoken-published r tokens (Some (Write p)) = refl
+spoken-published r tokens (Some (Read rd)) = refl
+
+spoken-asked : (r k at n : ℕ) (b : Bool) (ds : List Deed) → spoken (Did r (table.asked k false at n b) ∷ ds) ≡ E.Ask k n b ∷ spoken ds
+spoken-asked r k at n true ds = refl
+spoken-asked r k at n false ds = refl
 
 spoken-handed : (to : ℕ) (h : Option Locked) → spoken (handed_on to h) ≡ []
 spoken-handed to None = refl
@@ -279,10 +200,10 @@ spoken-handed to (Some (Write p)) = refl
 spoken-handed to (Some (Read rd)) = refl
 
 -- a read lock is let go once its permit was found too old
-ages-by : (t : Locks) (fills : Option (List UnusableFill)) (at : ℕ) (mine : Option Locked) → too_old_for t at mine fills ≡ true → Steps t (spoken (each_deed Aged (number_read mine))) (let_go_by mine (table_polled at mine t))
-ages-by t fills at None old = absurd (cc)
-ages-by t fills at (Some (Write p)) old = absurd (cc)
-ages-by t fills at (Some (Read rd)) old =
+ages-by : (r : ℕ) (t : Locks) (fills : Option (List UnusableFill)) (at : ℕ) (mine : Option Locked) → too_old_for t at mine fills ≡ true → Steps t (spoken (each_deed (λ n. Did r (table.Aged n at)) (number_read mine))) (let_go_by mine (table_polled at mine t))
+ages-by r t fills at None old = absurd (cc)
+ages-by r t fills at (Some (Write p)) old = absurd (cc)
+ages-by r t fills at (Some (Read rd)) old =
     let u = after_poll t at rd.number (get t.cores rd.number) in
     both t u (let_go u (Read rd)) (E.Aged rd.number ∷ []) [] (ages-one t rd.number at (is-old (get t.cores rd.number) old)) (leaves u rd)
   where
@@ -291,7 +212,7 @@ ages-by t fills at (Some (Read rd)) old =
     at-stage stage.Old w e = refl
     at-stage stage.Held w e = elim w.told as (λ o. is_old_result (told_or_pending o) ≡ true → false ≡ true) [ None ↦ λ f. f | Some fill ↦ λ f. f ] e
 
-    is-old : (o : Option Core) → is_old_result (polled at fills rd.watch o) ≡ true → table.is_old_at at o ≡ true
+    is-old : (o : Option Core) → is_old_result (polled at fills rd.watch o) ≡ true → is_old_at at o ≡ true
     is-old None e = absurd (cc)
     is-old (Some c) e = at-stage (permit_state at c) (watched c (watch_at c fills rd.watch)) e
 
@@ -299,13 +220,15 @@ steps-by : (move : LockMove) (r : ℕ) (mine : Option Locked) (t : Locks) → Ma
 steps-by rests r mine t may = quiet t t [] tt refl
 steps-by (asks k stale at) r mine t may =
     let u = after_request t k stale at (holder t k) in
-    subst (λ es. Steps t (E.Ask k (number_of_lock (lock_given t stale (holder t k))) (is_permit (lock_given t stale (holder t k))) ∷ es) (let_go_by mine u)) (sym (spoken-let-go (permit_of mine)))
-    (both t u (let_go_by mine u) (E.Ask k (number_of_lock (lock_given t stale (holder t k))) (is_permit (lock_given t stale (holder t k))) ∷ []) (each E.LetGo (permit_of mine)) (asks-for t k stale at (holder t k) refl) (let-go-by u mine))
-steps-by (settles s) r mine t may = subst (λ es. Steps t es (settled s mine t)) (sym (spoken-released s (permit_of mine))) (settles-by t s mine may)
-steps-by lets_go r mine t may = subst (λ es. Steps t es (let_go_by mine t)) (sym (spoken-let-go (permit_of mine))) (let-go-by t mine)
-steps-by (publishes tokens) r mine t may = subst (λ es. Steps t es (published_by tokens mine t)) (sym (spoken-published tokens mine)) (published-by t tokens mine)
+    let l = number_of_lock (lock_given t stale (holder t k)) in
+    let b = is_permit (lock_given t stale (holder t k)) in
+    subst (λ es. Steps t es (let_go_by mine u)) (sym (spoken-asked r k at l b (each_deed (λ n. Did r (table.LetGo n)) (permit_of mine)) ∙ ap (λ es. E.Ask k l b ∷ es) (spoken-let-go r (permit_of mine))))
+    (both t u (let_go_by mine u) (E.Ask k l b ∷ []) (each E.LetGo (permit_of mine)) (asks-for t k stale at (holder t k) refl) (let-go-by u mine))
+steps-by (settles s) r mine t may = subst (λ es. Steps t es (settled s mine t)) (sym (spoken-released r s (permit_of mine))) (settles-by t s mine may)
+steps-by lets_go r mine t may = subst (λ es. Steps t es (let_go_by mine t)) (sym (spoken-let-go r (permit_of mine))) (let-go-by t mine)
+steps-by (publishes tokens) r mine t may = subst (λ es. Steps t es (published_by tokens mine t)) (sym (spoken-published r tokens mine)) (published-by t tokens mine)
 steps-by (polls fills at) r mine t may = quiet t t [] tt refl
-steps-by (ages fills at) r mine t may = ages-by t fills at mine may
+steps-by (ages fills at) r mine t may = ages-by r t fills at mine may
 
 pub steps : (r : ℕ) (ds : List Deed) (mine last : Option Locked) (t u : Locks) → MovesLocks r ds mine t last u → Steps t (spoken ds) u
 steps r ds mine last t u k = subst (λ es. Steps t (spoken es) u) (sym k.done) (subst (Steps t (spoken (deeds_moved k.move r mine t))) (sym k.table) (steps-by k.move r mine t k.may))
@@ -313,14 +236,16 @@ steps r ds mine last t u k = subst (λ es. Steps t (spoken es) u) (sym k.done) (
 -- what deeds say of who waits is what their events say
 
 one-spoken : (r at : ℕ) (s : LockStatus) (e : Event) (w : Waiting) → waiting_after (spoken (deed_of r at s e)) w ≡ then_waiting e w
-one-spoken r at s (E.Ask k n b) w = refl
+one-spoken r at s (E.Ask k n true) w = refl
+one-spoken r at s (E.Ask k n false) w = refl
 one-spoken r at s (E.Release n) w = refl
 one-spoken r at s (E.LetGo n) w = refl
 one-spoken r at s (E.Aged n) w = refl
 one-spoken r at s e w = refl
 
 one-given : (r at : ℕ) (s : LockStatus) (e : Event) (w : Waiting) → AreGiven w (spoken (deed_of r at s e)) → IsGiven w e
-one-given r at s (E.Ask k n b) w g = g.0
+one-given r at s (E.Ask k n true) w g = g.0
+one-given r at s (E.Ask k n false) w g = g.0
 one-given r at s (E.Release n) w g = tt
 one-given r at s (E.LetGo n) w g = tt
 one-given r at s (E.Aged n) w g = tt
@@ -350,7 +275,7 @@ all-given r at s (e ∷ events) w g =
 
 -- what a call says beside its events says nothing of who waits
 said-spoken : (r : ℕ) (act : Act) (o : ReplyKind) (h : Option Locked) → spoken (said_by r act o h) ≡ []
-said-spoken r (C.Request (Q.Publish tokens)) was_done h = spoken-published tokens h
+said-spoken r (C.Request (Q.Publish tokens)) was_done h = spoken-published r tokens h
 said-spoken r (C.Wait t) (was_waited Pending) h = refl
 said-spoken r (C.Give to) was_done h = spoken-handed to h
 said-spoken r (C.Give to) was_wrong h = refl

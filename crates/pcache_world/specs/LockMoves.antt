@@ -1,10 +1,11 @@
 -- What one call does to the lock table and to the lock that its request holds (own): one definition for each kind of
 -- move.
-use Rattle.std.specs.Prelude.{◌≡◌, ℕ, Bool, true, Option, None, Some, List, [], ◌∷◌}
+use Rattle.std.specs.Prelude.{◌≡◌, ℕ, Bool, true, false, Option, None, Some, List, [], ◌∷◌}
 use Rattle.std.specs.Option.{option_map}
 use Rattle.std.specs.FinMap.{get}
 use Rattle.pcache_base.specs.declared.fills.UnusableFill.{UnusableFill}
 use Rattle.pcache_base.specs.declared.poll.Poll.TheVariants.{Pending}
+use Rattle.pcache_lock.specs.Deeds.{Released, LetGo, Aged, asked}
 use Rattle.pcache_lock.specs.Locks.{Locks, holder, lock_given, after_request, is_permit, number_of_lock}
 use Rattle.pcache_lock.specs.Statuses.{IsReason}
 use Rattle.pcache_lock.specs.Waiting.{after_poll, polled, reader_polled}
@@ -19,7 +20,7 @@ use Rattle.pcache_history.specs.declared.call.Act.TheVariants as C
 use Rattle.pcache_history.specs.declared.call.RequestAct.TheVariants as Q
 use Rattle.pcache_history.specs.declared.call.Reply.{Reply}
 use Rattle.pcache_history.specs.declared.entry.Event.{Event}
-use Rattle.pcache_history.specs.Deeds.{Deed, Asked, Released, LetGo, Aged, Polled, deeds_by, deeds_in, published_on, status_left}
+use Rattle.pcache_history.specs.Deeds.{Deed, Did, Polled, deeds_by, deeds_in, published_on, status_left}
 use Rattle.pcache_history.specs.Ongoing.{Ongoing, kind_of_reply}
 use Rattle.pcache_history.specs.Rules.{number_read, permit_of}
 
@@ -45,12 +46,12 @@ each_deed d (Some n) = d n ∷ []
 -- the deeds of the move of a request r that holds this lock, oldest first
 abbrev pub deeds_moved : LockMove → ℕ → Option Locked → Locks → List Deed
 deeds_moved rests r mine t = []
-deeds_moved (asks k stale at) r mine t = Asked r k (number_of_lock (lock_given t stale (holder t k))) (is_permit (lock_given t stale (holder t k))) at ∷ each_deed LetGo (permit_of mine)
-deeds_moved (settles s) r mine t = each_deed (λ n. Released n s) (permit_of mine)
-deeds_moved lets_go r mine t = each_deed LetGo (permit_of mine)
-deeds_moved (publishes tokens) r mine t = published_on tokens mine
+deeds_moved (asks k stale at) r mine t = Did r (asked k false at (number_of_lock (lock_given t stale (holder t k))) (is_permit (lock_given t stale (holder t k)))) ∷ each_deed (λ n. Did r (LetGo n)) (permit_of mine)
+deeds_moved (settles s) r mine t = each_deed (λ n. Did r (Released n s)) (permit_of mine)
+deeds_moved lets_go r mine t = each_deed (λ n. Did r (LetGo n)) (permit_of mine)
+deeds_moved (publishes tokens) r mine t = published_on r tokens mine
 deeds_moved (polls fills at) r mine t = Polled r ∷ []
-deeds_moved (ages fills at) r mine t = each_deed Aged (number_read mine)
+deeds_moved (ages fills at) r mine t = each_deed (λ n. Did r (Aged n at)) (number_read mine)
 
 -- the table after a poll, and after a read lock that was polled is let go
 abbrev pub table_polled : ℕ → Option Locked → Locks → Locks

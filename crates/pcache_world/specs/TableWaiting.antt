@@ -1,20 +1,21 @@
 -- For the prover: which permits wait, by a lock table (own).
-use Rattle.std.specs.Prelude.{◌≡◌, ℕ, List}
-use Rattle.pcache_lock.specs.Locks.{Locks, no_locks}
+use Rattle.std.specs.Prelude.{◌≡◌, List}
+use Rattle.pcache_lock.specs.Deeds.{Deed}
+use Rattle.pcache_lock.specs.Locks.{Locks}
+use Rattle.pcache_lock.specs.Past.{IsPastOf}
+use Rattle.pcache_lock.specs.PastLaws.{UnlocksNone}
 use Rattle.pcache_lock.specs.Waits as table
-use Rattle.pcache_lock.specs.Waits.{LeadsAll, NoneUnlocks}
 use Rattle.pcache_history.specs.declared.entry.Event.{Event}
 use Rattle.pcache_history.specs.Waiting.{Waiting, AreGiven, waiting_after, waiting_in}
 
 abbrev pub waiting_of : Locks → Waiting
 waiting_of t = record { under = table.waits_under t; asked = t.next }
 
--- calls of a table of locks led to it, and none of them unlocked
+-- a past led to it in which no permit was unlocked while it was held
 pub record IsReached (t : Locks) : Type 0 where
-  pub age_timeout : ℕ
-  pub calls : List table.Call
-  pub led : LeadsAll calls (no_locks age_timeout) t
-  pub unlocks : NoneUnlocks calls
+  pub past : List Deed
+  pub led : IsPastOf t past
+  pub unlocks : UnlocksNone past
 
 -- the table agrees with the events
 pub record IsLocked (es : List Event) (t : Locks) : Type 0 where
