@@ -113,9 +113,9 @@ def contracts(crate):
 
 
 def rows_of(section):
-    """How many rows of text are under a section, by the crates of tests."""
+    """How many rows of text are under a section, by the crate of tests."""
     count = 0
-    for path in sorted(TOP.glob("crates/tests_of_http/src/*.rt")) + sorted(TOP.glob("crates/tests_of_validation/src/*.rt")):
+    for path in sorted(TOP.glob("crates/tests_of_http/src/*.rt")):
         here = False
         for line in path.read_text(encoding="utf-8").splitlines():
             text = line.strip()

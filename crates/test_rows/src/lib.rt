@@ -8,11 +8,13 @@
 //! Only crates of tests use this crate. No function of it promises anything: a test compares the text
 //! that was written.
 
+mod keys;
 mod rows;
 mod spelled;
 mod told;
 mod words;
 
+pub use keys::key_of;
 use pcache_base::seed::Seed;
 pub use rows::{Desk, asked_of, first_wrong};
 pub use spelled::{unescape, unhex};

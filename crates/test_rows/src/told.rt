@@ -110,6 +110,22 @@ impl Told {
         }
     }
 
+    /// Adds `yes` or `no`, or the error in their place.
+    pub fn answer(&mut self, answer: Result<bool>) {
+        match answer {
+            Ok(answer) => self.yes_or_no(answer),
+            Err(refused) => self.refused(&refused),
+        }
+    }
+
+    /// Adds `ok` if a call was made and `wrong` if it may not be made, or its error.
+    pub fn made(&mut self, made: Result<bool>) {
+        match made {
+            Ok(made) => self.say(if made { "ok" } else { "wrong" }),
+            Err(refused) => self.refused(&refused),
+        }
+    }
+
     /// Adds a text, or the error in its place.
     pub fn text(&mut self, text: Result<String>) {
         match text {

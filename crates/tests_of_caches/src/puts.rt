@@ -1,28 +1,24 @@
-//! Puts of a cache over each manager, by rows: the limit, and then the calls. A put names its key and has the pieces of its
-//! response, with a bar between two; a search or a purge names a key, as in the rows of requests.
+//! Puts: one names its key and has the pieces of its response, with a bar between two. A piece may be a purge of a key.
 //!
-//! The result is that of each call, then what is stored and what is tracked. Every response is fresh for a second unless
-//! it says something else.
+//! Every response is fresh for a second unless it says something else.
 ghost use Rattle.pcache_put.specs.Policies.{SaysByDefault};
 ghost use Rattle.tests_of_caches.specs.Lifetimes.{IsOneSecond};
 
 use crate::lifetimes::{by_one_second, one_second};
-use crate::requests::{OfTest, finds, list_of, purges};
+use crate::requests::{List, NOW, OfTest, Request, list_of};
+use crate::scenes::run_two;
+use crate::wholes::purge;
 use pcache_base::error::Result;
-use pcache_base::key::CacheKey;
 use pcache_base::moment::Moment;
-use pcache_base::seed::Seed;
+use pcache_base::reason::NoCacheReason;
 use pcache_cache::{Cache, PendingPut};
 use pcache_control::{CacheMetaDefaults, RespCacheable};
-use pcache_evict::eviction::{EvictionManager, simple_lru};
+use pcache_evict::eviction::EvictionManager;
 use pcache_meta::header::ResponseHeader;
-use pcache_policies::s3_fifo;
 use pcache_put::policy::{CachePut, HeadLimit};
 use pcache_put::report::PutOutcome;
 use std::alloc::Global;
-use std::process::Abort;
-use std::time::Duration;
-use test_rows::{Desk, Told, first_wrong, size, unescape, word};
+use test_rows::{Told, key_of, size, unescape, word};
 
 // A policy that goes by defaults under which every status is fresh for a second.
 #[derive(Drop)]
@@ -56,119 +52,73 @@ const ANY: Most = Most {
     body: None,
 };
 
-fn put_of(alloc: Global, name: &str, most: Most) -> Result<Put> {
-    let primary = name.as_bytes().to_vec(alloc)?;
-    let key = CacheKey::new(primary, String::new(alloc));
+fn put_of(alloc: Global, name: &str, most: Most) -> Put {
     let policy = HeadLimit {
         policy: OneSecond,
         max_head_size_bytes: most.head,
     };
-    let mut put = PendingPut::new(alloc, policy, key);
+    let mut put = PendingPut::new(alloc, policy, key_of(alloc, name.as_bytes(), ""));
     if let Some(limit) = most.body {
         put.put.set_max_file_size_bytes(limit);
     }
-    Ok(put)
+    put
 }
 
-#[derive(Drop)]
-struct Made<M: EvictionManager + Drop> {
-    cache: Cache<M, OfTest>,
-    piece: Vec<u8>,
-}
-
-impl<M: EvictionManager + Drop> Desk for Made<M> {
-    fn tell(&mut self, call: &'static str, told: &mut Told) {
-        for call in call.split(", ") {
-            tell_call(self, call, told);
-            told.say("; ");
-        }
-        told.shown(&self.cache.stored_bytes());
-        told.say(" in ");
-        told.shown(&self.cache.slots());
-        told.say(", ");
-        told.shown(&self.cache.totals().items);
-        told.say(" tracked");
-    }
-}
-
-fn tell_call<M: EvictionManager + Drop>(made: &mut Made<M>, call: &'static str, told: &mut Told) {
-    let name = word(call, 1);
-    match word(call, 0) {
-        "put" => tell_put(made, call, name, ANY, told),
+/// Makes the call of a row.
+pub fn tell<M: EvictionManager>(
+    cache: &mut Cache<M, OfTest>,
+    one: &mut Request,
+    call: &'static str,
+    told: &mut Told,
+) {
+    let (most, name) = match word(call, 0) {
         "put-at-most" => {
             let body = Some(size(call, 1));
-            tell_put(made, call, word(call, 2), Most { body, ..ANY }, told);
+            (Most { body, ..ANY }, word(call, 2))
         }
         "put-head-at-most" => {
             let head = size(call, 1);
-            tell_put(made, call, word(call, 2), Most { head, ..ANY }, told);
+            (Most { head, ..ANY }, word(call, 2))
         }
-        "find" => tell_answer(finds(&mut made.cache, name, word(call, 2).as_bytes()), told),
-        _ => tell_answer(purges(&mut made.cache, name), told),
-    }
-}
-
-fn tell_answer(answer: Result<bool>, told: &mut Told) {
-    match answer {
-        Ok(answer) => told.yes_or_no(answer),
-        Err(refused) => told.refused(&refused),
-    }
-}
-
-fn tell_put<M: EvictionManager + Drop>(
-    made: &mut Made<M>,
-    call: &'static str,
-    name: &'static str,
-    most: Most,
-    told: &mut Told,
-) {
+        _ => (ANY, word(call, 1)),
+    };
     let name = name.strip_suffix(":").unwrap_or(name);
-    match put_of(made.cache.alloc(), name, most) {
-        Ok(put) => tell_put_of(made, put, pieces_of(call), told),
-        Err(refused) => told.refused(&refused),
+    let mut put = put_of(cache.alloc(), name, most);
+    for piece in call.split_once(": ").unwrap_or((call, "")).1.split('|') {
+        feed(cache, one, &mut put, piece, told);
     }
-}
-
-// The pieces of a call: the text after the colon.
-fn pieces_of(call: &'static str) -> &'static str {
-    match call.split_once(": ") {
-        Some((_name, pieces)) => pieces,
-        None => "",
-    }
-}
-
-fn tell_put_of<M: EvictionManager + Drop>(
-    made: &mut Made<M>,
-    put: Put,
-    pieces: &'static str,
-    told: &mut Told,
-) {
-    let mut put = put;
-    for piece in pieces.split('|') {
-        feed(made, &mut put, piece, told);
-    }
-    finish(&mut made.cache, &mut put, told);
-    made.cache.end_put(put);
+    finish(cache, &mut put, told);
+    cache.end_put(put);
 }
 
 // A piece, or a purge between two.
-fn feed<M: EvictionManager + Drop>(
-    made: &mut Made<M>,
+fn feed<M: EvictionManager>(
+    cache: &mut Cache<M, OfTest>,
+    one: &mut Request,
     put: &mut Put,
     piece: &'static str,
     told: &mut Told,
 ) {
-    if let Some(name) = piece.strip_prefix("purge ") {
-        tell_answer(purges(&mut made.cache, name), told);
-        return;
+    match piece.strip_prefix("purge ") {
+        Some(name) => purge(cache, one, name.as_bytes(), told),
+        None => feed_piece(cache, put, piece, told),
     }
-    if !unescape(piece, &mut made.piece) {
-        told.say("no room");
-        return;
+}
+
+fn feed_piece<M: EvictionManager>(
+    cache: &mut Cache<M, OfTest>,
+    put: &mut Put,
+    piece: &'static str,
+    told: &mut Told,
+) {
+    let mut bytes = Vec::new(cache.alloc());
+    if unescape(piece, &mut bytes) {
+        tell_fed(cache.cache_put(put, bytes.as_slice(), NOW), told);
     }
-    let answer = made
-        .cache
-        .cache_put(put, made.piece.as_slice(), Moment::EPOCH);
+}
+
+// That the put goes on, or the reason why nothing is stored.
+fn tell_fed(answer: Result<Option<NoCacheReason>>, told: &mut Told) {
     match answer {
         Ok(None) => told.say("+"),
         Ok(Some(reason)) => told.say(reason.as_str()),
@@ -176,13 +126,16 @@ fn feed<M: EvictionManager + Drop>(
     }
 }
 
-fn finish<M: EvictionManager + Drop>(cache: &mut Cache<M, OfTest>, put: &mut Put, told: &mut Told) {
+fn finish<M: EvictionManager>(cache: &mut Cache<M, OfTest>, put: &mut Put, told: &mut Told) {
     if !cache.may_end_put(put) {
-        told.say(" another's");
-        return;
+        return told.say(" another's");
     }
     told.say(" ");
-    match cache.finish_put(put) {
+    tell_ended(cache.finish_put(put), told);
+}
+
+fn tell_ended(ended: Result<PutOutcome>, told: &mut Told) {
+    match ended {
         Ok(PutOutcome::Stored(report)) => {
             told.say("stored ");
             told.shown(&report.size);
@@ -192,97 +145,55 @@ fn finish<M: EvictionManager + Drop>(cache: &mut Cache<M, OfTest>, put: &mut Put
     }
 }
 
-// Plays the rows, each over caches of its own, in which bodies may have four bytes together.
-fn run(rt: &impl Abort, alloc: Global, rows: &'static str) {
-    for row in rows.lines() {
-        run_row(
-            rt,
-            alloc,
-            simple_lru::Manager::new(alloc, Seed::fixed(), 4),
-            row,
-        );
-        run_row(
-            rt,
-            alloc,
-            s3_fifo::Manager::new(alloc, Seed::fixed(), 4),
-            row,
-        );
-    }
-}
-
-fn run_row<M: EvictionManager + Drop>(
-    rt: &impl Abort,
-    alloc: Global,
-    manager: Result<M>,
-    row: &'static str,
-) {
-    match manager {
-        Ok(manager) => {
-            let mut made = Made {
-                cache: Cache::new(alloc, Seed::fixed(), manager, Duration::from_secs(10)),
-                piece: Vec::new(alloc),
-            };
-            play(rt, alloc, &mut made, row);
-        }
-        Err(_refused) => assert!(rt; false),
-    }
-}
-
-fn play<M: EvictionManager + Drop>(
-    rt: &impl Abort,
-    alloc: Global,
-    made: &mut Made<M>,
-    row: &'static str,
-) {
-    let mut told = Told::new(alloc);
-    if let Some(row) = first_wrong(made, &mut told, row) {
-        let said = told.as_str();
-        assert!(rt; false, "{row}, and not {said}");
-    }
-}
-
 const PUTS: &str = r"
-    put a: HTTP/1.1 200 OK\r\nContent-Length: 2\r\n\r\nhi, find a hi, find b hi -> + stored 2; yes; no; 2 in 1, 1 tracked
-    put a: HTTP/1.1 200 OK\r\nCont|ent-Length: 4\r\n\r\nr|us|t, find a rust -> ++++ stored 4; yes; 4 in 1, 1 tracked
+    limit 4: put a: HTTP/1.1 200 OK\r\nContent-Length: 2\r\n\r\nhi, find a, find b -> + stored 2, hi, -, 2 in 1, 2 of 1 tracked, 0 of 0 went
+    limit 4: put a: HTTP/1.1 200 OK\r\nCont|ent-Length: 4\r\n\r\nr|us|t, find a -> ++++ stored 4, rust, 4 in 1, 4 of 1 tracked, 0 of 0 went
     # a response that says that it is not to be stored
-    put a: HTTP/1.1 200 OK\r\nContent-Length: 2\r\nCache-Control: no-store\r\n\r\n|hi, find a hi -> OriginNotCacheOriginNotCache OriginNotCache; no; 0 in 0, 0 tracked
+    limit 4: put a: HTTP/1.1 200 OK\r\nContent-Length: 2\r\nCache-Control: no-store\r\n\r\n|hi, find a -> OriginNotCacheOriginNotCache OriginNotCache, -, 0 in 0, 0 of 0 tracked, 0 of 0 went
     # one that ends before its body does
-    put a: HTTP/1.1 200 OK\r\nContent-Length: 4\r\n\r\n|ru, find a ru -> ++ IncompleteHttpBody; no; 0 in 0, 0 tracked
+    limit 4: put a: HTTP/1.1 200 OK\r\nContent-Length: 4\r\n\r\n|ru, find a -> ++ IncompleteHttpBody, -, 0 in 0, 0 of 0 tracked, 0 of 0 went
     # what is no response
-    put a: no response\r\n\r\n, find a hi -> InvalidHttpHeader InvalidHttpHeader; no; 0 in 0, 0 tracked
+    limit 4: put a: no response\r\n\r\n, find a -> InvalidHttpHeader InvalidHttpHeader, -, 0 in 0, 0 of 0 tracked, 0 of 0 went
     # a body that is longer than the put may have
-    put-at-most 3 a: HTTP/1.1 200 OK\r\n\r\nrus|t, find a rust -> +ResponseTooLarge ResponseTooLarge; no; 0 in 0, 0 tracked
+    limit 4: put-at-most 3 a: HTTP/1.1 200 OK\r\n\r\nrus|t, find a -> +ResponseTooLarge ResponseTooLarge, -, 0 in 0, 0 of 0 tracked, 0 of 0 went
     # a head that is longer than the put may have, as it would be stored, and one that is just as long
-    put-head-at-most 34 a: HTTP/1.1 200 OK\r\nContent-Length: 2\r\n\r\nh|i, find a hi -> ResponseTooLargeResponseTooLarge ResponseTooLarge; no; 0 in 0, 0 tracked
-    put-head-at-most 35 a: HTTP/1.1 200 OK\r\nContent-Length: 2\r\n\r\nh|i, find a hi -> ++ stored 2; yes; 2 in 1, 1 tracked
+    limit 4: put-head-at-most 34 a: HTTP/1.1 200 OK\r\nContent-Length: 2\r\n\r\nh|i, find a -> ResponseTooLargeResponseTooLarge ResponseTooLarge, -, 0 in 0, 0 of 0 tracked, 0 of 0 went
+    limit 4: put-head-at-most 35 a: HTTP/1.1 200 OK\r\nContent-Length: 2\r\n\r\nh|i, find a -> ++ stored 2, hi, 2 in 1, 2 of 1 tracked, 0 of 0 went
     # what is not stored has the reason that the policy gives
-    put-head-at-most 1 a: HTTP/1.1 200 OK\r\nCache-Control: no-store\r\n\r\nhi -> OriginNotCache OriginNotCache; 0 in 0, 0 tracked
+    limit 4: put-head-at-most 1 a: HTTP/1.1 200 OK\r\nCache-Control: no-store\r\n\r\nhi -> OriginNotCache OriginNotCache, 0 in 0, 0 of 0 tracked, 0 of 0 went
     # a key that is purged between two pieces
-    put a: HTTP/1.1 200 OK\r\nContent-Length: 4\r\n\r\n|ru|purge a|st, find a rust -> ++yes+ WriteRemoved; no; 0 in 0, 0 tracked
+    limit 4: put a: HTTP/1.1 200 OK\r\nContent-Length: 4\r\n\r\n|ru|purge a|st, find a -> ++++ WriteRemoved, -, 0 in 0, 0 of 0 tracked, 0 of 0 went
     # one that fills anew what stands
-    put a: HTTP/1.1 200 OK\r\n\r\nhi, put a: HTTP/1.1 200 OK\r\n\r\nno, find a no -> + stored 2; + stored 2; yes; 2 in 1, 1 tracked
+    limit 4: put a: HTTP/1.1 200 OK\r\n\r\nhi, put a: HTTP/1.1 200 OK\r\n\r\nno, find a -> + stored 2, + stored 2, no, 2 in 1, 2 of 1 tracked, 0 of 0 went
     # no more than four bytes
-    put a: HTTP/1.1 200 OK\r\n\r\nhi, put b: HTTP/1.1 200 OK\r\n\r\nrust, find a hi, find b rust -> + stored 2; + stored 4; no; yes; 4 in 1, 1 tracked
-    put a: HTTP/1.1 200 OK\r\n\r\nrust and more, find a hi -> + stored 13; no; 0 in 0, 0 tracked
+    limit 4: put a: HTTP/1.1 200 OK\r\n\r\nhi, put b: HTTP/1.1 200 OK\r\n\r\nrust, find a, find b -> + stored 2, + stored 4, -, rust, 4 in 1, 4 of 1 tracked, 2 of 1 went
+    limit 4: put a: HTTP/1.1 200 OK\r\n\r\nrust and more, find a -> + stored 13, -, 0 in 0, 0 of 0 tracked, 13 of 1 went
     # what was put is purged
-    put a: HTTP/1.1 200 OK\r\n\r\nhi, purge a, find a hi -> + stored 2; yes; no; 0 in 0, 0 tracked";
+    limit 4: put a: HTTP/1.1 200 OK\r\n\r\nhi, purge a, find a -> + stored 2, +, -, 0 in 0, 0 of 0 tracked, 0 of 0 went";
 
 #[test]
 fn a_put_is_stored_within_the_limit(rt: HostRuntime) {
-    run(&rt, rt.alloc(), PUTS);
+    run_two(&rt, rt.alloc(), PUTS);
 }
 
 // A put whose pieces came to another cache may not end here, though both caches have one mark.
-#[test]
-fn a_put_ends_where_it_was_fed(rt: HostRuntime) -> Result<()> {
-    let mut fed = list_of(rt.alloc(), 9)?;
-    let other = list_of(rt.alloc(), 9)?;
-    let mut put = put_of(rt.alloc(), "a", ANY)?;
+fn ends_where_it_was_fed(fed: &mut List, other: &List, put: Put) -> bool {
+    let mut put = put;
     let is_fed = fed
-        .cache_put(&mut put, b"HTTP/1.1 200 OK\r\n\r\nhi", Moment::EPOCH)
+        .cache_put(&mut put, b"HTTP/1.1 200 OK\r\n\r\nhi", NOW)
         .is_ok();
     let (here, there) = (fed.may_end_put(&put), other.may_end_put(&put));
     fed.end_put(put);
-    assert!(rt; is_fed && here && !there && fed.slots() == 0);
-    Ok(())
+    is_fed && here && !there && fed.slots() == 0
+}
+
+fn is_fed_once(alloc: Global) -> Result<bool> {
+    let mut fed = list_of(alloc, 9)?;
+    let other = list_of(alloc, 9)?;
+    Ok(ends_where_it_was_fed(&mut fed, &other, put_of(alloc, "a", ANY)))
+}
+
+#[test]
+fn a_put_ends_where_it_was_fed(rt: HostRuntime) {
+    assert!(rt; matches!(is_fed_once(rt.alloc()), Ok(true)));
 }

@@ -19,10 +19,15 @@ fn append(alloc: Global, headers: &mut HeaderMap, field: &'static str) -> bool {
         return true;
     }
     let (name, value) = field.split_once(':').unwrap_or((field, ""));
+    append_as(alloc, headers, name, value.trim().as_bytes())
+}
+
+/// Appends a field of this name, and returns whether it was taken.
+pub fn append_as(alloc: Global, headers: &mut HeaderMap, name: &str, value: &[u8]) -> bool {
     let Ok(name) = HeaderName::from_bytes(alloc, name.as_bytes()) else {
         return false;
     };
-    append_to(alloc, headers, name, value.trim().as_bytes())
+    append_to(alloc, headers, name, value)
 }
 
 fn append_to(alloc: Global, headers: &mut HeaderMap, name: HeaderName, value: &[u8]) -> bool {

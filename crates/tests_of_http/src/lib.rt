@@ -1,5 +1,5 @@
 #![tactic(auto)]
-//! Tests of HTTP's rules of caching, as rows of text. Expected results are worked out by hand from the sentences of RFC
+//! Tests of HTTP's rules of caching and of validation, as rows of text. Expected results are worked out by hand from the sentences of RFC
 //! 9111, RFC 9110 and RFC 5861, and each row has the section that it is of.
 
 #[cfg(test)]
@@ -18,5 +18,7 @@ mod serving;
 mod stored_fields;
 #[cfg(test)]
 mod storing;
+#[cfg(test)]
+mod validation;
 #[cfg(test)]
 mod vary;

@@ -1,29 +1,16 @@
 //! Heads that rows spell: fields stand between ` & `, each a name, a colon with a space, and a value.
+use crate::heads::append_as;
 use http::{Method, StatusCode};
-use http_header::{HeaderMap, HeaderName, HeaderValue};
+use http_header::HeaderMap;
 use pcache_base::moment::Moment;
 use pcache_meta::header::{RequestHeader, ResponseHeader};
 use pcache_meta::meta::CacheMeta;
 use std::alloc::Global;
 
-fn append(alloc: Global, headers: &mut HeaderMap, name: &str, value: &[u8]) -> bool {
-    let Ok(name) = HeaderName::from_bytes(alloc, name.as_bytes()) else {
-        return false;
-    };
-    append_to(alloc, headers, name, value)
-}
-
-fn append_to(alloc: Global, headers: &mut HeaderMap, name: HeaderName, value: &[u8]) -> bool {
-    match HeaderValue::from_bytes(alloc, value) {
-        Ok(value) => headers.append(name, value).is_ok(),
-        Err(_refused) => false,
-    }
-}
-
 fn append_all(alloc: Global, headers: &mut HeaderMap, text: &'static str) -> bool {
     for field in text.split(" & ") {
         let (name, value) = field.split_once(": ").unwrap_or((field, ""));
-        if !name.is_empty() && !append(alloc, headers, name, value.as_bytes()) {
+        if !name.is_empty() && !append_as(alloc, headers, name, value.as_bytes()) {
             return false;
         }
     }

@@ -1,5 +1,9 @@
-//! Rows of validation and invalidation.
-use crate::heads::{fields, request, response, status, stored};
+//! Rows of validation and invalidation: a case a line, with its section above. Expected values are those of RFC 9110 and RFC 9111:
+//! their own examples, and cases written from their sentences.
+mod heads;
+
+use crate::desk::{Desk, Told, number, play, word};
+use crate::validation::heads::{fields, request, response, status, stored};
 use http::Method;
 use http_header::{HeaderMap, HeaderName, HeaderValue};
 use pcache_base::moment::Moment;
@@ -13,7 +17,6 @@ use pcache_validation::not_modified::is_sent;
 use pcache_validation::unsafe_methods::{Invalidated, invalidates, taken_away};
 use pcache_validation::updating::{StoredBody, updated};
 use std::alloc::Global;
-use test_rows::{Desk, Told, first_wrong, number, word};
 use url::Url;
 
 #[derive(Drop)]
@@ -400,9 +403,5 @@ const ROWS: &str = r#"
 #[test]
 fn sections_of_the_rfcs(rt: HostRuntime) {
     let mut desk = Decisions { alloc: rt.alloc() };
-    let mut told = Told::new(rt.alloc());
-    if let Some(row) = first_wrong(&mut desk, &mut told, ROWS) {
-        let said = told.as_str();
-        assert!(rt; false, "{row}, and not {said}");
-    }
+    play(&rt, rt.alloc(), &mut desk, ROWS);
 }
