@@ -215,6 +215,15 @@ static void print_totals(void) {
            totals.bodies, totals.weight, totals.entries, totals.evicted_weight, totals.evicted_entries);
 }
 
+/* What the calls were, of those that were done. */
+static void print_counted(void) {
+    pcache_counted counted;
+    check("counted", pcache_cache_counted(&cache, &counted), PCACHE_OK);
+    printf("%llu hits, %llu stale, %llu misses, %llu waits, %llu fills\n", (unsigned long long)counted.hits,
+           (unsigned long long)counted.stale_hits, (unsigned long long)counted.misses, (unsigned long long)counted.waits,
+           (unsigned long long)counted.fills);
+}
+
 /* Two variants of one key, told apart by a hash of what a request says in the fields of Vary. */
 static void variants(void) {
     uint8_t english[16], german[16];
@@ -376,6 +385,7 @@ static void refused(void) {
     uint32_t more;
     uint8_t buffer[1];
     pcache_cache_counts totals;
+    pcache_counted counted;
     pcache_handle none = {0, 0};
     check("finish first", pcache_request_finish(&cache, request, &stored, &evicted), PCACHE_WRONG_CALL);
     check("read first", pcache_request_read(&cache, request, buffer, 1, &len, &more), PCACHE_WRONG_CALL);
@@ -386,6 +396,7 @@ static void refused(void) {
     check("end again", pcache_request_end(&cache, request), PCACHE_BAD_HANDLE);
     check("miss after the end", pcache_request_miss(&cache, request), PCACHE_BAD_HANDLE);
     check("no cache", pcache_cache_totals(&none, &totals), PCACHE_BAD_HANDLE);
+    check("no cache", pcache_cache_counted(&none, &counted), PCACHE_BAD_HANDLE);
     printf("refused what may not be called\n");
 }
 
@@ -414,6 +425,7 @@ int main(void) {
     published();
     too_large();
     refused();
+    print_counted();
     /* A request that is open goes with its cache. */
     look(request_for("dd"));
     check("end", pcache_end(&cache), PCACHE_OK);

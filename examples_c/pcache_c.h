@@ -314,6 +314,15 @@ typedef struct pcache_cache_counts {
     size_t evicted_entries;
 } pcache_cache_counts;
 
+/* What a cache counted since it was made: only calls that returned PCACHE_OK count. Each count stops at its largest number. */
+typedef struct pcache_counted {
+    uint64_t hits;       /* pcache_request_take as fresh */
+    uint64_t stale_hits; /* pcache_request_take as expired */
+    uint64_t misses;     /* pcache_request_miss; a request that took a stale body before is in both counts */
+    uint64_t waits;      /* pcache_request_wait that said how the wait ended */
+    uint64_t fills;      /* pcache_request_finish that stored a body */
+} pcache_counted;
+
 /* Where a request stands. */
 enum {
     PCACHE_DISABLED = 0,
@@ -376,6 +385,7 @@ uint32_t pcache_cache_new(pcache_handle *cache, const uint8_t *seed, size_t seed
 uint32_t pcache_cache_new_bounded(pcache_handle *cache, const uint8_t *seed, size_t seed_len,
                                   size_t limit, size_t watermark, uint64_t age_timeout_millis);
 uint32_t pcache_cache_totals(pcache_handle *cache, pcache_cache_counts *out);
+uint32_t pcache_cache_counted(pcache_handle *cache, pcache_counted *out);
 /* The tag is UTF-8. */
 uint32_t pcache_request_new(pcache_handle *cache, const uint8_t *key, size_t key_len,
                             const uint8_t *tag, size_t tag_len, uint64_t *request);

@@ -1,6 +1,6 @@
 //! A cache from Rust: a fill, a hit, a wait with a body that is read while it comes, a purge and an eviction. It prints what
 //! examples_c/cache.c prints.
-use pcache::{Cache, Counts, Error, Fill, Hash, Head, Held, HitStatus, Looked, Meta, Moment, Options, Read, Reason, Request, Said, Stored, View, WaitEnd};
+use pcache::{Cache, CacheCounted, Counts, Error, Fill, Hash, Head, Held, HitStatus, Looked, Meta, Moment, Options, Read, Reason, Request, Said, Stored, View, WaitEnd};
 use std::time::Duration;
 
 const NOW: Moment = Moment { secs: 1, nanos: 0 };
@@ -178,6 +178,13 @@ fn without_a_copy(cache: &Cache) -> Result<(), Error> {
     Ok(())
 }
 
+/// What the calls were, of those that were done.
+fn print_counted(cache: &Cache) -> Result<(), Error> {
+    let CacheCounted { hits, stale_hits, misses, waits, fills } = cache.counted()?;
+    println!("{hits} hits, {stale_hits} stale, {misses} misses, {waits} waits, {fills} fills");
+    Ok(())
+}
+
 /// Two variants of one key, told apart by a hash of what a request says in the fields of Vary.
 fn variants(cache: &Cache) -> Result<(), Error> {
     let (english, german) = (pcache::hash_key(b"en"), pcache::hash_key(b"de"));
@@ -338,6 +345,7 @@ fn main() -> Result<(), Error> {
     published(&cache)?;
     too_large(&cache)?;
     refused(&cache)?;
+    print_counted(&cache)?;
     assert_eq!(cache.request(b"dd", "1")?.look(NOW)?, Looked::Permit);
     Ok(())
 }

@@ -66,6 +66,21 @@ pub struct CacheTotals {
     pub evicted_entries: usize,
 }
 
+/// What a cache counted since it was made: the sums over its parts. Only calls that succeeded count.
+#[derive(Clone, Copy, Debug, Default, PartialEq, Eq)]
+pub struct CacheCounted {
+    /// What was found and taken as fresh ([`Request::take`]).
+    pub hits: u64,
+    /// What was found and taken as expired.
+    pub stale_hits: u64,
+    /// Requests that went on as a miss, to fill their key ([`Request::fill`]). One that took a stale body before is in both counts.
+    pub misses: u64,
+    /// Waits for a lock that ended, in whichever way.
+    pub waits: u64,
+    /// Bodies that were stored.
+    pub fills: u64,
+}
+
 /// What a lock holds.
 pub(crate) struct Guarded {
     handle: Handle,
@@ -192,6 +207,25 @@ impl Cache {
             all.entries = all.entries.saturating_add(out.entries);
             all.evicted_weight = all.evicted_weight.saturating_add(out.evicted_weight);
             all.evicted_entries = all.evicted_entries.saturating_add(out.evicted_entries);
+        }
+        Ok(all)
+    }
+
+    /// What it counted since it was made. The parts are asked one after the other, as for [`Cache::totals`].
+    ///
+    /// # Errors
+    /// None of this crate's making.
+    pub fn counted(&self) -> Result<CacheCounted, Error> {
+        let mut all = CacheCounted::default();
+        for part in self.0.iter() {
+            let mut out = raw::PcacheCounted::default();
+            // SAFETY: a struct of the library's layout.
+            done(unsafe { raw::pcache_cache_counted(part.lock().raw(), &mut out) })?;
+            all.hits = all.hits.saturating_add(out.hits);
+            all.stale_hits = all.stale_hits.saturating_add(out.stale_hits);
+            all.misses = all.misses.saturating_add(out.misses);
+            all.waits = all.waits.saturating_add(out.waits);
+            all.fills = all.fills.saturating_add(out.fills);
         }
         Ok(all)
     }

@@ -80,6 +80,16 @@ pub struct PcacheCacheCounts {
 
 #[repr(C)]
 #[derive(Clone, Copy, Debug, Default)]
+pub struct PcacheCounted {
+    pub hits: u64,
+    pub stale_hits: u64,
+    pub misses: u64,
+    pub waits: u64,
+    pub fills: u64,
+}
+
+#[repr(C)]
+#[derive(Clone, Copy, Debug, Default)]
 pub struct PcacheTerms {
     pub at: PcacheMoment,
     pub requested: PcacheMoment,
@@ -139,6 +149,7 @@ extern "C" {
         target: *const u8,
         target_len: usize,
     ) -> u32;
+    pub fn pcache_cache_counted(cache: *mut PcacheHandle, out: *mut PcacheCounted) -> u32;
     pub fn pcache_cache_new(
         cache: *mut PcacheHandle,
         seed: *const u8,

@@ -1,7 +1,7 @@
 //! The crate under threads: what a test asserts is what every interleaving has to give.
 
-use pcache::{Cache, Error, Head, Held, HitStatus, Looked, Meta, Moment, Options, Read, Reason, Request, Said, View, WaitEnd};
-use std::sync::atomic::{AtomicUsize, Ordering};
+use pcache::{Cache, CacheCounted, Error, Head, Held, HitStatus, Looked, Meta, Moment, Options, Read, Reason, Request, Said, View, WaitEnd};
+use std::sync::atomic::{AtomicU64, AtomicUsize, Ordering};
 use std::sync::Mutex;
 use std::thread;
 use std::time::{Duration, Instant};
@@ -86,10 +86,11 @@ fn eight_threads_make_a_million_calls() -> Result<(), Error> {
     let limit = KEYS * BODY * 3 / 4;
     let cache = Cache::new(&Options { limit, parts: 4, ..Options::default() })?;
     let left: Mutex<Vec<(Request, Option<View>)>> = Mutex::new(Vec::new());
-    let (hits, fills) = (AtomicUsize::new(0), AtomicUsize::new(0));
+    // Hits, misses, waits that ended, and fills.
+    let counts: [AtomicU64; 4] = Default::default();
     thread::scope(|scope| {
         for seed in 0..8u64 {
-            let (cache, left, hits, fills) = (&cache, &left, &hits, &fills);
+            let (cache, left, [hits, misses, waits, fills]) = (&cache, &left, &counts);
             scope.spawn(move || {
                 let mut random = seed;
                 // A round makes at least five calls: a request, its look, its end, and two in between.
@@ -113,15 +114,19 @@ fn eight_threads_make_a_million_calls() -> Result<(), Error> {
                         Looked::Permit => {
                             let body: Vec<u8> = (0..BODY).map(|place| byte_at(key, place)).collect();
                             let mut fill = request.fill(&mut meta().unwrap(), None).unwrap();
+                            misses.fetch_add(1, Ordering::Relaxed);
                             fill.write(&body[..1000]).unwrap();
                             match fill.finish(&body[1000..]) {
-                                Ok(stored) => assert!(stored.weight >= BODY + 512),
+                                Ok(stored) => {
+                                    assert!(stored.weight >= BODY + 512);
+                                    fills.fetch_add(1, Ordering::Relaxed);
+                                }
                                 Err(error) => assert_eq!(error, Error::Removed),
                             }
-                            fills.fetch_add(1, Ordering::Relaxed);
                         }
                         Looked::Waits => {
-                            request.wait(NOW).unwrap();
+                            let ended = request.wait(NOW).unwrap().is_some();
+                            waits.fetch_add(u64::from(ended), Ordering::Relaxed);
                         }
                         Looked::Nothing => panic!("a look-up that found nothing asked for no lock"),
                     }
@@ -135,7 +140,9 @@ fn eight_threads_make_a_million_calls() -> Result<(), Error> {
             });
         }
     });
-    assert!(hits.into_inner() > 0 && fills.into_inner() > 0);
+    let [hits, misses, waits, fills] = counts.map(AtomicU64::into_inner);
+    assert!(hits > 0 && fills > 0);
+    assert_eq!(cache.counted()?, CacheCounted { hits, stale_hits: 0, misses, waits, fills });
     assert!(cache.totals()?.stored_bytes <= limit as u64);
     Ok(())
 }
@@ -171,6 +178,8 @@ fn one_of_many_fills_and_the_others_are_woken() -> Result<(), Error> {
         }
     });
     assert_eq!(fetches.into_inner(), 1);
+    let counted = cache.counted()?;
+    assert_eq!((counted.hits, counted.stale_hits, counted.misses, counted.fills), (49, 0, 1, 1));
     Ok(())
 }
 

@@ -9,11 +9,14 @@ use Rattle.pcache_evict.specs.Tracked.{weight}
 use Rattle.pcache_meta.specs.Meta.{Meta}
 use Rattle.pcache_store.specs.Totals.{slots, stored_bytes}
 use Rattle.pcache_c.specs.Codes.{no_memory, nothing}
+use Rattle.pcache_c.specs.Counts.{nothing_counted}
 use Rattle.pcache_c.specs.Handles.{Fills, IsSame}
+use Rattle.pcache_c.specs.Objects.{as_cache}
 use Rattle.pcache_c.specs.Opening.{new_cache}
 use Rattle.pcache_c.specs.Seats.{request_at, round_at}
 use Rattle.pcache_c.specs.declared.caches.PcacheCacheCounts.{PcacheCacheCounts}
 use Rattle.pcache_c.specs.declared.handle.PcacheHandle.{PcacheHandle}
+use Rattle.pcache_c.specs.declared.object.Object.{Object}
 use Rattle.pcache_c.specs.declared.object.Object.TheVariants as object
 use Rattle.pcache_c.specs.declared.served.Served.{Served}
 
@@ -21,16 +24,22 @@ use Rattle.pcache_c.specs.declared.served.Served.{Served}
 abbrev pub key_with : List ℕ → List ℕ → Key
 key_with primary tag = record { primary = primary; primary_override = None; variance = None; user_tag = tag; unusable = None }
 
--- a cache in which nothing is stored, and of which no request is open. Every place for a request is in round 0
+-- a cache in which nothing is stored, of which no request is open, and that has counted nothing. Every place for a request is in
+-- round 0
 pub record IsNewCache (how : Weighing) (limit : ℕ) (watermark : Option ℕ) (age : ℕ) (s : Served) : Type 0 where
   pub parts : s.cache ≡ new_cache how (empty_list limit watermark) age
+  pub counts : s.counts ≡ nothing_counted
   pub none : (number : ℕ) → request_at s.seats number ≡ None
   pub rounds : (place : ℕ) → round_at s.seats place ≡ 0
+
+-- a handle gets this cache, or has an object already, or there was no memory for a box
+abbrev pub GetsCache : Served → PcacheHandle → PcacheHandle → ℕ → Type 0
+GetsCache s old new code = ((code ≡ no_memory) × IsSame old new) ⊎ ((made : Object) × (as_cache made ≡ Some s) × Fills made old new code)
 
 -- a handle gets a new cache whose entries weigh so, or there was no memory for its manager
 abbrev pub MakesCache : Weighing → ℕ → Option ℕ → ℕ → PcacheHandle → PcacheHandle → ℕ → Type 0
 MakesCache how limit watermark age old new code = ((code ≡ no_memory) × IsSame old new)
-    ⊎ ((s : Served) × IsNewCache how limit watermark age s × Fills (object.Cache s) old new code)
+    ⊎ ((s : Served) × IsNewCache how limit watermark age s × GetsCache s old new code)
 
 pub record SaysCounts (c : Parts) (out : PcacheCacheCounts) : Type 0 where
   pub stored : out.stored_bytes ≡ min (stored_bytes c.store) (2 ^ 64 - 1)

@@ -4,11 +4,12 @@ use Rattle.pcache_cache.specs.Parts.{Parts}
 use Rattle.pcache_lock.specs.Permits.{Permit}
 use Rattle.pcache_request.specs.LockUse.{handed, permit_in, table_handed, unheld}
 use Rattle.pcache_request.specs.Phases.{IsOn}
-use Rattle.pcache_c.specs.Codes.{Outcome, bad_handle, wrong_kind}
+use Rattle.pcache_c.specs.Codes.{Outcome, bad_handle}
+use Rattle.pcache_c.specs.Handles.{Turns}
+use Rattle.pcache_c.specs.Objects.{as_cache}
 use Rattle.pcache_c.specs.Requests.{KeepsButLocks, KeepsFound}
 use Rattle.pcache_c.specs.Seats.{AreSet, IsSet, request_at}
 use Rattle.pcache_c.specs.declared.object.Object.{Object}
-use Rattle.pcache_c.specs.declared.object.Object.TheVariants as object
 use Rattle.pcache_c.specs.declared.seats.Seats.{Seats}
 use Rattle.pcache_c.specs.declared.served.Open.{Open}
 use Rattle.pcache_c.specs.declared.served.Served.{Served}
@@ -41,6 +42,7 @@ pub record Hands (from to : ℕ) (o q : Open) (s t : Served) : Type 0 where
   pub gives : Gives permit o giver
   pub gets : Gets permit s.cache t.cache q taker
   pub seats : AreSet from giver to taker s.seats t.seats
+  pub counts : t.counts ≡ s.counts
 
 -- a number that no open request has is refused, and a call that may not be made; then nothing changed
 abbrev pub HandsOn : Option Open → Option Open → ℕ → ℕ → Served → Served → ℕ → Type 0
@@ -49,8 +51,7 @@ HandsOn (Some o) None from to s t code = (code ≡ bad_handle) × (t ≡ s)
 HandsOn (Some o) (Some q) from to s t code = Outcome (MayHand from to o q) (Hands from to o q s t) ⊥ (λ e. ⊥) (t ≡ s) code
 
 abbrev pub HandsPermit : ℕ → ℕ → Object → Object → ℕ → Type 0
-HandsPermit from to (object.Cache s) new code = (t : Served) × (new ≡ object.Cache t) × HandsOn (request_at s.seats from) (request_at s.seats to) from to s t code
-HandsPermit from to old new code = (code ≡ wrong_kind) × (new ≡ old)
+HandsPermit from to old new code = Turns as_cache old new code (λ s t. HandsOn (request_at s.seats from) (request_at s.seats to) from to s t code)
 
 -- the two halves of it
 
@@ -74,4 +75,5 @@ pub record TakesPermit (to : ℕ) (permit : Permit) (s t : Served) : Type 0 wher
   pub after : Open
   pub was : request_at s.seats to ≡ Some before
   pub set : IsSet to after s.seats t.seats
+  pub counts : t.counts ≡ s.counts
   pub gets : Gets permit s.cache t.cache before after

@@ -1,5 +1,6 @@
 pub mod Caches
 pub mod Codes
+pub mod Counts
 pub mod Decisions
 pub mod Fields
 pub mod Fills

@@ -30,5 +30,5 @@ as_meta (object.Meta m) = Some m
 as_meta _ = None
 
 abbrev pub as_cache : Object → Option Served
-as_cache (object.Cache s) = Some s
+as_cache (object.Cache b) = Some b.value
 as_cache _ = None

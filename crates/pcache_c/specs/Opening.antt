@@ -7,11 +7,12 @@ use Rattle.pcache_cache.specs.declared.weighing.Weighing.{Weighing}
 use Rattle.pcache_evict.specs.Listed.{Listed, map_of}
 use Rattle.pcache_lock.specs.Locks.{no_locks}
 use Rattle.pcache_request.specs.Requests.{dropped_by, enabled_with, left_by, let_go_by, new_request, with_key}
-use Rattle.pcache_c.specs.Codes.{bad_handle, no_memory, ok, wrong_kind}
+use Rattle.pcache_c.specs.Codes.{bad_handle, no_memory, ok}
+use Rattle.pcache_c.specs.Handles.{Turns}
+use Rattle.pcache_c.specs.Objects.{as_cache}
 use Rattle.pcache_c.specs.Requests.{KeepsManager, left_found, pair_found}
 use Rattle.pcache_c.specs.Seats.{AreSame, IsGone, IsInRound, IsSet, request_at}
 use Rattle.pcache_c.specs.declared.object.Object.{Object}
-use Rattle.pcache_c.specs.declared.object.Object.TheVariants as object
 use Rattle.pcache_c.specs.declared.served.Open.{Open}
 use Rattle.pcache_c.specs.declared.served.Served.{Served}
 
@@ -39,12 +40,12 @@ pub record IsNew (key : Key) (o : Open) : Type 0 where
 -- there was no memory for it
 pub record OpensRequest (key : Key) (s t : Served) (number code : ℕ) : Type 0 where
   pub cache : t.cache ≡ s.cache
+  pub counts : t.counts ≡ s.counts
   pub how : ((code ≡ ok) × (request_at s.seats number ≡ None) × IsInRound number s.seats × (o : Open) × IsNew key o × IsSet number o s.seats t.seats)
       ⊎ ((code ≡ no_memory) × AreSame s.seats t.seats)
 
 abbrev pub Opens : Key → Object → Object → ℕ → ℕ → Type 0
-Opens key (object.Cache s) new number code = (t : Served) × (new ≡ object.Cache t) × OpensRequest key s t number code
-Opens key old new number code = (code ≡ wrong_kind) × (new ≡ old)
+Opens key old new number code = Turns as_cache old new code (λ s t. OpensRequest key s t number code)
 
 -- a request gives back what it holds: what a look-up found, its write, its reader and its lock
 pub record EndsRequest (c d : Parts) (o : Open) : Type 0 where
@@ -60,8 +61,8 @@ EndsOpen (Some o) c d code = (code ≡ ok) × EndsRequest c d o
 -- the request of a number is ended, and its place is one round further
 pub record EndsNumber (number : ℕ) (s t : Served) (code : ℕ) : Type 0 where
   pub cache : EndsOpen (request_at s.seats number) s.cache t.cache code
+  pub counts : t.counts ≡ s.counts
   pub gone : IsGone number s.seats t.seats
 
 abbrev pub Ends : ℕ → Object → Object → ℕ → Type 0
-Ends number (object.Cache s) new code = (t : Served) × (new ≡ object.Cache t) × EndsNumber number s t code
-Ends number old new code = (code ≡ wrong_kind) × (new ≡ old)
+Ends number old new code = Turns as_cache old new code (λ s t. EndsNumber number s t code)

@@ -3,7 +3,7 @@
 ghost use Rattle.std.specs.Prelude.{◌≡◌, ◌≢◌, ◌⊎◌, ◌*◌, IfErr, IfOk, IsUtf8, OnOk, Option};
 ghost use Rattle.pcache_base.specs.declared.reason.NoCacheReason.{NoCacheReason};
 ghost use Rattle.pcache_cache.specs.declared.weighing.Weighing.TheVariants.{Bodies, Entries};
-ghost use Rattle.pcache_c.specs.Caches.{CopiesMeta, MakesCache, SaysCounts, key_with};
+ghost use Rattle.pcache_c.specs.Caches.{CopiesMeta, GetsCache, MakesCache, SaysCounts, key_with};
 ghost use Rattle.pcache_c.specs.Codes.{OnGood, OnText, bad_value, hash_at, no_memory, watermark_at};
 ghost use Rattle.pcache_c.specs.Handles.{AsksOf, IsSame, OnHandle, OnKind};
 ghost use Rattle.pcache_c.specs.Objects.{as_cache, as_head, as_meta};
@@ -119,9 +119,19 @@ fn cache_weighing(
     match simple_lru::Manager::new_with_watermark(alloc, seed, limit, watermark_of(watermark)) {
         Ok(manager) => {
             let served = Served::new(alloc, seed, manager, age_timeout, weighing);
-            cache.fill(alloc, Object::Cache(served))
+            keep(alloc, cache, served)
         }
         Err(e) => code_of(e),
+    }
+}
+
+// Puts a cache into a handle that has none.
+fn keep(alloc: Global, handle: &mut PcacheHandle, served: Served) -> u32
+    ensures { GetsCache served handle.old handle.new result }
+{
+    match Box::new(alloc, served) {
+        Ok(served) => handle.fill(alloc, Object::Cache(served)),
+        Err(_) => NO_MEMORY,
     }
 }
 

@@ -3,10 +3,11 @@ ghost use Rattle.std.specs.Prelude.{◌≡◌, ◌≢◌, ◌*◌, Option};
 ghost use Rattle.pcache_base.specs.declared.reason.NoCacheReason.{NoCacheReason};
 ghost use Rattle.pcache_request.specs.declared.phase.HitStatus.{HitStatus};
 ghost use Rattle.pcache_c.specs.Codes.{OnGood, hash_at, is_flag, moment_at, nonempty, variance_at};
+ghost use Rattle.pcache_c.specs.Counts.{filled, missed, taken_as, waited, when_done};
 ghost use Rattle.pcache_c.specs.Handles.{IsSame, OnEmpty, OnHandle, object_of};
 ghost use Rattle.pcache_c.specs.Handing.{HandsPermit};
 ghost use Rattle.pcache_c.specs.Numbers.{IsNumber, reason_number, status_number};
-ghost use Rattle.pcache_c.specs.Reached.{OnRequest};
+ghost use Rattle.pcache_c.specs.Reached.{CountsOnRequest, OnRequest};
 ghost use Rattle.pcache_c.specs.Requests.{Adds, Begins, EndsHit, Expires, Finishes, LimitsWaits, Looks, LooksForVariant, Misses, Passes, Purges, Reads, Releases, SaysLength, SaysWaited, Seeks, ServesUpdating, Takes, TurnsOff, Varies, Views, Waits};
 
 use crate::codes::{BAD_HANDLE, BAD_VALUE};
@@ -55,8 +56,9 @@ pub extern "C" fn pcache_request_take(
     ensures { OnGood (moment_at now_secs now_nanos) result (IsSame cache.old cache.new)
         (λ now. (s : Option HitStatus)
         × IsNumber status_number 7 status s
-        × OnGood s result (IsSame cache.old cache.new) (λ worth. OnRequest request cache.old
-        cache.new result (λ c d o p. Takes worth now c d o p result))) }
+        × OnGood s result (IsSame cache.old cache.new) (λ worth. CountsOnRequest request cache.old
+        cache.new result (when_done result (taken_as worth)) (λ c d o p.
+        Takes worth now c d o p result))) }
 {
     let Some(now) = moment_of(now_secs, now_nanos) else {
         return BAD_VALUE;
@@ -114,8 +116,8 @@ pub extern "C" fn pcache_request_look_for(
 /// Goes on as a miss.
 #[unsafe(no_mangle)]
 pub extern "C" fn pcache_request_miss(alloc: Global, cache: &mut PcacheHandle, request: u64) -> u32
-    ensures { OnRequest request cache.old cache.new result (λ c d o p.
-        (d ≡ c) × Misses o p result) }
+    ensures { CountsOnRequest request cache.old cache.new result (when_done result missed)
+        (λ c d o p. (d ≡ c) × Misses o p result) }
 {
     let Some(mut object) = cache.take(alloc) else {
         return BAD_HANDLE;
@@ -209,8 +211,8 @@ pub extern "C" fn pcache_request_finish(
     stored: &mut usize,
     evicted: &mut usize,
 ) -> u32
-    ensures { OnRequest request cache.old cache.new result (λ c d o p.
-        Finishes stored.new evicted.new c d o p result) }
+    ensures { CountsOnRequest request cache.old cache.new result (when_done result filled)
+        (λ c d o p. Finishes stored.new evicted.new c d o p result) }
 {
     let Some(mut object) = cache.take(alloc) else {
         return BAD_HANDLE;
@@ -348,7 +350,8 @@ pub extern "C" fn pcache_request_wait(
     outcome: &mut u32,
 ) -> u32
     ensures { OnGood (moment_at now_secs now_nanos) result (IsSame cache.old cache.new)
-        (λ now. OnRequest request cache.old cache.new result (λ c d o p.
+        (λ now. CountsOnRequest request cache.old cache.new result
+        (when_done result (waited outcome.new)) (λ c d o p.
         Waits now outcome.new c d o p result)) }
 {
     let Some(now) = moment_of(now_secs, now_nanos) else {

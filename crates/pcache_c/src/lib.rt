@@ -17,6 +17,7 @@
 //! - `entries`: the keys of entries of eviction managers
 //! - `managers`: the eviction managers
 //! - `caches`: a cache, and its requests opened and ended; `calls`: what its requests do
+//! - `counts`: how often the calls on a cache were hits, misses, waits and fills
 //! - `seats`: the numbers of open requests; `served`: a cache with its requests as one object
 //! - `reached`: the way from a number to its request; `requests`: the calls themselves
 //! - `handed`: a permit that goes from one request to another
@@ -26,6 +27,7 @@ mod asked;
 mod caches;
 mod calls;
 mod codes;
+mod counts;
 mod decided;
 mod decisions;
 mod entries;

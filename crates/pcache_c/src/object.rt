@@ -26,8 +26,9 @@ pub enum Object {
     Simple(Managed<simple_lru::Manager>),
     /// An eviction manager in 16 shards.
     Sharded(Managed<sharded_lru::Manager<16>>),
-    /// A cache with its open requests.
-    Cache(Served),
+    /// A cache with its open requests. It is some thousands of bytes long, so it has a box of its own: an object of another kind,
+    /// which a hit makes and frees several of, is not as long as that.
+    Cache(Box<Served>),
     /// Bytes that were read of a body, and are not copied.
     View(Bytes),
 }

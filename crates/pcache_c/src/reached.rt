@@ -1,10 +1,14 @@
 //! The calls on a request, by its number in the cache of an object.
+//!
+//! Where a call leaves the cache and the counts alone, they are bound all the same (`_cache`): of a box that is
+//! borrowed in part the prover does not know what the rest is afterwards.
 ghost use Rattle.std.specs.Prelude.{◌≡◌, ◌≢◌, ◌*◌, None};
 ghost use Rattle.pcache_meta.specs.Header.{shown};
 ghost use Rattle.pcache_c.specs.Codes.{code_in};
+ghost use Rattle.pcache_c.specs.Counts.{filled, missed, taken_as, waited, when_done};
 ghost use Rattle.pcache_c.specs.Fills.{Publishes, SaysAbandoned};
 ghost use Rattle.pcache_c.specs.Opening.{Ends, Opens};
-ghost use Rattle.pcache_c.specs.Reached.{OnNumber};
+ghost use Rattle.pcache_c.specs.Reached.{CountsOnNumber, OnNumber};
 ghost use Rattle.pcache_c.specs.Requests.{Adds, Begins, CopyOf, EndsHit, Expires, Finishes, IsUnchanged, LimitsWaits, Looks, LooksForVariant, Misses, Passes, Purges, Reads, Releases, Renews, SaysHeld, SaysLength, SaysPhase, SaysWaited, Seeks, ServesOn, ServesUpdating, SetsMeta, Takes, TurnsOff, Varies, Views, Waits, meta_shown};
 ghost use Rattle.pcache_c.specs.Sizes.{CountsBody, LimitsBody, LimitsHead, SaysHeadIsTooLong};
 ghost use Rattle.pcache_c.specs.Handles.{object_of};
@@ -47,9 +51,14 @@ pub(crate) fn phase(object: &mut Object, number: u64, out: &mut u32) -> u32
     ensures { OnNumber number object.old object.new result (λ c d o p.
         SaysPhase c d o p out.new result) }
 {
-    let Object::Cache(Served { cache: _, seats }) = object else {
+    let Object::Cache(boxed) = object else {
         return WRONG_KIND;
     };
+    let Served {
+        cache: _cache,
+        seats,
+        counts: _counts,
+    } = &mut **boxed;
     let Some(request) = seats.find(number) else {
         return BAD_HANDLE;
     };
@@ -62,9 +71,14 @@ pub(crate) fn held(object: &mut Object, number: u64, out: &mut u32) -> u32
     ensures { OnNumber number object.old object.new result (λ c d o p.
         SaysHeld c d o p out.new result) }
 {
-    let Object::Cache(Served { cache: _, seats }) = object else {
+    let Object::Cache(boxed) = object else {
         return WRONG_KIND;
     };
+    let Served {
+        cache: _cache,
+        seats,
+        counts: _counts,
+    } = &mut **boxed;
     let Some(request) = seats.find(number) else {
         return BAD_HANDLE;
     };
@@ -77,9 +91,10 @@ pub(crate) fn look(object: &mut Object, number: u64, now: Moment, found: &mut u3
     ensures { OnNumber number object.old object.new result (λ c d o p.
         Looks now c d o p found.new result) }
 {
-    let Object::Cache(served) = object else {
+    let Object::Cache(boxed) = object else {
         return WRONG_KIND;
     };
+    let served = &mut **boxed;
     let Some(request) = served.seats.find(number) else {
         return BAD_HANDLE;
     };
@@ -88,25 +103,29 @@ pub(crate) fn look(object: &mut Object, number: u64, now: Moment, found: &mut u3
 
 /// Takes what a look-up found.
 pub(crate) fn take(object: &mut Object, number: u64, status: HitStatus, now: Moment) -> u32
-    ensures { OnNumber number object.old object.new result (λ c d o p.
-        Takes status now c d o p result) }
+    ensures { CountsOnNumber number object.old object.new result
+        (when_done result (taken_as status)) (λ c d o p. Takes status now c d o p result) }
 {
-    let Object::Cache(served) = object else {
+    let Object::Cache(boxed) = object else {
         return WRONG_KIND;
     };
+    let served = &mut **boxed;
     let Some(request) = served.seats.find(number) else {
         return BAD_HANDLE;
     };
-    requests::take(&mut served.cache, request, status, now)
+    let code = requests::take(&mut served.cache, request, status, now);
+    served.counts.count_take(code, status);
+    code
 }
 
 /// Lets go what a look-up found.
 pub(crate) fn pass(object: &mut Object, number: u64) -> u32
     ensures { OnNumber number object.old object.new result (λ c d o p. Passes c d o p result) }
 {
-    let Object::Cache(served) = object else {
+    let Object::Cache(boxed) = object else {
         return WRONG_KIND;
     };
+    let served = &mut **boxed;
     let Some(request) = served.seats.find(number) else {
         return BAD_HANDLE;
     };
@@ -123,9 +142,10 @@ pub(crate) fn look_for(
     ensures { OnNumber number object.old object.new result (λ c d o p.
         LooksForVariant variance c d o p same.new result) }
 {
-    let Object::Cache(served) = object else {
+    let Object::Cache(boxed) = object else {
         return WRONG_KIND;
     };
+    let served = &mut **boxed;
     let Some(request) = served.seats.find(number) else {
         return BAD_HANDLE;
     };
@@ -134,16 +154,19 @@ pub(crate) fn look_for(
 
 /// Goes on as a miss.
 pub(crate) fn miss(object: &mut Object, number: u64) -> u32
-    ensures { OnNumber number object.old object.new result (λ c d o p.
-        (d ≡ c) × Misses o p result) }
+    ensures { CountsOnNumber number object.old object.new result (when_done result missed)
+        (λ c d o p. (d ≡ c) × Misses o p result) }
 {
-    let Object::Cache(Served { cache: _, seats }) = object else {
+    let Object::Cache(boxed) = object else {
         return WRONG_KIND;
     };
-    let Some(request) = seats.find(number) else {
+    let served = &mut **boxed;
+    let Some(request) = served.seats.find(number) else {
         return BAD_HANDLE;
     };
-    requests::miss(request)
+    let code = requests::miss(request);
+    served.counts.count_miss(code);
+    code
 }
 
 /// Takes a copy of a meta for what is to be stored.
@@ -151,9 +174,14 @@ pub(crate) fn set_meta(object: &mut Object, number: u64, meta: &CacheMeta) -> u3
     ensures { OnNumber number object.old object.new result (λ c d o p.
         (d ≡ c) × SetsMeta meta.now o p result) }
 {
-    let Object::Cache(Served { cache: _, seats }) = object else {
+    let Object::Cache(boxed) = object else {
         return WRONG_KIND;
     };
+    let Served {
+        cache: _cache,
+        seats,
+        counts: _counts,
+    } = &mut **boxed;
     let Some(request) = seats.find(number) else {
         return BAD_HANDLE;
     };
@@ -165,9 +193,10 @@ pub(crate) fn renew(object: &mut Object, number: u64, meta: &CacheMeta) -> u32
     ensures { OnNumber number object.old object.new result (λ c d o p.
         Renews meta.now c d o p result) }
 {
-    let Object::Cache(served) = object else {
+    let Object::Cache(boxed) = object else {
         return WRONG_KIND;
     };
+    let served = &mut **boxed;
     let Some(request) = served.seats.find(number) else {
         return BAD_HANDLE;
     };
@@ -179,9 +208,14 @@ pub(crate) fn serve_updating(object: &mut Object, number: u64) -> u32
     ensures { OnNumber number object.old object.new result (λ c d o p.
         (d ≡ c) × ServesUpdating o p result) }
 {
-    let Object::Cache(Served { cache: _, seats }) = object else {
+    let Object::Cache(boxed) = object else {
         return WRONG_KIND;
     };
+    let Served {
+        cache: _cache,
+        seats,
+        counts: _counts,
+    } = &mut **boxed;
     let Some(request) = seats.find(number) else {
         return BAD_HANDLE;
     };
@@ -198,9 +232,10 @@ pub(crate) fn serve_on(
     ensures { OnNumber number object.old object.new result (λ c d o p.
         ServesOn (shown head.now) reason c d o p result) }
 {
-    let Object::Cache(served) = object else {
+    let Object::Cache(boxed) = object else {
         return WRONG_KIND;
     };
+    let served = &mut **boxed;
     let Some(request) = served.seats.find(number) else {
         return BAD_HANDLE;
     };
@@ -212,9 +247,10 @@ pub(crate) fn vary(object: &mut Object, number: u64, variance: Option<HashBinary
     ensures { OnNumber number object.old object.new result (λ c d o p.
         Varies variance c d o p result) }
 {
-    let Object::Cache(served) = object else {
+    let Object::Cache(boxed) = object else {
         return WRONG_KIND;
     };
+    let served = &mut **boxed;
     let Some(request) = served.seats.find(number) else {
         return BAD_HANDLE;
     };
@@ -225,9 +261,10 @@ pub(crate) fn vary(object: &mut Object, number: u64, variance: Option<HashBinary
 pub(crate) fn begin(object: &mut Object, number: u64) -> u32
     ensures { OnNumber number object.old object.new result (λ c d o p. Begins c d o p result) }
 {
-    let Object::Cache(served) = object else {
+    let Object::Cache(boxed) = object else {
         return WRONG_KIND;
     };
+    let served = &mut **boxed;
     let Some(request) = served.seats.find(number) else {
         return BAD_HANDLE;
     };
@@ -239,9 +276,10 @@ pub(crate) fn write(object: &mut Object, number: u64, alloc: Global, bytes: &[u8
     ensures { OnNumber number object.old object.new result (λ c d o p.
         Adds bytes.now eof c d o p result) }
 {
-    let Object::Cache(served) = object else {
+    let Object::Cache(boxed) = object else {
         return WRONG_KIND;
     };
+    let served = &mut **boxed;
     let Some(request) = served.seats.find(number) else {
         return BAD_HANDLE;
     };
@@ -255,16 +293,19 @@ pub(crate) fn finish(
     stored: &mut usize,
     evicted: &mut usize,
 ) -> u32
-    ensures { OnNumber number object.old object.new result (λ c d o p.
-        Finishes stored.new evicted.new c d o p result) }
+    ensures { CountsOnNumber number object.old object.new result (when_done result filled)
+        (λ c d o p. Finishes stored.new evicted.new c d o p result) }
 {
-    let Object::Cache(served) = object else {
+    let Object::Cache(boxed) = object else {
         return WRONG_KIND;
     };
+    let served = &mut **boxed;
     let Some(request) = served.seats.find(number) else {
         return BAD_HANDLE;
     };
-    requests::finish(&mut served.cache, request, stored, evicted)
+    let code = requests::finish(&mut served.cache, request, stored, evicted);
+    served.counts.count_fill(code);
+    code
 }
 
 /// Reads on.
@@ -279,9 +320,10 @@ pub(crate) fn read(
         Reads out.old out.new len.new more.new c d o p result) }
     ensures left { result ≢ 0 → out.new ≡ out.old }
 {
-    let Object::Cache(served) = object else {
+    let Object::Cache(boxed) = object else {
         return WRONG_KIND;
     };
+    let served = &mut **boxed;
     let Some(request) = served.seats.find(number) else {
         return BAD_HANDLE;
     };
@@ -303,9 +345,10 @@ pub(crate) fn view(
         Views (object_of view.new) len.new more.new c d o p result) }
     ensures left { result ≢ 0 → object_of view.new ≡ None }
 {
-    let Object::Cache(served) = object else {
+    let Object::Cache(boxed) = object else {
         return WRONG_KIND;
     };
+    let served = &mut **boxed;
     let Some(request) = served.seats.find(number) else {
         return BAD_HANDLE;
     };
@@ -317,9 +360,10 @@ pub(crate) fn length(object: &mut Object, number: u64, out: &mut usize) -> u32
     ensures { OnNumber number object.old object.new result (λ c d o p.
         SaysLength c d o p out.new result) }
 {
-    let Object::Cache(served) = object else {
+    let Object::Cache(boxed) = object else {
         return WRONG_KIND;
     };
+    let served = &mut **boxed;
     let Some(request) = served.seats.find(number) else {
         return BAD_HANDLE;
     };
@@ -331,9 +375,14 @@ pub(crate) fn seek(object: &mut Object, number: u64, start: usize, end: usize) -
     ensures { OnNumber number object.old object.new result (λ c d o p.
         (d ≡ c) × Seeks start end o p result) }
 {
-    let Object::Cache(Served { cache: _, seats }) = object else {
+    let Object::Cache(boxed) = object else {
         return WRONG_KIND;
     };
+    let Served {
+        cache: _cache,
+        seats,
+        counts: _counts,
+    } = &mut **boxed;
     let Some(request) = seats.find(number) else {
         return BAD_HANDLE;
     };
@@ -344,9 +393,10 @@ pub(crate) fn seek(object: &mut Object, number: u64, start: usize, end: usize) -
 pub(crate) fn finish_hit(object: &mut Object, number: u64) -> u32
     ensures { OnNumber number object.old object.new result (λ c d o p. EndsHit c d o p result) }
 {
-    let Object::Cache(served) = object else {
+    let Object::Cache(boxed) = object else {
         return WRONG_KIND;
     };
+    let served = &mut **boxed;
     let Some(request) = served.seats.find(number) else {
         return BAD_HANDLE;
     };
@@ -355,16 +405,20 @@ pub(crate) fn finish_hit(object: &mut Object, number: u64) -> u32
 
 /// Whether the wait is over.
 pub(crate) fn wait(object: &mut Object, number: u64, now: Moment, outcome: &mut u32) -> u32
-    ensures { OnNumber number object.old object.new result (λ c d o p.
+    ensures { CountsOnNumber number object.old object.new result
+        (when_done result (waited outcome.new)) (λ c d o p.
         Waits now outcome.new c d o p result) }
 {
-    let Object::Cache(served) = object else {
+    let Object::Cache(boxed) = object else {
         return WRONG_KIND;
     };
+    let served = &mut **boxed;
     let Some(request) = served.seats.find(number) else {
         return BAD_HANDLE;
     };
-    requests::wait(&mut served.cache, request, now, outcome)
+    let code = requests::wait(&mut served.cache, request, now, outcome);
+    served.counts.count_wait(code, *outcome);
+    code
 }
 
 /// Sets how long the request waits at most.
@@ -372,9 +426,14 @@ pub(crate) fn limit_waits(object: &mut Object, number: u64, most_millis: u64) ->
     ensures { OnNumber number object.old object.new result (λ c d o p.
         (d ≡ c) × LimitsWaits (most_millis * 1000000) o p result) }
 {
-    let Object::Cache(Served { cache: _, seats }) = object else {
+    let Object::Cache(boxed) = object else {
         return WRONG_KIND;
     };
+    let Served {
+        cache: _cache,
+        seats,
+        counts: _counts,
+    } = &mut **boxed;
     let Some(request) = seats.find(number) else {
         return BAD_HANDLE;
     };
@@ -386,9 +445,14 @@ pub(crate) fn waited(object: &mut Object, number: u64, secs: &mut u64, nanos: &m
     ensures { OnNumber number object.old object.new result (λ c d o p.
         SaysWaited c d o p secs.new nanos.new result) }
 {
-    let Object::Cache(Served { cache: _, seats }) = object else {
+    let Object::Cache(boxed) = object else {
         return WRONG_KIND;
     };
+    let Served {
+        cache: _cache,
+        seats,
+        counts: _counts,
+    } = &mut **boxed;
     let Some(request) = seats.find(number) else {
         return BAD_HANDLE;
     };
@@ -400,9 +464,10 @@ pub(crate) fn release(object: &mut Object, number: u64, reason: NoCacheReason) -
     ensures { OnNumber number object.old object.new result (λ c d o p.
         Releases reason c d o p result) }
 {
-    let Object::Cache(served) = object else {
+    let Object::Cache(boxed) = object else {
         return WRONG_KIND;
     };
+    let served = &mut **boxed;
     let Some(request) = served.seats.find(number) else {
         return BAD_HANDLE;
     };
@@ -414,9 +479,10 @@ pub(crate) fn disable(object: &mut Object, number: u64, reason: NoCacheReason) -
     ensures { OnNumber number object.old object.new result (λ c d o p.
         TurnsOff reason c d o p result) }
 {
-    let Object::Cache(served) = object else {
+    let Object::Cache(boxed) = object else {
         return WRONG_KIND;
     };
+    let served = &mut **boxed;
     let Some(request) = served.seats.find(number) else {
         return BAD_HANDLE;
     };
@@ -428,9 +494,10 @@ pub(crate) fn purge(object: &mut Object, number: u64, was: &mut u32) -> u32
     ensures { OnNumber number object.old object.new result (λ c d o p.
         Purges was.new c d o p result) }
 {
-    let Object::Cache(served) = object else {
+    let Object::Cache(boxed) = object else {
         return WRONG_KIND;
     };
+    let served = &mut **boxed;
     let Some(request) = served.seats.find(number) else {
         return BAD_HANDLE;
     };
@@ -442,9 +509,10 @@ pub(crate) fn expire(object: &mut Object, number: u64, now: Moment, was: &mut u3
     ensures { OnNumber number object.old object.new result (λ c d o p.
         Expires now was.new c d o p result) }
 {
-    let Object::Cache(served) = object else {
+    let Object::Cache(boxed) = object else {
         return WRONG_KIND;
     };
+    let served = &mut **boxed;
     let Some(request) = served.seats.find(number) else {
         return BAD_HANDLE;
     };
@@ -456,9 +524,14 @@ pub(crate) fn meta_of(object: &mut Object, number: u64) -> Result<CacheMeta, u32
     ensures { OnNumber number object.old object.new (code_in result) (λ c d o p.
         IsUnchanged c d o p × CopyOf (meta_shown o) result) }
 {
-    let Object::Cache(Served { cache: _, seats }) = object else {
+    let Object::Cache(boxed) = object else {
         return Err(WRONG_KIND);
     };
+    let Served {
+        cache: _cache,
+        seats,
+        counts: _counts,
+    } = &mut **boxed;
     let Some(request) = seats.find(number) else {
         return Err(BAD_HANDLE);
     };
@@ -470,9 +543,10 @@ pub(crate) fn publish(object: &mut Object, number: u64, tokens: &[u64]) -> u32
     ensures { OnNumber number object.old object.new result (λ c d o p.
         Publishes tokens.now c d o p result) }
 {
-    let Object::Cache(served) = object else {
+    let Object::Cache(boxed) = object else {
         return WRONG_KIND;
     };
+    let served = &mut **boxed;
     let Some(request) = served.seats.find(number) else {
         return BAD_HANDLE;
     };
@@ -484,9 +558,14 @@ pub(crate) fn abandoned(object: &mut Object, number: u64, token: &mut u64) -> u3
     ensures { OnNumber number object.old object.new result (λ c d o p.
         SaysAbandoned c d o p token.new result) }
 {
-    let Object::Cache(Served { cache: _, seats }) = object else {
+    let Object::Cache(boxed) = object else {
         return WRONG_KIND;
     };
+    let Served {
+        cache: _cache,
+        seats,
+        counts: _counts,
+    } = &mut **boxed;
     let Some(request) = seats.find(number) else {
         return BAD_HANDLE;
     };
@@ -498,9 +577,14 @@ pub(crate) fn limit_body(object: &mut Object, number: u64, most: usize) -> u32
     ensures { OnNumber number object.old object.new result (λ c d o p.
         (d ≡ c) × LimitsBody most o p result) }
 {
-    let Object::Cache(Served { cache: _, seats }) = object else {
+    let Object::Cache(boxed) = object else {
         return WRONG_KIND;
     };
+    let Served {
+        cache: _cache,
+        seats,
+        counts: _counts,
+    } = &mut **boxed;
     let Some(request) = seats.find(number) else {
         return BAD_HANDLE;
     };
@@ -512,9 +596,14 @@ pub(crate) fn count_body(object: &mut Object, number: u64, count: usize, within:
     ensures { OnNumber number object.old object.new result (λ c d o p.
         (d ≡ c) × CountsBody count within.new o p result) }
 {
-    let Object::Cache(Served { cache: _, seats }) = object else {
+    let Object::Cache(boxed) = object else {
         return WRONG_KIND;
     };
+    let Served {
+        cache: _cache,
+        seats,
+        counts: _counts,
+    } = &mut **boxed;
     let Some(request) = seats.find(number) else {
         return BAD_HANDLE;
     };
@@ -526,9 +615,14 @@ pub(crate) fn limit_head(object: &mut Object, number: u64, most: usize) -> u32
     ensures { OnNumber number object.old object.new result (λ c d o p.
         (d ≡ c) × LimitsHead most o p result) }
 {
-    let Object::Cache(Served { cache: _, seats }) = object else {
+    let Object::Cache(boxed) = object else {
         return WRONG_KIND;
     };
+    let Served {
+        cache: _cache,
+        seats,
+        counts: _counts,
+    } = &mut **boxed;
     let Some(request) = seats.find(number) else {
         return BAD_HANDLE;
     };
@@ -540,9 +634,10 @@ pub(crate) fn exceeds_head(object: &mut Object, number: u64, out: &mut u32) -> u
     ensures { OnNumber number object.old object.new result (λ c d o p.
         SaysHeadIsTooLong c d o p out.new result) }
 {
-    let Object::Cache(served) = object else {
+    let Object::Cache(boxed) = object else {
         return WRONG_KIND;
     };
+    let served = &mut **boxed;
     let Some(request) = served.seats.find(number) else {
         return BAD_HANDLE;
     };

@@ -2,11 +2,13 @@
 ghost use Rattle.std.specs.Prelude.{◌≡◌, ℕ, None, option_map};
 ghost use Rattle.std.specs.Duration.{as_nanos};
 ghost use Rattle.pcache_store.specs.Readers.{reader_of};
+ghost use Rattle.pcache_c.specs.Counts.{nothing_counted};
 ghost use Rattle.pcache_c.specs.Opening.{EndsNumber, EndsRequest, IsNew, OpensRequest, new_cache};
 ghost use Rattle.pcache_c.specs.Requests.{KeepsButStore, left_found};
 ghost use Rattle.pcache_c.specs.Seats.{request_at, round_at};
 
 use crate::codes::{BAD_HANDLE, NO_MEMORY, OK};
+use crate::counts::PcacheCounted;
 use crate::seats::{Seat, Seats};
 use bytes::Bytes;
 use pcache_base::key::CacheKey;
@@ -62,10 +64,11 @@ pub(crate) fn let_go(cache: &mut ListCache, found: Option<(CacheMeta, MemHitHand
     }
 }
 
-/// A cache with its open requests.
+/// A cache with its open requests, and what it counted.
 pub struct Served {
     pub(crate) cache: ListCache,
     pub(crate) seats: Seats<Open>,
+    pub(crate) counts: PcacheCounted,
 }
 
 impl Served {
@@ -77,12 +80,14 @@ impl Served {
         weighing: Weighing,
     ) -> Served
         ensures cache { result.cache ≡ new_cache weighing manager (as_nanos age_timeout) }
+        ensures counts { result.counts ≡ nothing_counted }
         ensures none { (number : ℕ) → request_at result.seats number ≡ None }
         ensures rounds { (place : ℕ) → round_at result.seats place ≡ 0 }
     {
         Served {
             cache: Cache::with_weighing(alloc, seed, manager, age_timeout, weighing),
             seats: Seats::new(alloc),
+            counts: PcacheCounted::none(),
         }
     }
 
@@ -134,6 +139,7 @@ impl Drop for Served {
                 mut seats,
                 first_free: _,
             },
+            counts: _,
         } = self;
         'seats: while let Some(seat) = seats.pop() {
             let Seat {

@@ -13,8 +13,9 @@ returns-in-Ok c =
       c.new-served.result,
       record {
         parts = c.new-served.ensures.cache ∙ (ap (λ m. new_cache c.args.weighing m (as_nanos c.from_millis-age_timeout.result)) manager ∙ ap (new_cache c.args.weighing (empty_list c.args.limit _)) c.from_millis-age_timeout.ensures);
+        counts = c.new-served.ensures.counts;
         none = c.new-served.ensures.none;
         rounds = c.new-served.ensures.rounds;
       },
-      c.fill.ensures,
+      c.keep.ensures,
     ))

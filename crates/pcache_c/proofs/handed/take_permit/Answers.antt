@@ -14,6 +14,7 @@ returns c =
       after = r;
       was = was_found c.find.result c.in-Some.taker c.in-Some.is (request_at seats c.args.to) c.find.ensures.value;
       set = when_found c.find.result c.in-Some.taker c.in-Some.is (IsSet c.args.to r seats (c.find.follows.lender r)) (c.find.follows.holds r);
+      counts = refl;
       gets = record {
         request = c.set_write_lock-gone.ensures.request;
         table = c.set_write_lock-gone.ensures.table;

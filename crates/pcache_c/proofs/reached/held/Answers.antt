@@ -4,9 +4,9 @@ use Rattle.pcache_c.proofs.reached.held.Goals as goal
 
 pub returns-in_default-find : goal.returns-in_default-find
 returns-in_default-find c =
-    unreached _ _ c.in-Cache.field-0 _ _ c.in-Cache.is c.find.follows.lender-at-none c.find.result c.in_default-find.is c.find.ensures.value c.find.follows.holds-at-none refl
+    unreached _ _ c.in-Cache.boxed _ _ _ c.in-Cache.is c.deref_mut.ensures.value _ c.find.result c.in_default-find.is c.find.ensures.value refl refl c.find.follows.holds-at-none refl
 
 pub returns : goal.returns
 returns c =
     let p = c.in-Some.request.now in
-    reached _ _ c.in-Cache.field-0 _ _ c.in-Cache.is c.in-Cache.field-0.cache (c.find.follows.lender p) c.find.result c.in-Some.request p c.in-Some.is c.find.ensures.value (c.find.follows.holds p) (record { parts = refl; request = refl }, refl, c.number_of_held.ensures)
+    reached _ _ c.in-Cache.boxed _ _ _ c.in-Cache.is c.deref_mut.ensures.value _ c.find.result c.in-Some.request p c.in-Some.is c.find.ensures.value (c.find.follows.holds p) refl (record { parts = refl; request = refl }, refl, c.number_of_held.ensures)

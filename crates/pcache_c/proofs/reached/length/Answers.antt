@@ -4,9 +4,9 @@ use Rattle.pcache_c.proofs.reached.length.Goals as goal
 
 pub returns-in_default-find : goal.returns-in_default-find
 returns-in_default-find c =
-    unreached _ _ c.in-Cache.served _ _ c.in-Cache.is c.find.follows.lender-at-none c.find.result c.in_default-find.is c.find.ensures.value c.find.follows.holds-at-none refl
+    unreached _ _ c.in-Cache.boxed _ _ _ c.in-Cache.is c.deref_mut-served.ensures.value _ c.find.result c.in_default-find.is c.find.ensures.value refl refl c.find.follows.holds-at-none refl
 
 pub returns : goal.returns
 returns c =
     let p = c.in-Some.request.now in
-    reached _ _ c.in-Cache.served _ _ c.in-Cache.is c.in-Cache.served.cache (c.find.follows.lender p) c.find.result c.in-Some.request p c.in-Some.is c.find.ensures.value (c.find.follows.holds p) (record { parts = refl; request = refl }, c.length.ensures)
+    reached _ _ c.in-Cache.boxed _ _ _ c.in-Cache.is c.deref_mut-served.ensures.value _ c.find.result c.in-Some.request p c.in-Some.is c.find.ensures.value (c.find.follows.holds p) refl (record { parts = refl; request = refl }, c.length.ensures)

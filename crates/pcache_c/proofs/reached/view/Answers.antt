@@ -5,12 +5,12 @@ use Rattle.pcache_c.proofs.reached.view.Goals as goal
 
 pub returns-in_default-find-clause-views : goal.returns-in_default-find-clause-views
 returns-in_default-find-clause-views c =
-    unreached _ _ c.in-Cache.served _ _ c.in-Cache.is c.find.follows.lender-at-none c.find.result c.in_default-find.is c.find.ensures.value c.find.follows.holds-at-none refl
+    unreached _ _ c.in-Cache.boxed _ _ _ c.in-Cache.is c.deref_mut-served.ensures.value _ c.find.result c.in_default-find.is c.find.ensures.value refl refl c.find.follows.holds-at-none refl
 
 pub returns-clause-views : goal.returns-clause-views
 returns-clause-views c =
     let p = c.view.new.open in
-    reached _ _ c.in-Cache.served _ _ c.in-Cache.is c.view.new.cache (c.find.follows.lender p) c.find.result c.in-Some.request p c.in-Some.is c.find.ensures.value (c.find.follows.holds p) c.view.ensures
+    reached _ _ c.in-Cache.boxed _ _ _ c.in-Cache.is c.deref_mut-served.ensures.value _ c.find.result c.in-Some.request p c.in-Some.is c.find.ensures.value (c.find.follows.holds p) refl c.view.ensures
 
 pub returns-clause-left : goal.returns-clause-left
 returns-clause-left c = view_left _ _ _ _ _ _ _ _ c.view.ensures

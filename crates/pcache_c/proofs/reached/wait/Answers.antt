@@ -1,12 +1,12 @@
 use Rattle.std.proofs.Common.{refl}
-use Rattle.pcache_c.proofs.Numbered.{reached, unreached}
+use Rattle.pcache_c.proofs.Numbered.{counted, not_counted}
 use Rattle.pcache_c.proofs.reached.wait.Goals as goal
 
 pub returns-in_default-find : goal.returns-in_default-find
 returns-in_default-find c =
-    unreached _ _ c.in-Cache.served _ _ c.in-Cache.is c.find.follows.lender-at-none c.find.result c.in_default-find.is c.find.ensures.value c.find.follows.holds-at-none refl
+    not_counted _ _ c.in-Cache.boxed _ _ _ _ c.in-Cache.is c.deref_mut-served.ensures.value _ c.find.result c.in_default-find.is c.find.ensures.value refl refl c.find.follows.holds-at-none refl
 
 pub returns : goal.returns
 returns c =
-    let p = c.wait.new.open in
-    reached _ _ c.in-Cache.served _ _ c.in-Cache.is c.wait.new.cache (c.find.follows.lender p) c.find.result c.in-Some.request p c.in-Some.is c.find.ensures.value (c.find.follows.holds p) c.wait.ensures
+    let p = c.wait-code.new.open in
+    counted _ _ c.in-Cache.boxed _ _ _ _ c.in-Cache.is c.deref_mut-served.ensures.value _ c.find.result c.in-Some.request p c.in-Some.is c.find.ensures.value (c.find.follows.holds p) c.count_wait.ensures c.wait-code.ensures
