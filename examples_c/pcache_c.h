@@ -384,6 +384,16 @@ uint32_t pcache_cache_new(pcache_handle *cache, const uint8_t *seed, size_t seed
 /* The same with a limit that counts all that is kept for a response: its body, its head, and 512 bytes for the rest. */
 uint32_t pcache_cache_new_bounded(pcache_handle *cache, const uint8_t *seed, size_t seed_len,
                                   size_t limit, size_t watermark, uint64_t age_timeout_millis);
+/* Which bodies go where there is no room: the one that was used least recently; the oldest; the oldest that was not used; by SIEVE. */
+enum {
+    PCACHE_LRU = 0,
+    PCACHE_FIFO = 1,
+    PCACHE_CLOCK = 2,
+    PCACHE_SIEVE = 3
+};
+/* A cache by a policy; its limit counts as that of `pcache_cache_new_bounded` if `bounded` is not 0. The others are by PCACHE_LRU. */
+uint32_t pcache_cache_new_with(pcache_handle *cache, const uint8_t *seed, size_t seed_len, uint32_t policy, uint32_t bounded,
+                               size_t limit, size_t watermark, uint64_t age_timeout_millis);
 uint32_t pcache_cache_totals(pcache_handle *cache, pcache_cache_counts *out);
 uint32_t pcache_cache_counted(pcache_handle *cache, pcache_counted *out);
 /* The tag is UTF-8. */

@@ -321,7 +321,7 @@ fn refused(cache: &Cache) -> Result<(), Error> {
 }
 
 fn main() -> Result<(), Error> {
-    let options = Options { limit: 6, counts: Counts::Bodies, parts: 1, seed: Some([7; 16]), age_timeout: Duration::from_secs(10), watermark: 0 };
+    let options = Options { limit: 6, counts: Counts::Bodies, parts: 1, seed: Some([7; 16]), age_timeout: Duration::from_secs(10), ..Options::default() };
     let cache = Cache::new(&options)?;
     fill(&cache, "aa", b"hi")?;
     hit(&cache, "aa")?;

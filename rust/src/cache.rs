@@ -17,6 +17,21 @@ pub enum Counts {
     Entries,
 }
 
+/// Which bodies go where there is no room for another one.
+#[derive(Clone, Copy, Debug, Default, PartialEq, Eq)]
+#[repr(u32)]
+pub enum Policy {
+    /// The one that was used least recently, as in pingora-cache.
+    #[default]
+    Lru = 0,
+    /// The oldest.
+    Fifo = 1,
+    /// The oldest that was not used since it was looked at last.
+    Clock = 2,
+    /// One that was not used since a hand passed it (SIEVE).
+    Sieve = 3,
+}
+
 /// What a cache is made with.
 #[derive(Clone, Debug)]
 pub struct Options {
@@ -25,6 +40,8 @@ pub struct Options {
     pub limit: usize,
     /// What the limit counts.
     pub counts: Counts,
+    /// Which bodies go where there is no room.
+    pub policy: Policy,
     /// How many complete bodies there may be, or 0 for any number. Each part has an even share of it.
     pub watermark: usize,
     /// How long a permit may be held, before another request gets one.
@@ -36,11 +53,12 @@ pub struct Options {
 }
 
 impl Default for Options {
-    /// 64 MiB for all that is kept, in 16 parts, any number of bodies, permits of ten seconds, a seed that is drawn.
+    /// 64 MiB for all that is kept, by LRU, in 16 parts, any number of bodies, permits of ten seconds, a seed that is drawn.
     fn default() -> Options {
         Options {
             limit: 64 << 20,
             counts: Counts::Entries,
+            policy: Policy::Lru,
             watermark: 0,
             age_timeout: Duration::from_secs(10),
             parts: 16,
@@ -143,16 +161,13 @@ impl Cache {
         }
         let millis = u64::try_from(options.age_timeout.as_millis()).unwrap_or(u64::MAX);
         let seed = options.seed.unwrap_or_else(drawn);
-        let make = match options.counts {
-            Counts::Bodies => raw::pcache_cache_new,
-            Counts::Entries => raw::pcache_cache_new_bounded,
-        };
+        let (policy, bounded) = (options.policy as u32, u32::from(options.counts == Counts::Entries));
         let mut all = Vec::with_capacity(parts);
         for place in 0..parts {
             let mut handle = Handle::new();
             let (limit, watermark) = (share(options.limit, parts, place), share(options.watermark, parts, place));
             // SAFETY: the handle has nothing, and the seed has 16 bytes.
-            done(unsafe { make(&mut handle.0, seed.as_ptr(), 16, limit, watermark, millis) })?;
+            done(unsafe { raw::pcache_cache_new_with(&mut handle.0, seed.as_ptr(), 16, policy, bounded, limit, watermark, millis) })?;
             all.push(Part { guarded: Mutex::new(Guarded { handle, waiting: 0 }), changed: Condvar::new() });
         }
         Ok(Cache(all.into()))

@@ -46,7 +46,7 @@ mod put;
 mod raw;
 mod request;
 
-pub use cache::{Cache, CacheCounted, CacheTotals, Counts, Options};
+pub use cache::{Cache, CacheCounted, CacheTotals, Counts, Options, Policy};
 pub use decisions::{Answer, Asked, Decision, NotStored, Outcome, Reuse, Terms};
 pub use error::Error;
 pub use manager::{EvictionManager, Key, Manager, SharedManager, Totals};

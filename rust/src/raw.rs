@@ -166,6 +166,16 @@ extern "C" {
         watermark: usize,
         age_timeout_millis: u64,
     ) -> u32;
+    pub fn pcache_cache_new_with(
+        cache: *mut PcacheHandle,
+        seed: *const u8,
+        seed_len: usize,
+        policy: u32,
+        bounded: u32,
+        limit: usize,
+        watermark: usize,
+        age_timeout_millis: u64,
+    ) -> u32;
     pub fn pcache_cache_totals(cache: *mut PcacheHandle, out: *mut PcacheCacheCounts) -> u32;
     pub fn pcache_combined_hash(
         primary: *const u8,

@@ -1,6 +1,6 @@
 //! The crate under threads: what a test asserts is what every interleaving has to give.
 
-use pcache::{Cache, CacheCounted, Error, Head, Held, HitStatus, Looked, Meta, Moment, Options, Read, Reason, Request, Said, View, WaitEnd};
+use pcache::{Cache, CacheCounted, Error, Head, Held, HitStatus, Looked, Meta, Moment, Options, Policy, Read, Reason, Request, Said, View, WaitEnd};
 use std::sync::atomic::{AtomicU64, AtomicUsize, Ordering};
 use std::sync::Mutex;
 use std::thread;
@@ -220,4 +220,42 @@ fn what_is_no_option_is_refused() {
     assert_eq!(of(0, 0), Some(Error::BadValue));
     assert_eq!(of(4, 3), Some(Error::BadValue));
     assert_eq!(of(4, 4), None);
+}
+
+/// Fills and takes keys of one letter, of which three have room, and says which are there at the end: a capital letter is filled, and a
+/// small one is taken.
+fn left_by(policy: Policy, calls: &str) -> Result<String, Error> {
+    let cache = Cache::new(&Options { policy, parts: 1, watermark: 3, ..Options::default() })?;
+    for call in calls.chars() {
+        let mut request = cache.request(call.to_ascii_lowercase().to_string().as_bytes(), "")?;
+        match request.look(NOW)? {
+            Looked::Found => request.take(HitStatus::Fresh, NOW)?,
+            Looked::Permit => assert_eq!(request.fill(&mut meta()?, None)?.finish("body")?.evicted, usize::from(call > 'C')),
+            other => panic!("{call}: {other:?}"),
+        }
+    }
+    let mut left = String::new();
+    for key in 'a'..='f' {
+        if cache.request(key.to_string().as_bytes(), "")?.look(NOW)? == Looked::Found {
+            left.push(key);
+        }
+    }
+    Ok(left)
+}
+
+#[test]
+fn a_cache_goes_by_its_policy() -> Result<(), Error> {
+    // Two are used; then two come in. LRU lets go what was used least recently, FIFO the oldest; CLOCK and SIEVE spare the two once.
+    let used = |policy| left_by(policy, "ABCbaDE");
+    assert_eq!(used(Policy::Lru)?, "ade");
+    assert_eq!(used(Policy::Fifo)?, "cde");
+    assert_eq!(used(Policy::Clock)?, "bde");
+    assert_eq!(used(Policy::Sieve)?, "bde");
+    // The oldest is used; then three come in. SIEVE keeps it, since its hand is past it.
+    let oldest = |policy| left_by(policy, "ABCaDEF");
+    assert_eq!(oldest(Policy::Lru)?, "def");
+    assert_eq!(oldest(Policy::Fifo)?, "def");
+    assert_eq!(oldest(Policy::Clock)?, "def");
+    assert_eq!(oldest(Policy::Sieve)?, "aef");
+    Ok(())
 }

@@ -1,3 +1,4 @@
+pub mod AnyManagers
 pub mod Caches
 pub mod Codes
 pub mod Counts

@@ -4,7 +4,7 @@ use Rattle.std.specs.FinMap.{empty}
 use Rattle.pcache_base.specs.Key.{Key}
 use Rattle.pcache_cache.specs.Parts.{Parts}
 use Rattle.pcache_cache.specs.declared.weighing.Weighing.{Weighing}
-use Rattle.pcache_evict.specs.Listed.{Listed, map_of}
+use Rattle.pcache_evict.specs.Tracked.{Evicted, Limits, Tracked}
 use Rattle.pcache_lock.specs.Locks.{no_locks}
 use Rattle.pcache_request.specs.Requests.{dropped_by, enabled_with, left_by, let_go_by, new_request, with_key}
 use Rattle.pcache_c.specs.Codes.{bad_handle, no_memory, ok}
@@ -16,16 +16,16 @@ use Rattle.pcache_c.specs.declared.object.Object.{Object}
 use Rattle.pcache_c.specs.declared.served.Open.{Open}
 use Rattle.pcache_c.specs.declared.served.Served.{Served}
 
--- a cache over a manager with one list, with nothing stored, whose entries weigh so, and whose permits age out after so many
--- nanoseconds
-abbrev pub new_cache : Weighing → Listed → ℕ → Parts
-new_cache how m age = record {
+-- a cache over a manager that tracks this, with these limits and totals, with nothing stored, whose entries weigh so, and whose
+-- permits age out after so many nanoseconds
+abbrev pub new_cache : Weighing → Tracked → Limits → Evicted → ℕ → Parts
+new_cache how tracked limits evicted age = record {
   store = record { slots = empty; writes = empty; next = 0 };
   past = [];
   weighing = how;
-  tracked = map_of m.entries;
-  limits = m.limits;
-  evicted = m.evicted;
+  tracked = tracked;
+  limits = limits;
+  evicted = evicted;
   locks = no_locks age;
   deeds = [];
 }

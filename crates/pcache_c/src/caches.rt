@@ -3,7 +3,10 @@
 ghost use Rattle.std.specs.Prelude.{◌≡◌, ◌≢◌, ◌⊎◌, ◌*◌, IfErr, IfOk, IsUtf8, OnOk, Option};
 ghost use Rattle.pcache_base.specs.declared.reason.NoCacheReason.{NoCacheReason};
 ghost use Rattle.pcache_cache.specs.declared.weighing.Weighing.TheVariants.{Bodies, Entries};
-ghost use Rattle.pcache_c.specs.Caches.{CopiesMeta, GetsCache, MakesCache, SaysCounts, key_with};
+ghost use Rattle.pcache_c.specs.AnyManagers.{IsNamed};
+ghost use Rattle.pcache_c.specs.declared.any_manager.Policy.{Policy};
+ghost use Rattle.pcache_c.specs.declared.any_manager.Policy.TheVariants.{Lru};
+ghost use Rattle.pcache_c.specs.Caches.{CopiesMeta, GetsCache, MakesCache, SaysCounts, key_with, weighing_at};
 ghost use Rattle.pcache_c.specs.Codes.{OnGood, OnText, bad_value, hash_at, no_memory, watermark_at};
 ghost use Rattle.pcache_c.specs.Handles.{AsksOf, IsSame, OnHandle, OnKind};
 ghost use Rattle.pcache_c.specs.Objects.{as_cache, as_head, as_meta};
@@ -13,6 +16,7 @@ ghost use Rattle.pcache_meta.specs.Header.{shown};
 ghost use Rattle.pcache_c.specs.Reached.{OnRequest};
 ghost use Rattle.pcache_c.specs.Requests.{IsUnchanged, Renews, SaysHeld, SaysPhase, ServesOn, SetsMeta, meta_shown};
 
+use crate::any_manager::{AnyManager, Policy, policy_of};
 use crate::codes::{BAD_HANDLE, BAD_VALUE, NO_MEMORY, OK, WRONG_KIND, code_of};
 use crate::handle::PcacheHandle;
 use crate::managers::{seed_of, watermark_of};
@@ -23,7 +27,6 @@ use crate::served::Served;
 use pcache_base::key::CacheKey;
 use pcache_base::reason::NoCacheReason;
 use pcache_cache::Weighing;
-use pcache_evict::eviction::simple_lru;
 use std::alloc::Global;
 use std::time::Duration;
 
@@ -58,8 +61,9 @@ pub extern "C" fn pcache_cache_new(
     watermark: usize,
     age_timeout_millis: u64,
 ) -> u32
-    ensures { OnGood (hash_at seed.now) result (IsSame cache.old cache.new) (λ s. MakesCache Bodies
-        limit (watermark_at watermark) (age_timeout_millis * 1000000) cache.old cache.new result) }
+    ensures { OnGood (hash_at seed.now) result (IsSame cache.old cache.new) (λ s. MakesCache Lru
+        Bodies limit (watermark_at watermark) (age_timeout_millis * 1000000) cache.old cache.new
+        result) }
 {
     cache_weighing(
         alloc,
@@ -68,6 +72,7 @@ pub extern "C" fn pcache_cache_new(
         limit,
         watermark,
         age_timeout_millis,
+        Policy::Lru,
         Weighing::Bodies,
     )
 }
@@ -84,8 +89,9 @@ pub extern "C" fn pcache_cache_new_bounded(
     watermark: usize,
     age_timeout_millis: u64,
 ) -> u32
-    ensures { OnGood (hash_at seed.now) result (IsSame cache.old cache.new) (λ s. MakesCache Entries
-        limit (watermark_at watermark) (age_timeout_millis * 1000000) cache.old cache.new result) }
+    ensures { OnGood (hash_at seed.now) result (IsSame cache.old cache.new) (λ s. MakesCache Lru
+        Entries limit (watermark_at watermark) (age_timeout_millis * 1000000) cache.old cache.new
+        result) }
 {
     cache_weighing(
         alloc,
@@ -94,11 +100,58 @@ pub extern "C" fn pcache_cache_new_bounded(
         limit,
         watermark,
         age_timeout_millis,
+        Policy::Lru,
         Weighing::Entries,
     )
 }
 
-// A cache whose entries weigh so.
+/// A cache as that of `pcache_cache_new`, or of `pcache_cache_new_bounded` if `bounded` is not 0, whose entries go by a policy by the
+/// header's number: LRU, FIFO, CLOCK or SIEVE.
+#[unsafe(no_mangle)]
+pub extern "C" fn pcache_cache_new_with(
+    alloc: Global,
+    cache: &mut PcacheHandle,
+    seed: &[u8],
+    policy: u32,
+    bounded: u32,
+    limit: usize,
+    watermark: usize,
+    age_timeout_millis: u64,
+) -> u32
+    ensures { (p : Option Policy) × IsNamed policy p
+        × OnGood p result (IsSame cache.old cache.new) (λ named.
+        OnGood (hash_at seed.now) result (IsSame cache.old cache.new) (λ s.
+        MakesCache named (weighing_at bounded) limit (watermark_at watermark)
+        (age_timeout_millis * 1000000) cache.old cache.new result)) }
+{
+    let Some(policy) = policy_of(policy) else {
+        return BAD_VALUE;
+    };
+    let weighing = weighing_of(bounded);
+    cache_weighing(
+        alloc,
+        cache,
+        seed,
+        limit,
+        watermark,
+        age_timeout_millis,
+        policy,
+        weighing,
+    )
+}
+
+// What entries weigh, by the flag of a bounded cache.
+fn weighing_of(bounded: u32) -> Weighing
+    ensures { result ≡ weighing_at bounded }
+{
+    if bounded == 0 {
+        Weighing::Bodies
+    } else {
+        Weighing::Entries
+    }
+}
+
+// A cache whose entries go by a policy, and weigh so.
 fn cache_weighing(
     alloc: Global,
     cache: &mut PcacheHandle,
@@ -106,9 +159,10 @@ fn cache_weighing(
     limit: usize,
     watermark: usize,
     age_timeout_millis: u64,
+    policy: Policy,
     weighing: Weighing,
 ) -> u32
-    ensures { OnGood (hash_at seed.now) result (IsSame cache.old cache.new) (λ s. MakesCache
+    ensures { OnGood (hash_at seed.now) result (IsSame cache.old cache.new) (λ s. MakesCache policy
         weighing limit (watermark_at watermark) (age_timeout_millis * 1000000) cache.old cache.new
         result) }
 {
@@ -116,7 +170,7 @@ fn cache_weighing(
         return BAD_VALUE;
     };
     let age_timeout = Duration::from_millis(age_timeout_millis);
-    match simple_lru::Manager::new_with_watermark(alloc, seed, limit, watermark_of(watermark)) {
+    match AnyManager::new(alloc, seed, policy, limit, watermark_of(watermark)) {
         Ok(manager) => {
             let served = Served::new(alloc, seed, manager, age_timeout, weighing);
             keep(alloc, cache, served)

@@ -14,7 +14,7 @@ use crate::codes::{BAD_HANDLE, NO_MEMORY, NONE, OK, code_of};
 use crate::handed::holds_permit;
 use crate::handle::PcacheHandle;
 use crate::reached;
-use crate::served::{ListCache, Open};
+use crate::served::{AnyCache, Open};
 use pcache_base::fills::{UnusableFill, UnusableFills};
 use std::alloc::{AllocError, Global};
 
@@ -66,7 +66,7 @@ pub extern "C" fn pcache_request_new_with_unusable(
 }
 
 /// Publishes tokens of what was found out about the fill, if the request holds the permit.
-pub(crate) fn publish(cache: &mut ListCache, open: &Open, tokens: &[u64]) -> u32
+pub(crate) fn publish(cache: &mut AnyCache, open: &Open, tokens: &[u64]) -> u32
     ensures { Publishes tokens.now cache.old cache.new open.now open.now result }
 {
     if !holds_permit(open) {

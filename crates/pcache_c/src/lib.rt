@@ -16,6 +16,7 @@
 //! - `taken`: which URIs a response to an unsafe method takes away
 //! - `entries`: the keys of entries of eviction managers
 //! - `managers`: the eviction managers
+//! - `any_manager`: the manager of a cache, of the policy that its maker named
 //! - `caches`: a cache, and its requests opened and ended; `calls`: what its requests do
 //! - `counts`: how often the calls on a cache were hits, misses, waits and fills
 //! - `seats`: the numbers of open requests; `served`: a cache with its requests as one object
@@ -23,6 +24,7 @@
 //! - `handed`: a permit that goes from one request to another
 //! - `fills`: the fills that a request cannot use, and what is published of one; `sizes`: the limits on a body and on a head
 
+mod any_manager;
 mod asked;
 mod caches;
 mod calls;

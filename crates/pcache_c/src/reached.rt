@@ -58,6 +58,7 @@ pub(crate) fn phase(object: &mut Object, number: u64, out: &mut u32) -> u32
         cache: _cache,
         seats,
         counts: _counts,
+        policy: _policy,
     } = &mut **boxed;
     let Some(request) = seats.find(number) else {
         return BAD_HANDLE;
@@ -78,6 +79,7 @@ pub(crate) fn held(object: &mut Object, number: u64, out: &mut u32) -> u32
         cache: _cache,
         seats,
         counts: _counts,
+        policy: _policy,
     } = &mut **boxed;
     let Some(request) = seats.find(number) else {
         return BAD_HANDLE;
@@ -181,6 +183,7 @@ pub(crate) fn set_meta(object: &mut Object, number: u64, meta: &CacheMeta) -> u3
         cache: _cache,
         seats,
         counts: _counts,
+        policy: _policy,
     } = &mut **boxed;
     let Some(request) = seats.find(number) else {
         return BAD_HANDLE;
@@ -215,6 +218,7 @@ pub(crate) fn serve_updating(object: &mut Object, number: u64) -> u32
         cache: _cache,
         seats,
         counts: _counts,
+        policy: _policy,
     } = &mut **boxed;
     let Some(request) = seats.find(number) else {
         return BAD_HANDLE;
@@ -382,6 +386,7 @@ pub(crate) fn seek(object: &mut Object, number: u64, start: usize, end: usize) -
         cache: _cache,
         seats,
         counts: _counts,
+        policy: _policy,
     } = &mut **boxed;
     let Some(request) = seats.find(number) else {
         return BAD_HANDLE;
@@ -433,6 +438,7 @@ pub(crate) fn limit_waits(object: &mut Object, number: u64, most_millis: u64) ->
         cache: _cache,
         seats,
         counts: _counts,
+        policy: _policy,
     } = &mut **boxed;
     let Some(request) = seats.find(number) else {
         return BAD_HANDLE;
@@ -452,6 +458,7 @@ pub(crate) fn waited(object: &mut Object, number: u64, secs: &mut u64, nanos: &m
         cache: _cache,
         seats,
         counts: _counts,
+        policy: _policy,
     } = &mut **boxed;
     let Some(request) = seats.find(number) else {
         return BAD_HANDLE;
@@ -531,6 +538,7 @@ pub(crate) fn meta_of(object: &mut Object, number: u64) -> Result<CacheMeta, u32
         cache: _cache,
         seats,
         counts: _counts,
+        policy: _policy,
     } = &mut **boxed;
     let Some(request) = seats.find(number) else {
         return Err(BAD_HANDLE);
@@ -565,6 +573,7 @@ pub(crate) fn abandoned(object: &mut Object, number: u64, token: &mut u64) -> u3
         cache: _cache,
         seats,
         counts: _counts,
+        policy: _policy,
     } = &mut **boxed;
     let Some(request) = seats.find(number) else {
         return BAD_HANDLE;
@@ -584,6 +593,7 @@ pub(crate) fn limit_body(object: &mut Object, number: u64, most: usize) -> u32
         cache: _cache,
         seats,
         counts: _counts,
+        policy: _policy,
     } = &mut **boxed;
     let Some(request) = seats.find(number) else {
         return BAD_HANDLE;
@@ -603,6 +613,7 @@ pub(crate) fn count_body(object: &mut Object, number: u64, count: usize, within:
         cache: _cache,
         seats,
         counts: _counts,
+        policy: _policy,
     } = &mut **boxed;
     let Some(request) = seats.find(number) else {
         return BAD_HANDLE;
@@ -622,6 +633,7 @@ pub(crate) fn limit_head(object: &mut Object, number: u64, most: usize) -> u32
         cache: _cache,
         seats,
         counts: _counts,
+        policy: _policy,
     } = &mut **boxed;
     let Some(request) = seats.find(number) else {
         return BAD_HANDLE;

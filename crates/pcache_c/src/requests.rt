@@ -10,7 +10,7 @@ ghost use Rattle.pcache_request.specs.Requests.{length_by};
 use crate::codes::{BAD_VALUE, NO_MEMORY, NONE, OK, WRONG_CALL, code_of};
 use crate::handle::PcacheHandle;
 use crate::object::Object;
-use crate::served::{ListCache, Open, let_go};
+use crate::served::{AnyCache, Open, let_go};
 use bytes::Bytes;
 use pcache_base::key::HashBinary;
 use pcache_base::moment::Moment;
@@ -100,7 +100,7 @@ fn number_of_outcome(outcome: Poll<LockWaitOutcome>) -> u32
 
 /// Asks the store, and the lock table if nothing is handed on. Says whether something was found, which stays with the
 /// request until it is taken or passed.
-pub(crate) fn look(cache: &mut ListCache, open: &mut Open, now: Moment, found: &mut u32) -> u32
+pub(crate) fn look(cache: &mut AnyCache, open: &mut Open, now: Moment, found: &mut u32) -> u32
     ensures { Looks now cache.old cache.new open.old open.new found.new result }
 {
     if open.found.is_some() || !open.request.cache.phase().may_look_up() {
@@ -130,7 +130,7 @@ fn forget_piece(open: &mut Open)
 }
 
 /// Takes the pair that a look-up found. Bytes that were read before are no longer returned.
-pub(crate) fn take(cache: &mut ListCache, open: &mut Open, status: HitStatus, now: Moment) -> u32
+pub(crate) fn take(cache: &mut AnyCache, open: &mut Open, status: HitStatus, now: Moment) -> u32
     ensures { Takes status now cache.old cache.new open.old open.new result }
 {
     if !open.request.cache.phase().may_look_up() {
@@ -149,7 +149,7 @@ pub(crate) fn take(cache: &mut ListCache, open: &mut Open, status: HitStatus, no
 }
 
 /// Lets go the pair that a look-up found.
-pub(crate) fn pass(cache: &mut ListCache, open: &mut Open) -> u32
+pub(crate) fn pass(cache: &mut AnyCache, open: &mut Open) -> u32
     ensures { Passes cache.old cache.new open.old open.new result }
 {
     match open.found.take() {
@@ -164,7 +164,7 @@ pub(crate) fn pass(cache: &mut ListCache, open: &mut Open) -> u32
 /// Looks for the variant of what a look-up found: says whether it is the one, 1 or 0. If not, it is let go, and the next look-up is
 /// for the variant.
 pub(crate) fn look_for(
-    cache: &mut ListCache,
+    cache: &mut AnyCache,
     open: &mut Open,
     variance: HashBinary,
     same: &mut u32,
@@ -228,7 +228,7 @@ pub(crate) fn meta_of(open: &Open) -> Result<CacheMeta, u32>
 }
 
 /// Serves a stale body on, of which the origin said that it is good, with this meta's dates and head.
-pub(crate) fn renew(cache: &mut ListCache, open: &mut Open, meta: &CacheMeta) -> u32
+pub(crate) fn renew(cache: &mut AnyCache, open: &mut Open, meta: &CacheMeta) -> u32
     ensures { Renews meta.now cache.old cache.new open.old open.new result }
 {
     if !open.request.cache.may_revalidate() {
@@ -257,7 +257,7 @@ pub(crate) fn serve_updating(open: &mut Open) -> u32
 
 /// Serves a stale body on with the head of an answer that says that it is good, and that is not stored.
 pub(crate) fn serve_on(
-    cache: &mut ListCache,
+    cache: &mut AnyCache,
     open: &mut Open,
     head: &ResponseHeader,
     reason: NoCacheReason,
@@ -277,7 +277,7 @@ pub(crate) fn serve_on(
 }
 
 /// Sets what the response varies on.
-pub(crate) fn vary(cache: &mut ListCache, open: &mut Open, variance: Option<HashBinary>) -> u32
+pub(crate) fn vary(cache: &mut AnyCache, open: &mut Open, variance: Option<HashBinary>) -> u32
     ensures { Varies variance cache.old cache.new open.old open.new result }
 {
     if !open.request.cache.may_write() {
@@ -288,7 +288,7 @@ pub(crate) fn vary(cache: &mut ListCache, open: &mut Open, variance: Option<Hash
 }
 
 /// Begins the write, which the request reads from then on.
-pub(crate) fn begin(cache: &mut ListCache, open: &mut Open) -> u32
+pub(crate) fn begin(cache: &mut AnyCache, open: &mut Open) -> u32
     ensures { Begins cache.old cache.new open.old open.new result }
 {
     if !open.request.cache.may_write() {
@@ -306,7 +306,7 @@ pub(crate) fn begin(cache: &mut ListCache, open: &mut Open) -> u32
 /// Adds bytes to the write.
 pub(crate) fn write(
     alloc: Global,
-    cache: &mut ListCache,
+    cache: &mut AnyCache,
     open: &mut Open,
     bytes: &[u8],
     eof: bool,
@@ -328,7 +328,7 @@ pub(crate) fn write(
 
 /// Ends the write. Says how many bytes were stored, and how many entries were evicted for them.
 pub(crate) fn finish(
-    cache: &mut ListCache,
+    cache: &mut AnyCache,
     open: &mut Open,
     stored: &mut usize,
     evicted: &mut usize,
@@ -352,7 +352,7 @@ pub(crate) fn finish(
 /// Hands over bytes of the body that is read, as many as there are and have room. Says how many, and what is to come: 1 if
 /// there were some, 0 at the end, 3 where the body was cut off, 2 if nothing is there yet.
 pub(crate) fn read(
-    cache: &mut ListCache,
+    cache: &mut AnyCache,
     open: &mut Open,
     out: &mut [u8],
     len: &mut usize,
@@ -370,7 +370,7 @@ pub(crate) fn read(
 
 // The same if nothing is left of what was read.
 fn read_on(
-    cache: &mut ListCache,
+    cache: &mut AnyCache,
     open: &mut Open,
     out: &mut [u8],
     len: &mut usize,
@@ -423,7 +423,7 @@ fn hand_over(open: &mut Open, out: &mut [u8]) -> usize
 /// they are, how many, and what is to come, as `read` does.
 pub(crate) fn view(
     alloc: Global,
-    cache: &mut ListCache,
+    cache: &mut AnyCache,
     open: &mut Open,
     view: &mut PcacheHandle,
     at: &mut *const u8,
@@ -444,7 +444,7 @@ pub(crate) fn view(
 // The same if nothing is left of what was read.
 fn view_on(
     alloc: Global,
-    cache: &mut ListCache,
+    cache: &mut AnyCache,
     open: &mut Open,
     view: &mut PcacheHandle,
     at: &mut *const u8,
@@ -465,7 +465,7 @@ fn view_on(
 }
 
 // Reads a piece, which stays with the request. Says what is to come, as `read` does.
-fn fetch(cache: &mut ListCache, open: &mut Open, more: &mut u32) -> u32
+fn fetch(cache: &mut AnyCache, open: &mut Open, more: &mut u32) -> u32
     requires { rest_of open.old ≡ [] }
     ensures { Fetches more.new cache.old cache.new open.old open.new result }
 {
@@ -525,7 +525,7 @@ fn hand_out(
 }
 
 /// The length of the body that is read.
-pub(crate) fn length(cache: &ListCache, open: &Open, out: &mut usize) -> u32
+pub(crate) fn length(cache: &AnyCache, open: &Open, out: &mut usize) -> u32
     ensures { SaysKnown (length_by open.now.request.cache.reader cache.now.store) out.new result }
 {
     match cache.body_length(&open.request) {
@@ -554,7 +554,7 @@ pub(crate) fn seek(open: &mut Open, start: usize, end: usize) -> u32
 }
 
 /// Ends the reader.
-pub(crate) fn finish_hit(cache: &mut ListCache, open: &mut Open) -> u32
+pub(crate) fn finish_hit(cache: &mut AnyCache, open: &mut Open) -> u32
     ensures { EndsHit cache.old cache.new open.old open.new result }
 {
     if !open.request.cache.phase().may_finish_hit() {
@@ -579,7 +579,7 @@ pub(crate) fn number_of_held(open: &Open) -> u32
 }
 
 /// Whether the wait for the lock is over: says 0 if it is not, else how it ended.
-pub(crate) fn wait(cache: &mut ListCache, open: &mut Open, now: Moment, outcome: &mut u32) -> u32
+pub(crate) fn wait(cache: &mut AnyCache, open: &mut Open, now: Moment, outcome: &mut u32) -> u32
     ensures { Waits now outcome.new cache.old cache.new open.old open.new result }
 {
     if !open.request.cache.phase().is_on() || !open.request.cache.is_cache_locked() {
@@ -623,7 +623,7 @@ pub(crate) fn waited(open: &Open, secs: &mut u64, nanos: &mut u32) -> u32
 }
 
 /// Releases the permit, with the status of the reason.
-pub(crate) fn release(cache: &mut ListCache, open: &mut Open, reason: NoCacheReason) -> u32
+pub(crate) fn release(cache: &mut AnyCache, open: &mut Open, reason: NoCacheReason) -> u32
     ensures { Releases reason cache.old cache.new open.old open.new result }
 {
     if !open.request.cache.may_release(reason) {
@@ -636,7 +636,7 @@ pub(crate) fn release(cache: &mut ListCache, open: &mut Open, reason: NoCacheRea
 }
 
 /// Turns caching off for this request, and gives back all that it holds.
-pub(crate) fn disable(cache: &mut ListCache, open: &mut Open, reason: NoCacheReason) -> u32
+pub(crate) fn disable(cache: &mut AnyCache, open: &mut Open, reason: NoCacheReason) -> u32
     ensures { TurnsOff reason cache.old cache.new open.old open.new result }
 {
     if !open.request.cache.may_disable(reason) {
@@ -649,7 +649,7 @@ pub(crate) fn disable(cache: &mut ListCache, open: &mut Open, reason: NoCacheRea
 }
 
 /// Removes what stands under the request's key. Says whether anything was there, 1 or 0.
-pub(crate) fn purge(cache: &mut ListCache, open: &mut Open, was: &mut u32) -> u32
+pub(crate) fn purge(cache: &mut AnyCache, open: &mut Open, was: &mut u32) -> u32
     ensures { Purges was.new cache.old cache.new open.old open.new result }
 {
     if !open.request.cache.phase().may_purge() {
@@ -665,7 +665,7 @@ pub(crate) fn purge(cache: &mut ListCache, open: &mut Open, was: &mut u32) -> u3
 }
 
 /// Ends the freshness of what stands under the request's key. Says whether a body was there, 1 or 0.
-pub(crate) fn expire(cache: &mut ListCache, open: &mut Open, now: Moment, was: &mut u32) -> u32
+pub(crate) fn expire(cache: &mut AnyCache, open: &mut Open, now: Moment, was: &mut u32) -> u32
     ensures { Expires now was.new cache.old cache.new open.old open.new result }
 {
     if !open.request.cache.phase().may_purge() {

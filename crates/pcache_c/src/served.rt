@@ -2,11 +2,13 @@
 ghost use Rattle.std.specs.Prelude.{◌≡◌, ℕ, None, option_map};
 ghost use Rattle.std.specs.Duration.{as_nanos};
 ghost use Rattle.pcache_store.specs.Readers.{reader_of};
+ghost use Rattle.pcache_c.specs.AnyManagers.{evicted_in, limits_in, named_by, tracked_in};
 ghost use Rattle.pcache_c.specs.Counts.{nothing_counted};
 ghost use Rattle.pcache_c.specs.Opening.{EndsNumber, EndsRequest, IsNew, OpensRequest, new_cache};
 ghost use Rattle.pcache_c.specs.Requests.{KeepsButStore, left_found};
 ghost use Rattle.pcache_c.specs.Seats.{request_at, round_at};
 
+use crate::any_manager::{AnyManager, Policy};
 use crate::codes::{BAD_HANDLE, NO_MEMORY, OK};
 use crate::counts::PcacheCounted;
 use crate::seats::{Seat, Seats};
@@ -14,7 +16,6 @@ use bytes::Bytes;
 use pcache_base::key::CacheKey;
 use pcache_base::seed::Seed;
 use pcache_cache::{Cache, CacheRequest, Weighing};
-use pcache_evict::eviction::simple_lru;
 use pcache_meta::meta::CacheMeta;
 use pcache_store::memory::MemHitHandler;
 use std::alloc::Global;
@@ -23,8 +24,8 @@ use std::time::Duration;
 /// The mark of the cache of a handle, and of its requests.
 pub(crate) struct OfHandle;
 
-/// A cache over one recency list.
-pub(crate) type ListCache = Cache<simple_lru::Manager, OfHandle>;
+/// A cache over a manager of one of several policies.
+pub(crate) type AnyCache = Cache<AnyManager, OfHandle>;
 
 /// An open request, with the pair that its look-up found and the bytes that were read and not
 /// returned yet.
@@ -38,7 +39,7 @@ pub(crate) struct Open {
 
 impl Open {
     // Gives back all that the request holds.
-    fn end(self, cache: &mut ListCache)
+    fn end(self, cache: &mut AnyCache)
         ensures { EndsRequest cache.old cache.new self }
     {
         let Open {
@@ -54,7 +55,7 @@ impl Open {
 }
 
 /// Lets go what a look-up found.
-pub(crate) fn let_go(cache: &mut ListCache, found: Option<(CacheMeta, MemHitHandler)>)
+pub(crate) fn let_go(cache: &mut AnyCache, found: Option<(CacheMeta, MemHitHandler)>)
     ensures store { cache.new.store
         ≡ left_found (option_map (λ q. (q.0, reader_of q.1)) found) cache.old.store }
     ensures rest { KeepsButStore cache.old cache.new }
@@ -66,28 +67,34 @@ pub(crate) fn let_go(cache: &mut ListCache, found: Option<(CacheMeta, MemHitHand
 
 /// A cache with its open requests, and what it counted.
 pub struct Served {
-    pub(crate) cache: ListCache,
+    pub(crate) cache: AnyCache,
     pub(crate) seats: Seats<Open>,
     pub(crate) counts: PcacheCounted,
+    // The policy of the manager that the cache was made with.
+    pub(crate) policy: Policy,
 }
 
 impl Served {
     pub(crate) fn new(
         alloc: Global,
         seed: Seed,
-        manager: simple_lru::Manager,
+        manager: AnyManager,
         age_timeout: Duration,
         weighing: Weighing,
     ) -> Served
-        ensures cache { result.cache ≡ new_cache weighing manager (as_nanos age_timeout) }
+        ensures cache { result.cache ≡ new_cache weighing (tracked_in manager) (limits_in manager)
+            (evicted_in manager) (as_nanos age_timeout) }
         ensures counts { result.counts ≡ nothing_counted }
+        ensures policy { result.policy ≡ named_by manager }
         ensures none { (number : ℕ) → request_at result.seats number ≡ None }
         ensures rounds { (place : ℕ) → round_at result.seats place ≡ 0 }
     {
+        let policy = manager.policy();
         Served {
             cache: Cache::with_weighing(alloc, seed, manager, age_timeout, weighing),
             seats: Seats::new(alloc),
             counts: PcacheCounted::none(),
+            policy,
         }
     }
 
@@ -140,6 +147,7 @@ impl Drop for Served {
                 first_free: _,
             },
             counts: _,
+            policy: _,
         } = self;
         'seats: while let Some(seat) = seats.pop() {
             let Seat {

@@ -10,7 +10,7 @@ ghost use Rattle.pcache_c.specs.Sizes.{CountsBody, LimitsBody, LimitsHead, SaysH
 use crate::codes::{BAD_HANDLE, OK, WRONG_CALL};
 use crate::handle::PcacheHandle;
 use crate::reached;
-use crate::served::{ListCache, Open};
+use crate::served::{AnyCache, Open};
 use std::alloc::Global;
 
 /// Sets how many bytes a body has at most.
@@ -48,7 +48,7 @@ pub(crate) fn limit_head(open: &mut Open, most: usize) -> u32
 }
 
 /// Whether the head of the request's write is longer than it may be, 1 or 0.
-pub(crate) fn is_head_too_long(cache: &ListCache, open: &Open) -> u32
+pub(crate) fn is_head_too_long(cache: &AnyCache, open: &Open) -> u32
     ensures { result
         ≡ from_bool (exceeds_head open.now.request.cache.head_limit
         (written_head cache.now.store open.now.request.cache.write)) }
