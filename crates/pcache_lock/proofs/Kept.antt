@@ -1,7 +1,6 @@
 -- What a deed leaves of its lock (how many read locks name it, and its publications) and of the numbers given.
-use Rattle.std.proofs.Common.{◌≡◌, ◌+◌, ◌-◌, ◌^◌, ◌≤◌, ℕ, Bool, true, false, ◌||◌, Option, None, Some, is_some, List, [], cond, refl, ap, ◌∙◌, arith, min, nat_lt}
-use Rattle.std.specs.Ordering.{nat_cmp}
-use Rattle.std.specs.FinMap.{FinMap, get, insert, remove}
+use Rattle.std.proofs.Common.{◌≡◌, ◌+◌, ◌-◌, ◌^◌, ℕ, Bool, true, false, ◌||◌, Option, None, Some, is_some, List, [], cond, refl, ap, ◌∙◌, arith, min, nat_lt}
+use Rattle.std.specs.FinMap.{get, insert, remove}
 use Rattle.std.proofs.lemmas.Bool.Decides.{nat_tests}
 use Rattle.pcache_lock.specs.declared.lock.outcome.PermitState.{PermitState}
 use Rattle.pcache_lock.specs.declared.lock.outcome.PermitState.TheVariants as stage
@@ -12,7 +11,7 @@ use Rattle.pcache_lock.specs.Locks.{Locks, kept, left, permit_dropped, reader_dr
 use Rattle.pcache_lock.specs.Waiting.{after_poll, permit_state, publications_with, table_at}
 use Rattle.pcache_lock.specs.Deeds.{Deed, Granted, Joined, Released, LetGo, Aged, Left, Polled, Published, Made, ReadLocked, Unlocked}
 use Rattle.pcache_lock.specs.Past.{Does}
-use Rattle.pcache_lock.proofs.PastWaits.{turned_by, left_by, turned}
+use Rattle.pcache_lock.proofs.PastWaits.{left_by, turned}
 
 -- a permit is given, of a lock with a new number
 abbrev pub gives : Deed → Bool

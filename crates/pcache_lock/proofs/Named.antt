@@ -12,7 +12,7 @@ use Rattle.pcache_lock.specs.PastLaws.{NothingRemainsAlways}
 use Rattle.pcache_lock.specs.PastWaits.{number_of}
 use Rattle.pcache_lock.proofs.Tidy.{Stands}
 use Rattle.pcache_lock.proofs.Calls.{any_tidy}
-use Rattle.pcache_lock.proofs.PastWaits.{left_of, turned_by, left_by, turned, turns, own_by}
+use Rattle.pcache_lock.proofs.PastWaits.{turned_by, left_by, turned, turns, own_by}
 
 abbrev Named : Option Core → Type 0
 Named None = Unit {0}

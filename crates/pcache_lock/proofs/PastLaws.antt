@@ -12,12 +12,12 @@ use Rattle.pcache_lock.specs.Past.{Does, PastLeads}
 use Rattle.pcache_lock.specs.PastLaws.{waits_after, waits_for, Gets, IsGiven, AllGiven, is_unlocking, UnlocksNone, grant_of, ends, GivesByPastAlways, AllGivenAlways, AtMostOneWaitsAlways, OneFetchAtATimeAlways}
 use Rattle.pcache_lock.proofs.Tidy.{Tidy, none_some, asked_waits, found}
 use Rattle.pcache_lock.proofs.Calls.{start_tidy_from, past_tidy, any_tidy}
-use Rattle.pcache_lock.proofs.Ends.{waits_until_its_end}
+use Rattle.pcache_lock.proofs.Ends.{waits_after_each_deed}
 
 -- The permits that wait are those that wait by the past.
 pub waits-said : (past : List Deed) (start age : ℕ) (t : Locks) (n : ℕ) → PastLeads past (no_locks_from start age) t → waits_under t n ≡ waits_for n past
 waits-said [] start age t n h = ap (λ u. waits_under u n) h ∙ ap waiting_slot (get-empty nat_cmp n)
-waits-said (deed ∷ past) start age t n h = waits_until_its_end deed h.0 t n h.1.1 ∙ ap (waits_after n deed) (waits-said past start age h.0 n h.1.0)
+waits-said (deed ∷ past) start age t n h = waits_after_each_deed deed h.0 t n h.1.1 ∙ ap (waits_after n deed) (waits-said past start age h.0 n h.1.0)
 
 pub at_most_one : AtMostOneWaitsAlways
 at_most_one t past is slot n m a b =
@@ -118,9 +118,9 @@ waits-first (ReadLocked m) n slot v e = cc
 waits-first (Unlocked m reason) n slot v e = cc
 
 waits-on : (between before : List Deed) (first : Deed) (start age : ℕ) (t : Locks) (n slot : ℕ) → PastLeads (between ++ (first ∷ before)) (no_locks_from start age) t → grant_of first ≡ Some (slot, n) → list_any (ends n) between ≡ false → waits_under t n ≡ Some slot
-waits-on [] before first start age t n slot h grant none = waits_until_its_end first h.0 t n h.1.1 ∙ waits-first first n slot (waits_under h.0 n) grant
+waits-on [] before first start age t n slot h grant none = waits_after_each_deed first h.0 t n h.1.1 ∙ waits-first first n slot (waits_under h.0 n) grant
 waits-on (deed ∷ between) before first start age t n slot h grant none =
-    waits_until_its_end deed h.0 t n h.1.1
+    waits_after_each_deed deed h.0 t n h.1.1
     ∙ stays deed h.0 t n slot h.1.1 (any_tidy (between ++ (first ∷ before)) start age h.0 h.1.0) (neither-first (ends n deed) (list_any (ends n) between) none)
     (waits-on between before first start age h.0 n slot h.1.0 grant (neither-second (ends n deed) (list_any (ends n) between) none))
 

@@ -20,7 +20,7 @@ use Rattle.pcache_lock.proofs.Calls.{reason_ends}
 use Rattle.pcache_lock.specs.PastWaits.{number_of, held_by, is_held, status_by, status_said, given_by, given_at, is_late, stage_by, ReturnsBy, EndsByPastAlways, StatusByPastAlways}
 
 -- Each deed turns its own lock alone.
-written : (cores : FinMap nat_cmp Core) (m : ℕ) (d : Core) (n : ℕ) → get (insert cores m d) n ≡ cond (n == m) (Some d) (get cores n)
+pub written : (cores : FinMap nat_cmp Core) (m : ℕ) (d : Core) (n : ℕ) → get (insert cores m d) n ≡ cond (n == m) (Some d) (get cores n)
 written cores m d n = get-insert nat_cmp_total cores m d n ∙ ap (λ b. cond b (Some d) (get cores n)) (unsigned_tied n m)
 
 gone : (cores : FinMap nat_cmp Core) (m n : ℕ) → get (remove cores m) n ≡ cond (n == m) None (get cores n)
@@ -52,41 +52,41 @@ abbrev pub left_by : (Core → Core) → Option Core → Option Core
 left_by f None = None
 left_by f (Some c) = left_of (f c)
 
-changed-at : (f : Core → Core) (cores : FinMap nat_cmp Core) (m n : ℕ) (o : Option Core) → get cores m ≡ o → get (changed f cores m o) n ≡ cond (n == m) (turned_by f o) (get cores n)
-changed-at f cores m n None e = unknown cores m n e
-changed-at f cores m n (Some c) e = written cores m (f c) n
+pub changed_at : (f : Core → Core) (cores : FinMap nat_cmp Core) (m n : ℕ) (o : Option Core) → get cores m ≡ o → get (changed f cores m o) n ≡ cond (n == m) (turned_by f o) (get cores n)
+changed_at f cores m n None e = unknown cores m n e
+changed_at f cores m n (Some c) e = written cores m (f c) n
 
-read-at : (t : Locks) (m n : ℕ) (o : Option Core) → get t.cores m ≡ o → get (with_read_lock t m o).cores n ≡ cond (n == m) (turned_by with_reader o) (get t.cores n)
-read-at t m n None e = unknown t.cores m n e
-read-at t m n (Some c) e = written t.cores m (with_reader c) n
+pub read_at : (t : Locks) (m n : ℕ) (o : Option Core) → get t.cores m ≡ o → get (with_read_lock t m o).cores n ≡ cond (n == m) (turned_by with_reader o) (get t.cores n)
+read_at t m n None e = unknown t.cores m n e
+read_at t m n (Some c) e = written t.cores m (with_reader c) n
 
 left-cores : (b : Bool) (t : Locks) (current : FinMap nat_cmp ℕ) (n : ℕ) → get (cond b t (record t { current = current })).cores n ≡ get t.cores n
 left-cores true t current n = refl
 left-cores false t current n = refl
 
-released-at : (t : Locks) (m : ℕ) (reason : LockStatus) (n : ℕ) (o : Option Core) → get t.cores m ≡ o → get (released_on t m reason o).cores n ≡ cond (n == m) (left_by (λ c. spent c (released_status reason c.status)) o) (get t.cores n)
-released-at t m reason n None e = unknown t.cores m n e
-released-at t m reason n (Some c) e =
+pub released_at : (t : Locks) (m : ℕ) (reason : LockStatus) (n : ℕ) (o : Option Core) → get t.cores m ≡ o → get (released_on t m reason o).cores n ≡ cond (n == m) (left_by (λ c. spent c (released_status reason c.status)) o) (get t.cores n)
+released_at t m reason n None e = unknown t.cores m n e
+released_at t m reason n (Some c) e =
     let d : Core = spent c (released_status reason c.status) in
     at-kept (left t m c) m d n
     ∙ ap (cond (n == m) (left_of d)) (left-cores (is_aged c.status) t (without_entry m c.slot t.current) n)
 
-dropped-at : (t : Locks) (m n : ℕ) (o : Option Core) → get t.cores m ≡ o → get (permit_dropped t m o).cores n ≡ cond (n == m) (left_by (λ c. spent c (dropped_status c.status)) o) (get t.cores n)
-dropped-at t m n None e = unknown t.cores m n e
-dropped-at t m n (Some c) e = at-kept t m (spent c (dropped_status c.status)) n
+pub dropped_at : (t : Locks) (m n : ℕ) (o : Option Core) → get t.cores m ≡ o → get (permit_dropped t m o).cores n ≡ cond (n == m) (left_by (λ c. spent c (dropped_status c.status)) o) (get t.cores n)
+dropped_at t m n None e = unknown t.cores m n e
+dropped_at t m n (Some c) e = at-kept t m (spent c (dropped_status c.status)) n
 
-unread-at : (t : Locks) (m n : ℕ) (o : Option Core) → get t.cores m ≡ o → get (reader_dropped t m o).cores n ≡ cond (n == m) (left_by without_reader o) (get t.cores n)
-unread-at t m n None e = unknown t.cores m n e
-unread-at t m n (Some c) e = at-kept t m (without_reader c) n
+pub unread_at : (t : Locks) (m n : ℕ) (o : Option Core) → get t.cores m ≡ o → get (reader_dropped t m o).cores n ≡ cond (n == m) (left_by without_reader o) (get t.cores n)
+unread_at t m n None e = unknown t.cores m n e
+unread_at t m n (Some c) e = at-kept t m (without_reader c) n
 
 aged-by : (s : PermitState) (t : Locks) (m n : ℕ) (c : Core) → is_old s ≡ true → get (table_at s t m c).cores n ≡ cond (n == m) (Some (aged c)) (get t.cores n)
 aged-by stage.Over t m n c old = cc
 aged-by stage.Old t m n c old = written t.cores m (aged c) n
 aged-by stage.Held t m n c old = cc
 
-aged-at : (t : Locks) (now m n : ℕ) (o : Option Core) → get t.cores m ≡ o → is_old_at now o ≡ true → get (after_poll t now m o).cores n ≡ cond (n == m) (turned_by aged o) (get t.cores n)
-aged-at t now m n None e old = unknown t.cores m n e
-aged-at t now m n (Some c) e old = aged-by (permit_state now c) t m n c old
+pub aged_at : (t : Locks) (now m n : ℕ) (o : Option Core) → get t.cores m ≡ o → is_old_at now o ≡ true → get (after_poll t now m o).cores n ≡ cond (n == m) (turned_by aged o) (get t.cores n)
+aged_at t now m n None e old = unknown t.cores m n e
+aged_at t now m n (Some c) e old = aged-by (permit_state now c) t m n c old
 
 -- what a deed makes of its lock
 abbrev pub turned : ℕ → Deed → Option Core → Option Core
@@ -106,18 +106,18 @@ pub turns : (deed : Deed) (s t : Locks) (n : ℕ) → Does deed s t → get t.co
 turns (Granted slot m stale now) s t n h =
     let c : Core = new_core (Some slot) s.age_timeout stale now in
     ap (λ u. get u.cores n) h.2 ∙ written s.cores s.next c n ∙ ap (λ x. cond (n == x) (Some c) (get s.cores n)) (sym h.1)
-turns (Joined slot m now) s t n h = ap (λ u. get u.cores n) h.1 ∙ read-at s m n (get s.cores m) refl
-turns (Released m reason) s t n h = ap (λ u. get u.cores n) h.1 ∙ released-at s m reason n (get s.cores m) refl
-turns (LetGo m) s t n h = ap (λ u. get u.cores n) h ∙ dropped-at s m n (get s.cores m) refl
-turns (Aged m now) s t n h = ap (λ u. get u.cores n) h.1 ∙ aged-at s now m n (get s.cores m) refl h.0
-turns (Left m) s t n h = ap (λ u. get u.cores n) h ∙ unread-at s m n (get s.cores m) refl
+turns (Joined slot m now) s t n h = ap (λ u. get u.cores n) h.1 ∙ read_at s m n (get s.cores m) refl
+turns (Released m reason) s t n h = ap (λ u. get u.cores n) h.1 ∙ released_at s m reason n (get s.cores m) refl
+turns (LetGo m) s t n h = ap (λ u. get u.cores n) h ∙ dropped_at s m n (get s.cores m) refl
+turns (Aged m now) s t n h = ap (λ u. get u.cores n) h.1 ∙ aged_at s now m n (get s.cores m) refl h.0
+turns (Left m) s t n h = ap (λ u. get u.cores n) h ∙ unread_at s m n (get s.cores m) refl
 turns (Polled m now) s t n h = ap (λ u. get u.cores n) h.1 ∙ same_by s.cores m n (n == m) refl
-turns (Published m tokens) s t n h = ap (λ u. get u.cores n) h ∙ changed-at (with_publication tokens) s.cores m n (get s.cores m) refl
+turns (Published m tokens) s t n h = ap (λ u. get u.cores n) h ∙ changed_at (with_publication tokens) s.cores m n (get s.cores m) refl
 turns (Made m own stale now) s t n h =
     let c : Core = new_core None own stale now in
     ap (λ u. get u.cores n) h.1 ∙ written s.cores s.next c n ∙ ap (λ x. cond (n == x) (Some c) (get s.cores n)) (sym h.0)
-turns (ReadLocked m) s t n h = ap (λ u. get u.cores n) h ∙ read-at s m n (get s.cores m) refl
-turns (Unlocked m reason) s t n h = ap (λ u. get u.cores n) h.1 ∙ changed-at (ended reason) s.cores m n (get s.cores m) refl
+turns (ReadLocked m) s t n h = ap (λ u. get u.cores n) h ∙ read_at s m n (get s.cores m) refl
+turns (Unlocked m reason) s t n h = ap (λ u. get u.cores n) h.1 ∙ changed_at (ended reason) s.cores m n (get s.cores m) refl
 
 pub own_by : {A B : Type 0} (f : A → B) (g : ℕ → A) (m n : ℕ) (y : B) (b : Bool) → (n == m) ≡ b → cond b (f (g m)) y ≡ cond b (f (g n)) y
 own_by f g m n y false e = refl

@@ -5,22 +5,18 @@ use Rattle.pcache_lock.specs.declared.lock.permit.Locked.{Locked}
 use Rattle.pcache_lock.specs.declared.lock.permit.Locked.TheVariants.{Write, Read}
 use Rattle.pcache_lock.specs.Locks.{Locks, holder, lock_given}
 use Rattle.pcache_lock.specs.Waits.{AskFindsTheWaiting, NothingRemains, OneWaits, waits_under}
-use Rattle.pcache_lock.specs.Deeds.{Deed, Granted, Joined, Released, LetGo, Aged, Left, Polled, Published, Made, ReadLocked, Unlocked}
+use Rattle.pcache_lock.specs.Deeds.{Deed, Granted, Joined, Released, LetGo, Aged, Made, Unlocked}
 use Rattle.pcache_lock.specs.Past.{Does, IsPastOf}
 
 -- the key for which a permit waits, after one more deed
 abbrev pub waits_after : ℕ → Deed → Option ℕ → Option ℕ
 waits_after n (Granted slot m stale now) before = cond (n == m) (Some slot) before
-waits_after n (Joined slot m now) before = before
 waits_after n (Released m reason) before = cond (n == m) None before
 waits_after n (LetGo m) before = cond (n == m) None before
 waits_after n (Aged m now) before = cond (n == m) None before
-waits_after n (Left m) before = before
-waits_after n (Polled m now) before = before
-waits_after n (Published m tokens) before = before
 waits_after n (Made m age_timeout stale now) before = cond (n == m) None before
-waits_after n (ReadLocked m) before = before
 waits_after n (Unlocked m reason) before = cond (n == m) None before
+waits_after n _ before = before
 
 -- the slot of the key for which a permit waits, by its number: it was given for that key, and since then neither released,
 -- nor let go, nor found too old, nor unlocked
@@ -45,15 +41,7 @@ GivesByPast t past = (slot : ℕ) (stale : Bool) → Gets past slot (lock_given 
 abbrev pub IsGiven : Deed → List Deed → Type 0
 IsGiven (Granted slot m stale now) past = NoneWaits past slot
 IsGiven (Joined slot m now) past = waits_for m past ≡ Some slot
-IsGiven (Released m reason) past = Unit {0}
-IsGiven (LetGo m) past = Unit {0}
-IsGiven (Aged m now) past = Unit {0}
-IsGiven (Left m) past = Unit {0}
-IsGiven (Polled m now) past = Unit {0}
-IsGiven (Published m tokens) past = Unit {0}
-IsGiven (Made m age_timeout stale now) past = Unit {0}
-IsGiven (ReadLocked m) past = Unit {0}
-IsGiven (Unlocked m reason) past = Unit {0}
+IsGiven _ past = Unit {0}
 
 abbrev pub AllGiven : List Deed → Type 0
 AllGiven [] = Unit {0}
@@ -61,17 +49,8 @@ AllGiven (deed ∷ past) = IsGiven deed past × AllGiven past
 
 -- the final status of a lock was set while its permit was held
 abbrev pub is_unlocking : Deed → Bool
-is_unlocking (Granted slot m stale now) = false
-is_unlocking (Joined slot m now) = false
-is_unlocking (Released m reason) = false
-is_unlocking (LetGo m) = false
-is_unlocking (Aged m now) = false
-is_unlocking (Left m) = false
-is_unlocking (Polled m now) = false
-is_unlocking (Published m tokens) = false
-is_unlocking (Made m age_timeout stale now) = false
-is_unlocking (ReadLocked m) = false
 is_unlocking (Unlocked m reason) = true
+is_unlocking _ = false
 
 -- that never happened
 abbrev pub UnlocksNone : List Deed → Type 0
@@ -84,30 +63,15 @@ AtMostOneWaits past = (slot n m : ℕ) → waits_for n past ≡ Some slot → wa
 -- the key and the number of a permit that was given for a key
 abbrev pub grant_of : Deed → Option (ℕ × ℕ)
 grant_of (Granted slot m stale now) = Some (slot, m)
-grant_of (Joined slot m now) = None
-grant_of (Released m reason) = None
-grant_of (LetGo m) = None
-grant_of (Aged m now) = None
-grant_of (Left m) = None
-grant_of (Polled m now) = None
-grant_of (Published m tokens) = None
-grant_of (Made m age_timeout stale now) = None
-grant_of (ReadLocked m) = None
-grant_of (Unlocked m reason) = None
+grant_of _ = None
 
 -- a permit ends: it is released, let go, found too old, or unlocked
 abbrev pub ends : ℕ → Deed → Bool
-ends n (Granted slot m stale now) = false
-ends n (Joined slot m now) = false
 ends n (Released m reason) = n == m
 ends n (LetGo m) = n == m
 ends n (Aged m now) = n == m
-ends n (Left m) = false
-ends n (Polled m now) = false
-ends n (Published m tokens) = false
-ends n (Made m age_timeout stale now) = false
-ends n (ReadLocked m) = false
 ends n (Unlocked m reason) = n == m
+ends n _ = false
 
 -- one fetch at a time: of two permits that were given for one key the first ended before the second was given
 abbrev pub OneFetchAtATime : List Deed → Type 0
@@ -139,5 +103,5 @@ abbrev pub NothingRemainsAlways : Type 0
 NothingRemainsAlways = (t : Locks) (past : List Deed) → IsPastOf t past → NothingRemains t
 
 -- whichever deed is done to whichever table, those permits wait after it that the deed says
-abbrev pub WaitsUntilItsEnd : Type 0
-WaitsUntilItsEnd = (deed : Deed) (s t : Locks) (n : ℕ) → Does deed s t → waits_under t n ≡ waits_after n deed (waits_under s n)
+abbrev pub WaitsAfterEachDeed : Type 0
+WaitsAfterEachDeed = (deed : Deed) (s t : Locks) (n : ℕ) → Does deed s t → waits_under t n ≡ waits_after n deed (waits_under s n)

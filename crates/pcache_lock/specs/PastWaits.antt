@@ -34,16 +34,10 @@ number_of (Unlocked m reason) = m
 -- whether a permit is held, after one more deed that was done to its lock
 abbrev pub held_by : Deed → Bool → Bool
 held_by (Granted slot m stale now) before = true
-held_by (Joined slot m now) before = before
 held_by (Released m reason) before = false
 held_by (LetGo m) before = false
-held_by (Aged m now) before = before
-held_by (Left m) before = before
-held_by (Polled m now) before = before
-held_by (Published m tokens) before = before
 held_by (Made m age_timeout stale now) before = true
-held_by (ReadLocked m) before = before
-held_by (Unlocked m reason) before = before
+held_by _ before = before
 
 -- a permit is held: it was given, and since then neither released nor let go
 abbrev pub is_held : ℕ → List Deed → Bool
@@ -53,16 +47,12 @@ is_held n (deed ∷ past) = cond (n == number_of deed) (held_by deed (is_held n 
 -- the status of a lock, after one more deed that was done to it
 abbrev pub status_by : Deed → LockStatus → LockStatus
 status_by (Granted slot m stale now) before = status.Waiting
-status_by (Joined slot m now) before = before
 status_by (Released m reason) before = released_status reason before
 status_by (LetGo m) before = dropped_status before
 status_by (Aged m now) before = status.AgeTimeout
-status_by (Left m) before = before
-status_by (Polled m now) before = before
-status_by (Published m tokens) before = before
 status_by (Made m age_timeout stale now) before = status.Waiting
-status_by (ReadLocked m) before = before
 status_by (Unlocked m reason) before = reason
+status_by _ before = before
 
 -- how a permit ended: with the reason of its release, unless it was found too old before; dangling if it was let go
 abbrev pub status_said : ℕ → List Deed → LockStatus
@@ -72,16 +62,8 @@ status_said n (deed ∷ past) = cond (n == number_of deed) (status_by deed (stat
 -- the moment when a permit was given, and the age at which it is too old: of a permit for a key the table's, else its own
 abbrev pub given_by : (age_timeout : ℕ) → Deed → ℕ × ℕ → ℕ × ℕ
 given_by age (Granted slot m stale now) before = (now, age)
-given_by age (Joined slot m now) before = before
-given_by age (Released m reason) before = before
-given_by age (LetGo m) before = before
-given_by age (Aged m now) before = before
-given_by age (Left m) before = before
-given_by age (Polled m now) before = before
-given_by age (Published m tokens) before = before
 given_by age (Made m age_timeout stale now) before = (now, age_timeout)
-given_by age (ReadLocked m) before = before
-given_by age (Unlocked m reason) before = before
+given_by age _ before = before
 
 abbrev pub given_at : (age_timeout : ℕ) → ℕ → List Deed → ℕ × ℕ
 given_at age n [] = (0, 0)

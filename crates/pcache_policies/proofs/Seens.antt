@@ -29,9 +29,6 @@ pub found_same : (k : CacheEntryKey) (q r : Queue) → map_of (plain r) ≡ map_
 found_same k q r same =
     sym (some-plain k r) ∙ ap is_some (sym (get-map_of (plain r) k)) ∙ ap (λ m. is_some (fin.get m k)) same ∙ ap is_some (get-map_of (plain q) k) ∙ some-plain k q
 
-pub absent_same : (k : CacheEntryKey) (old new : Ring) → SameEntries old new → seen_of k (all old) ≡ None → seen_of k (all new) ≡ None
-absent_same k old new same none = none_some (seen_of k (all new)) (found_same k (all old) (all new) same ∙ ap is_some none)
-
 -- what was chosen, and the others, weigh what all weighed
 pub whole_weight : (old new : Ring) → IsOnce (all old) → IsOnce (all new) → SameEntries old new → weight (entries (shown old)) ≡ weight (entries (left_of new)) + weight (plain new.leaving)
 whole_weight old new d e same =

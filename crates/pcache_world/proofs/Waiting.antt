@@ -27,7 +27,7 @@ use Rattle.pcache_base.specs.declared.reason.NoCacheReason.{NoCacheReason}
 use Rattle.pcache_base.specs.declared.reason.NoCacheReason.TheVariants as reason
 use Rattle.pcache_history.proofs.Waiting.{after-in}
 use Rattle.pcache_lock.proofs.Calls.{finds_the_waiting}
-use Rattle.pcache_lock.proofs.Ends.{waits_until_its_end}
+use Rattle.pcache_lock.proofs.Ends.{waits_after_each_deed}
 use Rattle.pcache_request.specs.LockUse.{published_by}
 use Rattle.pcache_request.specs.LockWaits.{is_old_result, too_old_for}
 use Rattle.pcache_request.specs.Releasing.{status_for}
@@ -107,7 +107,7 @@ by-deed : (deed : table.Deed) (events : List Event) (t u : Locks) → Does deed 
 by-deed deed events t u does locks given under asked reached = record {
   reached = record { past = deed ∷ reached.past; led = grows t u reached.past deed reached.led does; unlocks = ap (λ b. b || list_any is_unlocking reached.past) locks ∙ reached.unlocks };
   given = given reached;
-  waiting = λ i. record { under = λ q. (waits_until_its_end deed t u q does ∙ under q) i; asked = (next-then deed t u does ∙ asked) i };
+  waiting = λ i. record { under = λ q. (waits_after_each_deed deed t u q does ∙ under q) i; asked = (next-then deed t u does ∙ asked) i };
 }
 
 gives-permit : (t : Locks) (k : ℕ) (stale : Bool) (now : ℕ) → holder t k ≡ None → Steps t (E.Ask k t.next true ∷ []) (after_request t k stale now None)

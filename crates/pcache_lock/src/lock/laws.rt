@@ -1,7 +1,7 @@
 //! Laws of all tables of locks, by their pasts.
-ghost use Rattle.pcache_lock.specs.PastLaws.{AllGivenAlways, AskFindsTheWaitingAlways, AtMostOneWaitsAlways, GivesByPastAlways, NothingRemainsAlways, OneFetchAtATimeAlways, OneWaitsAlways, WaitsUntilItsEnd};
+ghost use Rattle.pcache_lock.specs.PastLaws.{AllGivenAlways, AskFindsTheWaitingAlways, AtMostOneWaitsAlways, GivesByPastAlways, NothingRemainsAlways, OneFetchAtATimeAlways, OneWaitsAlways, WaitsAfterEachDeed};
 ghost use Rattle.pcache_lock.specs.PastWaits.{EndsByPastAlways, StatusByPastAlways};
-ghost use Rattle.pcache_lock.specs.Waits.{LooksAtEachPublication};
+ghost use Rattle.pcache_lock.specs.Waits.{LooksAtEachPublication, WaitsUntilItsEnd};
 
 /// Of the permits that were given for one key at most one waits.
 pub fn at_most_one_waits()
@@ -15,9 +15,11 @@ pub fn request_finds_the_waiting()
 {}
 
 /// A permit waits from when it is given until it is released, unlocked, let go or found too old,
-/// whatever else happens to other locks.
+/// whatever else happens to other locks. So says each function of tables (`tables`), and each deed
+/// (`deeds`).
 pub fn permits_wait_until_their_end()
-    ensures { WaitsUntilItsEnd }
+    ensures tables { WaitsUntilItsEnd }
+    ensures deeds { WaitsAfterEachDeed }
 {}
 
 /// What a reader is told does not depend on how often it polls: the first publication since its
