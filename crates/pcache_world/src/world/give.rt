@@ -33,6 +33,7 @@ pub(crate) fn give<P: PutPolicy>(
     let Some(permit) = take(requests, from) else {
         return Reply::WrongCall;
     };
+    // They may be one request: the permit is out of its hands, so it lets nothing go.
     let let_go = hand(requests, lock, permit, to);
     if let Some(lock) = let_go {
         events.push_reserved(Event::LetGo { lock });

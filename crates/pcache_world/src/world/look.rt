@@ -108,6 +108,7 @@ fn look_up(
     let Some(key) = request.cache.key() else {
         unreachable!()
     };
+    // Copied before the look-up: once that has an effect, it is too late to fail for memory.
     match kept_meta(*events.allocator(), store, key) {
         Ok(kept) => look_up_keeping(request, store, lock, events, now, kept),
         Err(refused) => Reply::Refused(refused.etype()),
@@ -248,6 +249,7 @@ fn note_look(
         answer,
     } = note;
     let found = reply_of(&answer);
+    // Also if the lock is refused then: by its events alone a history tells whether a policy was asked.
     events.push_reserved(Event::Look { slot, answer });
     match looked {
         LookUp::Found(meta, hit) => {

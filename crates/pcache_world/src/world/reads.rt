@@ -54,7 +54,7 @@ pub(crate) fn read(
     reply
 }
 
-// The reply to a read. The bytes count as read even if copying them fails.
+// The reply to a read. The bytes count as read even if copying them fails: the reader has moved on by then.
 fn reply_of(answer: &Poll<Option<Bytes>>) -> Reply
     ensures reply { (result ≡ read_reply answer.now)
         ⊎ ((gives_piece answer.now ≡ true) × (result ≡ replies.Refused OutOfMemory)) }

@@ -109,6 +109,7 @@ pub(crate) fn expire<M: EvictionManager>(
         .expire(&mut parts.store, &mut parts.manager, now)
     {
         Ok(was_there) => {
+            // Also if nothing is stored. It is of the body of this moment: a write in flight keeps the meta that it began with.
             events.push_reserved(Event::Expire { slot, now });
             reply_of(was_there)
         }

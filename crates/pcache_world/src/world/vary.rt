@@ -82,7 +82,8 @@ pub(crate) fn variance(
 /// Copies of what a call passes on: the meta of a revalidation, for the request and for its event.
 pub(crate) type Spare = (CacheMeta, Boxed<CacheMeta>);
 
-/// The copies that a call needs. They are made before the call, which then cannot fail half way.
+/// The copies that a call needs. They are made before the call: a failure inside it is then the store's, after which the request is
+/// revalidated all the same, and the history needs no event to tell the two apart.
 pub(crate) fn spare_of(act: &Act) -> Result<Option<Spare>>
     ensures ok { IfOk result (λ spare. spare ≡ spare_of act.now) }
     ensures kind { IfErr result (λ e. e ≡ OutOfMemory) }

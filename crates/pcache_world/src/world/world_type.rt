@@ -452,6 +452,7 @@ fn make_ready<M: EvictionManager>(
     ensures kind { IfErr result (λ e. e ≡ OutOfMemory) }
 {
     history.reserve(1)?;
+    // Not when the world is made, since that takes no memory.
     if start.is_none() {
         *start = Some(parts.manager.entries()?);
     }
@@ -538,6 +539,7 @@ fn doubled(reply: Reply) -> (Reply, Reply)
 {
     match reply.copied() {
         Ok(copy) => (reply, copy),
+        // The call was made, so the caller and the history have the same failure.
         Err(_) => (
             Reply::Refused(ErrorType::OutOfMemory),
             Reply::Refused(ErrorType::OutOfMemory),
