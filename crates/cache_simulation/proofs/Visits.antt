@@ -158,7 +158,7 @@ pub tells : (setting : Setting) (policy : Named) (size : ℕ) (asked : List Requ
     → ((before asked : List Request) (rules : Rules) (start : Option Fresh) → Stands before asked rules start c.gone c.run → Ran before asked rules start told) → Got setting policy size asked c → Tells setting policy size asked told
 tells setting policy size asked c told same ran got = (
   same ∙ ap (λ p. p.0) got.shape,
-  subst (λ (n : ℕ). Ran [] asked (rules_in setting n) (start_in setting) told) (ap (λ p. p.1) got.shape) (ran [] asked (rules_in setting c.size) (start_in setting) got.stands),
+  subst (λ (p : Named × ℕ). Ran [] asked (rules_in p.0 setting p.1) (start_in setting) told) got.shape (ran [] asked (rules_in (policy_of c.run) setting c.size) (start_in setting) got.stands),
 )
 
 -- ---- a request that was made
