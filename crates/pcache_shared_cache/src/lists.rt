@@ -40,7 +40,8 @@ impl<K: Mark, const N: usize> SharedCache<Manager, K, N> {
         requires some { 0 < N }
         requires unnamed { (place : ℕ) → K.names place ≡ None }
         ensures begins { IfOk result (λ c. c
-            ≡ map (opened (as_nanos age_timeout)) (map no_entries (portions Lru N limit watermark))) }
+            ≡ map (opened (as_nanos age_timeout))
+            (map no_entries (portions Lru N limit watermark))) }
         ensures limits { IfOk result (λ c. limits_in c ≡ portions Lru N limit watermark) }
         ensures whole { IfOk result (λ c. whole_weight (limits_in c) ≡ limit) }
         ensures kind { IfErr result (λ e. e ≡ OutOfMemory) }

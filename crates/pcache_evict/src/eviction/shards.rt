@@ -386,8 +386,8 @@ impl<S: BuildHasher + Copy + Drop, const N: usize> RecencyShards<S, N> {
         requires sum { weight (others item.now (span self.now from (to - from))) ≤ start.sum }
         requires count { length (others item.now (span self.now from (to - from))) ≤ start.count }
         requires fits { start.room + start.count ≤ 2 ^ 63 }
-        ensures { Walks (limits_of ShardedLru limit watermark) item.now (span self.now from (to - from)) start
-            result }
+        ensures { Walks (limits_of ShardedLru limit watermark) item.now
+            (span self.now from (to - from)) start result }
     {
         let mut walk = start;
         for place in from..to {
@@ -414,7 +414,8 @@ impl<S: BuildHasher + Copy + Drop, const N: usize> RecencyShards<S, N> {
         requires none { out.old.items ≡ [] }
         requires room { IsEnough (limits_of ShardedLru limit watermark) (chain N place self.old)
             (vec_capacity out.old) }
-        ensures runs { RunsOut (limits_of ShardedLru limit watermark) self.old out.new.items self.new }
+        ensures runs { RunsOut (limits_of ShardedLru limit watermark) self.old out.new.items
+            self.new }
         ensures gone { result ≡ min (weight (all self.old) - weight (all self.new)) (2 ^ 64 - 1) }
     {
         let before = self.weight();
