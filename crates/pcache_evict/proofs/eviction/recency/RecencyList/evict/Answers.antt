@@ -19,3 +19,14 @@ loop-watermark-preserved g c =
           (pops-more _ _ _ _ (c.in-Some.key, c.in-Some.field-0-1) _ i.pops c.in-Some.ensures.last over);
       room = c.push_reserved.ensures.capacity ∙ i.room;
     }
+
+pub returns-clause-evicts : goal.returns-clause-evicts
+returns-clause-evicts g c =
+    let p = c.loop-watermark.invariant.pops in
+    record {
+      tail = p.tail;
+      split = p.split;
+      order = p.order;
+      enough = c.loop-watermark-test.ensures.within Lru refl c.loop-watermark.self c.weight.ensures.value c.len.ensures.value;
+      shortest = p.shortest;
+    }

@@ -32,3 +32,12 @@ returns g c =
     let many = ap (λ (l : Recency). length l) c.self.view_is in
     let longer = length-others c.args.item.now c.args.self.now once in
     enough_above _ _ c.args.size _ _ _ (c.walk.ensures Lru) refl (omega (arith, whole, parts)) (omega (arith, c.len.ensures.len, many, longer))
+
+pub overflow_add-result : goal.overflow_add-result
+overflow_add-result g c =
+    let w = c.walk.ensures Lru in
+    let count = w.count in
+    let room = w.room in
+    let few = c.self.invariant.few in
+    let long = c.len.ensures.len in
+    omega arith

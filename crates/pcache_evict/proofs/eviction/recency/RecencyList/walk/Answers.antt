@@ -1,6 +1,8 @@
-use Rattle.std.proofs.Common.{[], ◌∙◌, ap, sym, arith, length}
+use Rattle.std.proofs.Common.{[], ◌∙◌, ap, sym, arith, length, refl, rules}
 use Rattle.std.proofs.lemmas.List.{append-nil}
+use Rattle.pcache_evict.specs.Tracked.{limits_of}
 use Rattle.pcache_evict.specs.Recency.{Recency, weight, others}
+use Rattle.pcache_evict.specs.Chain.{IsWithinTotals}
 use Rattle.pcache_evict.proofs.eviction.recency.RecencyList.walk.Goals as goal
 
 -- nothing was passed yet
@@ -17,3 +19,8 @@ loop-left-init g c =
       room = omega arith;
       fits = omega arith;
     }
+
+pub returns : goal.returns
+returns g c = λ policy.
+    let ends : IsWithinTotals (limits_of policy c.args.limit c.args.watermark) c.loop-left.sum c.loop-left.count = c.loop-left-test.ensures.small policy refl in
+    search rules
