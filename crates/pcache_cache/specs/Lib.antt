@@ -1,4 +1,5 @@
 pub mod Ending
+pub mod Feeding
 pub mod Filling
 pub mod Growing
 pub mod Locking

@@ -67,7 +67,8 @@ impl<M: EvictionManager, K> Cache<M, K> {
         eof: bool,
     ) -> Result<bool>
         requires { IsFilling request.old.cache.phase }
-        ensures takes { Writes result bytes eof request.old.cache request.new.cache self.old self.new }
+        ensures takes { Writes result bytes eof request.old.cache request.new.cache self.old
+            self.new }
     {
         let Some(writer) = request.cache.miss_handler() else {
             return Ok(false);

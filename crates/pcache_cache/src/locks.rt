@@ -35,7 +35,8 @@ impl<M: EvictionManager, K> Cache<M, K> {
         reason: NoCacheReason,
     ) -> Option<ReleasedLock>
         requires { MayRelease reason request.old.cache.held }
-        ensures takes { Releases result reason request.old.cache request.new.cache self.old self.new }
+        ensures takes { Releases result reason request.old.cache request.new.cache self.old
+            self.new }
     {
         request.cache.release_write_lock(&mut self.lock, reason)
     }
@@ -48,7 +49,8 @@ impl<M: EvictionManager, K> Cache<M, K> {
         permit: WritePermit,
     ) -> Option<LockName>
         requires { IsOn request.old.cache.phase }
-        ensures takes { TakesPermit result permit request.old.cache request.new.cache self.old self.new }
+        ensures takes { TakesPermit result permit request.old.cache request.new.cache self.old
+            self.new }
     {
         request.cache.set_write_lock(&mut self.lock, permit)
     }

@@ -135,7 +135,8 @@ impl<M: EvictionManager, K> Cache<M, K> {
         now: Moment,
     ) -> Result<()>
         requires { MayLookUp request.old.cache.phase }
-        ensures takes { TakesFound result status meta (reader_of hit) now request.old.cache request.new.cache self.old self.new }
+        ensures takes { TakesFound result status meta (reader_of hit) now request.old.cache
+            request.new.cache self.old self.new }
     {
         request.cache.cache_found_tracked(
             &mut self.store,
@@ -198,7 +199,8 @@ impl<M: EvictionManager, K> Cache<M, K> {
         reason: NoCacheReason,
     ) -> Option<LockName>
         requires { MayDisable reason request.old.cache }
-        ensures takes { Disables result reason request.old.cache request.new.cache self.old self.new }
+        ensures takes { Disables result reason request.old.cache request.new.cache self.old
+            self.new }
     {
         request
             .cache

@@ -27,7 +27,8 @@ impl<M: EvictionManager, K> Cache<M, K> {
         meta: CacheMeta,
     ) -> Result<bool>
         requires { MayRevalidate request.old.cache }
-        ensures takes { Revalidates result meta request.old.cache request.new.cache self.old self.new }
+        ensures takes { Revalidates result meta request.old.cache request.new.cache self.old
+            self.new }
     {
         // For the prover: a complete body has the number of its write.
         self.store.headline();
@@ -57,7 +58,8 @@ impl<M: EvictionManager, K> Cache<M, K> {
     ) -> Option<LockName>
         requires stale { MayRevalidate request.old.cache }
         requires reason { MayRelease reason request.old.cache.held }
-        ensures takes { ServesUncacheable result (shown header) reason request.old.cache request.new.cache self.old self.new }
+        ensures takes { ServesUncacheable result (shown header) reason request.old.cache
+            request.new.cache self.old self.new }
     {
         request
             .cache
@@ -71,7 +73,8 @@ impl<M: EvictionManager, K> Cache<M, K> {
         variance: Option<HashBinary>,
     ) -> Option<LockName>
         requires { MayWrite request.old.cache }
-        ensures takes { Varies result variance request.old.cache request.new.cache self.old self.new }
+        ensures takes { Varies result variance request.old.cache request.new.cache self.old
+            self.new }
     {
         request.cache.update_variance(&mut self.lock, variance)
     }

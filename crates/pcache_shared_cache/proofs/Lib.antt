@@ -7,6 +7,5 @@ pub mod Logs
 pub mod Parting
 pub mod Placing
 pub mod Pushed
-pub mod Rows
 pub mod Together
 pub mod Unlocked
