@@ -6,10 +6,11 @@ use Rattle.pcache_base.specs.declared.error.ErrorType.TheVariants.{NumbersExhaus
 use Rattle.pcache_base.specs.declared.poll.Poll.{Poll}
 use Rattle.pcache_lock.specs.Locks.{MayFailLock}
 use Rattle.pcache_meta.specs.Meta.{Meta}
+use Rattle.pcache_request.specs.Admissions.{decision_taken, looked_with, store_looked_with, table_looked_with, with_decision}
 use Rattle.pcache_request.specs.Failures.{FailsToLook}
-use Rattle.pcache_request.specs.LockPasts.{found_deeds, looked_deeds}
+use Rattle.pcache_request.specs.LockPasts.{found_deeds, looked_deeds, looked_with_deeds}
 use Rattle.pcache_request.specs.Requests.{Request, asks_for_hit, counts_found, found_for, found_row, left_by, store_found, table_found, without_reader}
-use Rattle.pcache_request.specs.StorePasts.{left_past, searched_past, taken_past}
+use Rattle.pcache_request.specs.StorePasts.{left_past, looked_past, searched_past, taken_past}
 use Rattle.pcache_request.specs.Variants.{asks_unseen, hides_for, looked_for, searched, seen_for, table_looked_for}
 use Rattle.pcache_request.specs.declared.phase.HitStatus.{HitStatus}
 use Rattle.pcache_store.specs.Notes.{leave_noted, noted}
@@ -30,6 +31,24 @@ pub record LooksUp (result : Result (Option (Meta × MemHitHandler)) ErrorType) 
   pub phase : OnOk result (s.phase ≡ r.phase)
   pub uses : OnOk result (s.uses ≡ r.uses)
   pub same_request : OnErr result (s ≡ r)
+  pub left : OnErr result (FailsToLook p.store r (Some p.past) q.store (Some q.past))
+  pub same_store : OnErr result (hides_for p.store r ≡ false → q.store ≡ p.store)
+  pub same_table : OnErr result (q.locks ≡ p.locks)
+  pub same_deeds : OnErr result (q.deeds ≡ p.deeds)
+  pub kind : IfErr result (λ e. MayFailLock p.locks e)
+  pub numbers : IfErr result (λ e. e ≡ NumbersExhausted → IsTrue (asks_unseen p.store r))
+  pub something : OnErr result (IsSome (found_for p.store r.key) ⊎ IsTrue r.uses.lock)
+  pub rest : q ≡ record p { store = q.store; past = q.past; locks = q.locks; deeds = q.deeds }
+
+-- the key is looked up, with this pair; if the store had nothing, a policy in use was asked first, and decided so
+pub record LooksUpAsking (result : Result (Option (Meta × MemHitHandler)) ErrorType) (now : ℕ) (r s : Request) (p q : Parts) : Type 0 where
+  pub found : IfOk result (λ f. option_map (λ x. (x.0, reader_of x.1)) f ≡ seen_for p.store r)
+  pub request : OnOk result (s ≡ looked_with (decision_taken p.store r s) p.store p.locks r)
+  pub store : OnOk result (q.store ≡ store_looked_with (decision_taken p.store r s) r p.store)
+  pub past : OnOk result (Adds (looked_past (decision_taken p.store r s) p.store r) p.past q.past)
+  pub table : OnOk result (q.locks ≡ table_looked_with (decision_taken p.store r s) p.store now r p.locks)
+  pub deeds : OnOk result (Adds (looked_with_deeds (decision_taken p.store r s) p.store now p.locks r) p.deeds q.deeds)
+  pub decided : OnErr result (s ≡ with_decision (decision_taken p.store r s) r)
   pub left : OnErr result (FailsToLook p.store r (Some p.past) q.store (Some q.past))
   pub same_store : OnErr result (hides_for p.store r ≡ false → q.store ≡ p.store)
   pub same_table : OnErr result (q.locks ≡ p.locks)

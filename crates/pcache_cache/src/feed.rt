@@ -74,7 +74,7 @@ impl<M: EvictionManager, K> Cache<M, K> {
 
     /// `CachePutCtx::finish_replacing`: ends the put once all pieces have come. The body is stored and its entry admitted, and what is
     /// evicted for it is purged: nothing, where nothing is tracked beside what is stored, and the body has room beside those of the
-    /// other keys (clause `room`). The entry of the body that stood under the key until then is taken out first. If the put ends too
+    /// other keys (`FinishesPut.room`). The entry of the body that stood under the key until then is taken out first. If the put ends too
     /// early, or the end of its write fails, nothing is stored, and the write is dropped; if the admission fails, the body is purged
     /// again. Requires a write of this cache, if there is one; ask `may_end_put`.
     pub fn finish_put<C: CachePut>(&mut self, put: &mut PendingPut<C, K>) -> Result<PutOutcome>

@@ -15,21 +15,15 @@ use pcache_store::memory::{FoundBody, MemHitHandler};
 use pcache_store::storage::HandleHit;
 
 impl<M: EvictionManager, K> Cache<M, K> {
-    ghost use Rattle.std.specs.Prelude.{◌≡◌, ◌⊎◌, false, IfOk, IfErr, OnOk, OnErr, IsSome, IsTrue, option_map};
-    ghost use Rattle.pcache_base.specs.declared.error.ErrorType.TheVariants.{NumbersExhausted, OutOfMemory};
-    ghost use Rattle.pcache_lock.specs.Locks.{MayFailLock};
-    ghost use Rattle.pcache_request.specs.Admissions.{Decides, asks_policy, decision_taken, looked_with, store_looked_with, table_looked_with, with_decision};
-    ghost use Rattle.pcache_request.specs.Failures.{FailsToLook};
+    ghost use Rattle.std.specs.Prelude.{◌≡◌, false, IfOk, IfErr, OnErr, IsSome, IsTrue};
+    ghost use Rattle.pcache_base.specs.declared.error.ErrorType.TheVariants.{OutOfMemory};
+    ghost use Rattle.pcache_request.specs.Admissions.{Decides, asks_policy};
     ghost use Rattle.pcache_request.specs.Phases.{MayFinishHit, MayLookUp};
     ghost use Rattle.pcache_request.specs.Releasing.{MayDisable};
     ghost use Rattle.pcache_request.specs.Requests.{found_for, length_by, whole_by};
-    ghost use Rattle.pcache_request.specs.Variants.{asks_unseen, hides_for, seen_for};
-    ghost use Rattle.pcache_request.specs.LockPasts.{looked_with_deeds};
-    ghost use Rattle.pcache_request.specs.StorePasts.{looked_past};
     ghost use Rattle.pcache_store.specs.Readers.{if_complete, reader_of};
-    ghost use Rattle.pcache_cache.specs.Parts.{Adds};
     ghost use Rattle.pcache_cache.specs.Ending.{Disables, EndsRequest};
-    ghost use Rattle.pcache_cache.specs.Looking.{EndsHit, LetsGo, LooksUp, Reads, TakesFound};
+    ghost use Rattle.pcache_cache.specs.Looking.{EndsHit, LetsGo, LooksUp, LooksUpAsking, Reads, TakesFound};
 
     /// `HttpCache::cache_lookup_without_policy`: returns what the store has for the request's key, a meta and a reader, unless
     /// a variant hides it; if it returns nothing, the key's lock is asked for. No policy is asked. The caller has to pass a
@@ -58,49 +52,13 @@ impl<M: EvictionManager, K> Cache<M, K> {
         now: Moment,
     ) -> Result<Option<(CacheMeta, MemHitHandler)>>
         requires { MayLookUp request.old.cache.phase }
-        ensures found { IfOk result (λ r.
-            option_map (λ p. (p.0, reader_of p.1)) r ≡ seen_for self.old.store request.old.cache) }
+        ensures takes { LooksUpAsking result now request.old.cache request.new.cache self.old
+            self.new }
         ensures decides { IsTrue (asks_policy self.old.store request.old.cache)
             → Decides (λ k d. A.decides policy.old k d policy.new) request.old.cache.key
             request.new.cache.digest.admission }
         ensures same_policy { asks_policy self.old.store request.old.cache ≡ false
             → policy.new ≡ policy.old }
-        ensures request { OnOk result (request.new.cache
-            ≡ looked_with (decision_taken self.old.store request.old.cache request.new.cache)
-            self.old.store self.old.locks request.old.cache) }
-        ensures store { OnOk result (self.new.store
-            ≡ store_looked_with (decision_taken self.old.store request.old.cache request.new.cache)
-            request.old.cache self.old.store) }
-        ensures past { OnOk result (Adds
-            (looked_past (decision_taken self.old.store request.old.cache request.new.cache)
-            self.old.store request.old.cache) self.old.past self.new.past) }
-        ensures table { OnOk result (self.new.locks
-            ≡ table_looked_with (decision_taken self.old.store request.old.cache request.new.cache)
-            self.old.store now request.old.cache self.old.locks) }
-        ensures deeds { OnOk result (Adds
-            (looked_with_deeds (decision_taken self.old.store request.old.cache request.new.cache)
-            self.old.store now self.old.locks request.old.cache) self.old.deeds self.new.deeds) }
-        ensures decided { OnErr result (request.new.cache
-            ≡ with_decision (decision_taken self.old.store request.old.cache request.new.cache)
-            request.old.cache) }
-        ensures left { OnErr result (FailsToLook self.old.store request.old.cache
-            (Some self.old.past) self.new.store (Some self.new.past)) }
-        ensures same_store { OnErr result (hides_for self.old.store request.old.cache ≡ false
-            → self.new.store ≡ self.old.store) }
-        ensures same_table { OnErr result (self.new.locks ≡ self.old.locks) }
-        ensures same_deeds { OnErr result (self.new.deeds ≡ self.old.deeds) }
-        ensures kind { IfErr result (λ e. MayFailLock self.old.locks e) }
-        ensures numbers { IfErr result (λ e.
-            e ≡ NumbersExhausted → IsTrue (asks_unseen self.old.store request.old.cache)) }
-        ensures something { OnErr result (IsSome (found_for self.old.store request.old.cache.key)
-            ⊎ IsTrue request.old.cache.uses.lock) }
-        ensures rest { self.new
-            ≡ record self.old {
-              store = self.new.store;
-              past = self.new.past;
-              locks = self.new.locks;
-              deeds = self.new.deeds;
-            } }
     {
         request
             .cache

@@ -19,7 +19,7 @@ impl<M: EvictionManager, K> Cache<M, K> {
 
     /// `HttpCache::revalidate_cache_meta`: takes the meta of a response that says that the stale body is still valid. If the body's
     /// entry weighs something else with that meta, it is admitted anew, and what is evicted for it is purged: nothing, where nothing
-    /// is tracked beside what is stored, and the body has room beside the others with what it weighs then (clause `room`); if memory
+    /// is tracked beside what is stored, and the body has room beside the others with what it weighs then (`Revalidates.room`); if memory
     /// is refused for that, the body is removed. Ask `may_revalidate` of the request.
     pub fn revalidate_cache_meta(
         &mut self,

@@ -16,9 +16,9 @@ returns c =
       set = when_found c.find.result c.in-Some.taker c.in-Some.is (IsSet c.args.to r seats (c.find.follows.lender r)) (c.find.follows.holds r);
       counts = refl;
       gets = record {
-        request = c.set_write_lock-gone.ensures.request;
-        table = c.set_write_lock-gone.ensures.table;
-        parts = c.set_write_lock-gone.ensures.rest;
+        request = c.set_write_lock-gone.ensures.takes.request;
+        table = c.set_write_lock-gone.ensures.takes.table;
+        parts = c.set_write_lock-gone.ensures.takes.rest;
         rest = (refl, refl, refl);
       };
     }
