@@ -17,8 +17,8 @@ invariant_of-self g c =
       if_done c.cache_found_tracked.result (found_deeds c.args.status c.args.now c.self.inside.lock.table c.args.request.now.cache) (Some c.self.inside.lock.past) (Some c.cache_found_tracked.new.lock.past) (found_keeps none_kept c.args.status c.args.now c.self.inside.lock.table c.args.request.now.cache) c.cache_found_tracked.ensures.deeds c.cache_found_tracked.ensures.same_deeds c.self.invariant.1,
     )
 
-pub returns-clause-takes : goal.returns-clause-takes
-returns-clause-takes g c =
+pub returns : goal.returns
+returns g c =
     let tracked = g.M.EvictionManager.tracked in
     let inside = c.self.inside in
     let call = c.cache_found_tracked in

@@ -13,8 +13,8 @@ invariant_of-self g c =
       c.self.invariant.1,
     )
 
-pub returns-clause-takes : goal.returns-clause-takes
-returns-clause-takes g c =
+pub returns : goal.returns
+returns g c =
     let tracked = g.M.EvictionManager.tracked in
     let inside = c.self.inside in
     let call = c.expire in

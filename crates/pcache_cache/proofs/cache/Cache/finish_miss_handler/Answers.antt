@@ -18,8 +18,8 @@ invariant_of-self g c =
       if_ended c.finish_replacing.result c.args.request.now.cache.write c.args.request.now.cache.held (Some c.self.inside.lock.past) (Some c.finish_replacing.new.lock.past) (each_end c.finish_replacing.result (λ how is. is.2) c.finish_replacing.ensures.ended) c.self.invariant.1,
     )
 
-pub returns-clause-takes : goal.returns-clause-takes
-returns-clause-takes g c =
+pub returns : goal.returns
+returns g c =
     let tracked = g.M.EvictionManager.tracked in
     let inside = c.self.inside in
     let limits = g.M.EvictionManager.limits inside.manager in

@@ -10,8 +10,8 @@ use Rattle.pcache_cache.proofs.Only.{numbered, only_renewed}
 use Rattle.pcache_cache.proofs.Room.{renewed_room}
 use Rattle.pcache_cache.proofs.cache.Cache.revalidate_cache_meta.Goals as goal
 
-pub returns-clause-takes : goal.returns-clause-takes
-returns-clause-takes g c =
+pub returns : goal.returns
+returns g c =
     let inside = c.self.inside in
     let r = c.args.request.now.cache in
     let new = c.set_meta.new.store.state in

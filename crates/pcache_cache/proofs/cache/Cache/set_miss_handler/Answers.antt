@@ -14,8 +14,8 @@ invariant_of-self g c =
       if_begun call.result inside.store.state new.storage.state (Some inside.store.past) (Some new.storage.past) inside.lock.table new.lock.table (Some inside.lock.past) (Some new.lock.past) r new.self call.ensures.deeds call.ensures.err c.self.invariant.1,
     )
 
-pub returns-clause-takes : goal.returns-clause-takes
-returns-clause-takes g c =
+pub returns : goal.returns
+returns g c =
     let call = c.set_miss_handler in
     let e = call.ensures in
     rw (← c.self.view_is) (record {

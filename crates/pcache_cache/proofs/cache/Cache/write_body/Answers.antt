@@ -3,8 +3,8 @@ use Rattle.pcache_cache.specs.Parts.{Parts, is_own_write}
 use Rattle.pcache_cache.proofs.Own.{body_own}
 use Rattle.pcache_cache.proofs.cache.Cache.write_body.Goals as goal
 
-pub returns-clause-takes : goal.returns-clause-takes
-returns-clause-takes g c =
+pub returns : goal.returns
+returns g c =
     let r = c.args.request.now.cache in
     rw (← c.self.view_is) (record {
       request = search rules;
