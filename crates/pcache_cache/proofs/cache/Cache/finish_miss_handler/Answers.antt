@@ -29,13 +29,15 @@ returns g c =
     let may = subst (λ (p : Parts). MayEnd p.store r) (sym c.self.view_is) c.requires.own in
     let weighs = c.ending_weight.ensures ∙ ap (ending_weight inside.weighing inside.store.state) c.writer-writer.ensures.write in
     rw (← c.self.view_is) (record {
-      request = e.request;
-      ended = search rules;
-      only = λ of its only. only_finished of inside.weighing limits r c.replaced_by.result c.ending_weight.result inside.store.state call.new.storage.state (tracked inside.manager) (tracked call.new.eviction) inside.lock.table call.new.lock.table call.result
-          may (sym c.writer-writer.ensures.entry ∙ same-number _ c.writer-writer.result ∙ c.writer-writer.ensures.write) weighs its c.replaced_by.ensures (each_end call.result (λ how is. is.0) e.ended) only;
-      room = λ of none its only room. finish_calm of none inside.weighing limits r c.replaced_by.result c.ending_weight.result inside.store.state call.new.storage.state (tracked inside.manager) (tracked call.new.eviction) inside.lock.table call.new.lock.table call.result
-          may.uses its c.replaced_by.ensures only (subst (HasRoom inside.weighing limits (beside r.key inside.store.state)) (sym weighs) room) (each_end call.result (λ how is. is.0) e.ended);
-      withdrawn = search rules;
-      limits = e.limits;
-      weighing = refl;
+      takes = record {
+        request = e.request;
+        ended = search rules;
+        only = λ of its only. only_finished of inside.weighing limits r c.replaced_by.result c.ending_weight.result inside.store.state call.new.storage.state (tracked inside.manager) (tracked call.new.eviction) inside.lock.table call.new.lock.table call.result
+            may (sym c.writer-writer.ensures.entry ∙ same-number _ c.writer-writer.result ∙ c.writer-writer.ensures.write) weighs its c.replaced_by.ensures (each_end call.result (λ how is. is.0) e.ended) only;
+        room = λ of none its only room. finish_calm of none inside.weighing limits r c.replaced_by.result c.ending_weight.result inside.store.state call.new.storage.state (tracked inside.manager) (tracked call.new.eviction) inside.lock.table call.new.lock.table call.result
+            may.uses its c.replaced_by.ensures only (subst (HasRoom inside.weighing limits (beside r.key inside.store.state)) (sym weighs) room) (each_end call.result (λ how is. is.0) e.ended);
+        withdrawn = search rules;
+        limits = e.limits;
+        weighing = refl;
+      };
     })

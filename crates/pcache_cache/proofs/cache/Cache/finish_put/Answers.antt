@@ -32,12 +32,14 @@ returns g c =
     let put = c.args.put.now.put in
     let replaced = c.body_number.ensures ∙ ap (λ k. body_number inside.store.state (slot k)) c.key.ensures in
     rw (← c.self.view_is) (record {
-      ended = search rules;
-      withdrawn = search rules;
-      only = λ of its only. only_put_ended of inside.weighing limits put.key put.parser put.stage c.body_number.result c.put_weight.result inside.store.state call.new.storage.state (tracked inside.manager) (tracked call.new.eviction) call.result
-          (sym c.writer-writer.ensures.entry ∙ same-number _ c.writer-writer.result ∙ c.writer-writer.ensures.write)
-          (subst (λ (p : Parts). is_own_write p.store (Some put.key) (write_in put.stage) ≡ true) (sym c.self.view_is) c.requires.own) c.put_weight.ensures its replaced (each_put_end call.result (λ how is. is.0) e.ended) only;
-      room = λ of none its only room. put_calm of none inside.weighing limits put.key put.parser put.stage c.body_number.result c.put_weight.result inside.store.state call.new.storage.state (tracked inside.manager) (tracked call.new.eviction) call.result
-          its replaced only (subst (HasRoom inside.weighing limits (beside (Some put.key) inside.store.state)) (sym c.put_weight.ensures) room) (each_put_end call.result (λ how is. is.0) e.ended);
-      rest = search rules;
+      takes = record {
+        ended = search rules;
+        withdrawn = search rules;
+        only = λ of its only. only_put_ended of inside.weighing limits put.key put.parser put.stage c.body_number.result c.put_weight.result inside.store.state call.new.storage.state (tracked inside.manager) (tracked call.new.eviction) call.result
+            (sym c.writer-writer.ensures.entry ∙ same-number _ c.writer-writer.result ∙ c.writer-writer.ensures.write)
+            (subst (λ (p : Parts). is_own_write p.store (Some put.key) (write_in put.stage) ≡ true) (sym c.self.view_is) c.requires.own) c.put_weight.ensures its replaced (each_put_end call.result (λ how is. is.0) e.ended) only;
+        room = λ of none its only room. put_calm of none inside.weighing limits put.key put.parser put.stage c.body_number.result c.put_weight.result inside.store.state call.new.storage.state (tracked inside.manager) (tracked call.new.eviction) call.result
+            its replaced only (subst (HasRoom inside.weighing limits (beside (Some put.key) inside.store.state)) (sym c.put_weight.ensures) room) (each_put_end call.result (λ how is. is.0) e.ended);
+        rest = search rules;
+      };
     })

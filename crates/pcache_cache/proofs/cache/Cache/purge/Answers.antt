@@ -21,13 +21,15 @@ returns g c =
     let e = call.ensures in
     let r = c.args.request.now.cache in
     rw (← c.self.view_is) (record {
-      request = e.same;
-      there = e.there;
-      store = e.store;
-      past = e.past;
-      tracked = e.tracked;
-      only = λ uses of its only. only_removed of inside.weighing (tracked inside.manager) (tracked call.new.eviction) inside.store.state call.new.storage.state r.uses.eviction r.key call.result e.store e.tracked e.same_store e.same_tracked uses its only;
-      same = search rules;
-      kind = e.kind;
-      rest = search rules;
+      takes = record {
+        request = e.same;
+        there = e.there;
+        store = e.store;
+        past = e.past;
+        tracked = e.tracked;
+        only = λ uses of its only. only_removed of inside.weighing (tracked inside.manager) (tracked call.new.eviction) inside.store.state call.new.storage.state r.uses.eviction r.key call.result e.store e.tracked e.same_store e.same_tracked uses its only;
+        same = search rules;
+        kind = e.kind;
+        rest = search rules;
+      };
     })

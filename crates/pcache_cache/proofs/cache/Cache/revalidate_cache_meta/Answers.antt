@@ -25,13 +25,15 @@ returns g c =
     let with_meta = subst (λ (x : Meta). OnOk c.set_meta.result (IfRoom (Some key) (weight_with p.weighing x (Some key) p.store) p (KeepsBodies p.store new))) meta own in
     let with_key = subst (λ (k : Option Key). OnOk c.set_meta.result (IfRoom k (weight_with p.weighing (renewed_by c.args.meta r.meta) k p.store) p (KeepsBodies p.store new))) keyed with_meta in
     rw (← c.self.view_is) (record {
-      request = search rules;
-      renews = search rules;
-      kind = search rules;
-      only = λ of its only. only_renewed of inside.weighing (g.M.EvictionManager.limits inside.manager) c.in-Some-Some.meta.now key c.set_meta.result _ _ c.set_meta.ensures.renews
-          (λ b there. numbered inside.store.state inside.store.past c.headline.ensures.bodies c.headline.ensures.kept (slot key) b there) (subst (IsItsKey of) (sym keyed) its) only;
-      room = with_key;
-      table = search rules;
-      deeds = search rules;
-      rest = search rules;
+      takes = record {
+        request = search rules;
+        renews = search rules;
+        kind = search rules;
+        only = λ of its only. only_renewed of inside.weighing (g.M.EvictionManager.limits inside.manager) c.in-Some-Some.meta.now key c.set_meta.result _ _ c.set_meta.ensures.renews
+            (λ b there. numbered inside.store.state inside.store.past c.headline.ensures.bodies c.headline.ensures.kept (slot key) b there) (subst (IsItsKey of) (sym keyed) its) only;
+        room = with_key;
+        table = search rules;
+        deeds = search rules;
+        rest = search rules;
+      };
     })

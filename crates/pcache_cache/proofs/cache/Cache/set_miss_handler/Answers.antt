@@ -19,15 +19,17 @@ returns g c =
     let call = c.set_miss_handler in
     let e = call.ensures in
     rw (← c.self.view_is) (record {
-      request = e.request;
-      store = e.store;
-      past = e.past;
-      table = e.table;
-      deeds = e.deeds;
-      err = e.err;
-      kind = e.kind;
-      something = e.something;
-      phase = search rules;
-      own = λ uses. beginning_own c.args.request.now.cache call.new.self c.self.inside.store.state call.new.storage.state call.result c.requires c.key-key.ensures.known uses e.request e.store;
-      rest = refl;
+      takes = record {
+        request = e.request;
+        store = e.store;
+        past = e.past;
+        table = e.table;
+        deeds = e.deeds;
+        err = e.err;
+        kind = e.kind;
+        something = e.something;
+        phase = search rules;
+        own = λ uses. beginning_own c.args.request.now.cache call.new.self c.self.inside.store.state call.new.storage.state call.result c.requires c.key-key.ensures.known uses e.request e.store;
+        rest = refl;
+      };
     })
