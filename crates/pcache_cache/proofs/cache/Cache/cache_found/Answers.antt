@@ -1,6 +1,6 @@
-use Rattle.std.proofs.Common.{subst, sym, Some, refl}
+use Rattle.std.proofs.Common.{subst, sym, Some, refl, rules}
 use Rattle.pcache_store.specs.Readers.{reader_of}
-use Rattle.pcache_cache.specs.Parts.{IsKept, Parts}
+use Rattle.pcache_cache.specs.Parts.{IsKept}
 use Rattle.pcache_cache.proofs.Kept.{kept_found, slots_taken}
 use Rattle.pcache_request.specs.LockPasts.{found_deeds}
 use Rattle.pcache_cache.proofs.Adding.{found_keeps}
@@ -36,7 +36,7 @@ returns g c =
         left_store = e.left_store;
         left_past = e.left_past;
         same_table = e.same_table;
-        same_deeds = e.same_deeds;
+        same_deeds = search rules;
         kind = e.kind;
         numbers = e.numbers;
         something = e.something;

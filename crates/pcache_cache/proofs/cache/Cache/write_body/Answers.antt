@@ -1,5 +1,4 @@
-use Rattle.std.proofs.Common.{◌≡◌, true, sym, subst, refl, rules}
-use Rattle.pcache_cache.specs.Parts.{Parts, is_own_write}
+use Rattle.std.proofs.Common.{refl, rules}
 use Rattle.pcache_cache.proofs.Own.{body_own}
 use Rattle.pcache_cache.proofs.cache.Cache.write_body.Goals as goal
 
