@@ -1,5 +1,4 @@
 //! A table of locks, call by call: a row names a slot, which holds a permit or a read lock.
-use crate::memory::key_of;
 use crate::rows::{Desk, Told, number, play, word};
 use pcache_base::error::Result;
 use pcache_base::fills::{UnusableFill, UnusableFills};
@@ -16,6 +15,7 @@ use pcache_lock::lock::{CacheKeyLock, CacheKeyLockImpl};
 use std::alloc::Global;
 use std::process::Abort;
 use std::time::Duration;
+use test_rows::key_of;
 
 fn at(secs: u64) -> Moment {
     Moment::from_secs(secs)
@@ -31,8 +31,10 @@ const NINE: UnusableFill = UnusableFill {
     reason: "nine",
 };
 
-fn seven_and_nine(alloc: Global) -> Result<UnusableFills> {
-    Ok(UnusableFills::new(vec![in alloc; SEVEN, NINE]?))
+fn seven_and_nine(alloc: Global) -> UnusableFills {
+    let mut fills = Vec::new(alloc);
+    let _is_whole = fills.push(SEVEN).is_ok() && fills.push(NINE).is_ok();
+    UnusableFills::new(fills)
 }
 
 // Two keys and the empty one, and the fills that some readers cannot use.
@@ -46,18 +48,14 @@ struct Parts {
 }
 
 impl Parts {
-    fn new(alloc: Global) -> Result<Parts> {
-        let a = key_of(alloc, "a")?;
-        let b = key_of(alloc, "b")?;
-        let fills = seven_and_nine(alloc)?;
-        let empty = CacheKey::new(Vec::new(alloc), String::new(alloc));
-        Ok(Parts {
+    fn new(alloc: Global) -> Parts {
+        Parts {
             alloc,
-            a,
-            b,
-            empty,
-            fills,
-        })
+            a: key_of(alloc, b"a", "1"),
+            b: key_of(alloc, b"b", "1"),
+            empty: key_of(alloc, b"", ""),
+            fills: seven_and_nine(alloc),
+        }
     }
 
     fn key(&self, name: &str) -> &CacheKey {
@@ -402,14 +400,9 @@ fn own_status(lock: &CacheLock, slot: &Slot, now: Moment) -> &'static str {
 
 // Plays rows over a table of locks.
 fn run(rt: &impl Abort, alloc: Global, lock: Box<CacheLock>, rows: &'static str) {
-    match Parts::new(alloc) {
-        Ok(parts) => {
-            let mut hands = Hands::new(lock, parts);
-            play(rt, alloc, &mut hands, rows);
-            hands.end();
-        }
-        Err(_refused) => assert!(rt; false),
-    }
+    let mut hands = Hands::new(lock, Parts::new(alloc));
+    play(rt, alloc, &mut hands, rows);
+    hands.end();
 }
 
 // Over a new one, whose permits are held for ten seconds at most.
@@ -651,9 +644,6 @@ fn is_good_in_a_box(alloc: Global, key: &CacheKey) -> bool {
 
 #[test]
 fn in_a_box_of_any_kind(rt: HostRuntime) {
-    let is_good = match key_of(rt.alloc(), "a") {
-        Ok(key) => is_good_in_a_box(rt.alloc(), &key),
-        Err(_refused) => false,
-    };
-    assert!(rt; is_good);
+    let key = key_of(rt.alloc(), b"a", "1");
+    assert!(rt; is_good_in_a_box(rt.alloc(), &key));
 }

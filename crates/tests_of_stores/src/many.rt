@@ -1,5 +1,5 @@
 //! Stores and managers take many keys: no small number of them is the most.
-use crate::memory::meta_until;
+use crate::room::metas::meta_until;
 use pcache_base::error::Result;
 use pcache_base::key::CacheKey;
 use pcache_base::moment::Moment;
