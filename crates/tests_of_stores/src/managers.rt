@@ -39,10 +39,15 @@ fn id_of(number: Option<u64>) -> Option<CacheEntryId> {
 
 fn key_named(alloc: Global, name: &'static str) -> CompactCacheKey {
     let (letter, tag) = name.split_once("/").unwrap_or((name, "1"));
+    key_of(alloc, letter.as_bytes().first().copied().unwrap_or(0), tag)
+}
+
+/// The key whose primary hash repeats this byte. If memory runs out, its tag is another one.
+pub fn key_of(alloc: Global, name: u8, tag: &str) -> CompactCacheKey {
     let mut user_tag = String::new(alloc);
     let _is_whole = user_tag.push_str(tag).is_ok();
     CompactCacheKey {
-        primary: [letter.as_bytes().first().copied().unwrap_or(0); 16],
+        primary: [name; 16],
         variance: None,
         user_tag: Text::new(user_tag),
     }

@@ -1,5 +1,5 @@
 //! The manager with one list.
-use crate::managers::{COUNTED, EVICTED, Kept, NEVER_READ, entry_named, take_over};
+use crate::managers::{COUNTED, EVICTED, Kept, NEVER_READ, entry_named, key_of, take_over};
 use crate::rows::{Desk, Told, other_seed, play, size, some_size, word};
 use pcache_base::error::Result;
 use pcache_base::seed::Seed;
@@ -168,8 +168,7 @@ fn admits_all(alloc: Global, manager: &mut Manager) -> bool {
 }
 
 fn numbered(alloc: Global, number: u64) -> CacheEntryKey {
-    let key = entry_named(alloc, "a").into_key();
-    CacheEntryKey::identified(key, CacheEntryId::new(number))
+    CacheEntryKey::identified(key_of(alloc, b'a', "1"), CacheEntryId::new(number))
 }
 
 #[test]
