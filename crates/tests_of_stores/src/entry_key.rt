@@ -72,12 +72,22 @@ fn have_their_parts(it: &Entries) -> bool {
         && *it.seventh.key() == it.key
 }
 
+fn are_equal(one: CacheEntryKeyRef<'_>, other: CacheEntryKeyRef<'_>) -> bool {
+    one == other
+}
+
 fn refer(it: &Entries) -> bool {
-    CacheEntryKeyRef::key_only(&it.key) == CacheEntryKeyRef::from_entry_id(&it.key, None)
-        && CacheEntryKeyRef::from(&it.seventh)
-            == CacheEntryKeyRef::from_entry_id(&it.key, Some(seven()))
-        && *CacheEntryKeyRef::from(&it.seventh).key() == it.key
-        && CacheEntryKeyRef::from(&it.seventh).entry_id() == Some(seven())
+    let (only, seventh) = (
+        CacheEntryKeyRef::from_entry_id(&it.key, None),
+        CacheEntryKeyRef::from_entry_id(&it.key, Some(seven())),
+    );
+    are_equal(CacheEntryKeyRef::key_only(&it.key), only)
+        && are_equal(CacheEntryKeyRef::from(&it.seventh), seventh)
+        && is_of_seven(CacheEntryKeyRef::from(&it.seventh), &it.key)
+}
+
+fn is_of_seven(entry: CacheEntryKeyRef<'_>, key: &CompactCacheKey) -> bool {
+    *entry.key() == *key && entry.entry_id() == Some(seven())
 }
 
 fn is_copied(it: &Entries) -> bool {
