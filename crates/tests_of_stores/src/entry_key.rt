@@ -72,22 +72,19 @@ fn have_their_parts(it: &Entries) -> bool {
         && *it.seventh.key() == it.key
 }
 
-fn are_equal(one: CacheEntryKeyRef<'_>, other: CacheEntryKeyRef<'_>) -> bool {
-    one == other
+fn refers_to_only(it: &Entries) -> bool {
+    CacheEntryKeyRef::key_only(&it.key) == CacheEntryKeyRef::from_entry_id(&it.key, None)
+}
+
+fn refers_to_seventh(it: &Entries) -> bool {
+    CacheEntryKeyRef::from(&it.seventh) == CacheEntryKeyRef::from_entry_id(&it.key, Some(seven()))
 }
 
 fn refer(it: &Entries) -> bool {
-    let (only, seventh) = (
-        CacheEntryKeyRef::from_entry_id(&it.key, None),
-        CacheEntryKeyRef::from_entry_id(&it.key, Some(seven())),
-    );
-    are_equal(CacheEntryKeyRef::key_only(&it.key), only)
-        && are_equal(CacheEntryKeyRef::from(&it.seventh), seventh)
-        && is_of_seven(CacheEntryKeyRef::from(&it.seventh), &it.key)
-}
-
-fn is_of_seven(entry: CacheEntryKeyRef<'_>, key: &CompactCacheKey) -> bool {
-    *entry.key() == *key && entry.entry_id() == Some(seven())
+    refers_to_only(it)
+        && refers_to_seventh(it)
+        && *CacheEntryKeyRef::from(&it.seventh).key() == it.key
+        && CacheEntryKeyRef::from(&it.seventh).entry_id() == Some(seven())
 }
 
 fn is_copied(it: &Entries) -> bool {

@@ -1,7 +1,8 @@
 //! Tables, in one piece and in shards, also behind locks.
 use pcache_base::seed::Seed;
 use pcache_table::hashtable::{
-    ConcurrentHashTable, ConcurrentLruCache, HashedTable, LruShards, Shards, Table,
+    ConcurrentHashTable, ConcurrentLruCache, HashedTable, LruShards, Shard, Shards, Table,
+    WriteGuard,
 };
 use std::alloc::{AllocFailed, Global};
 use std::sync::Wait;
@@ -131,17 +132,29 @@ fn read<R: Wait>(rt: &R, table: &ConcurrentHashTable<u64, 4>, key: u128) -> Opti
     table.read(rt, key).get(key).copied()
 }
 
+type Writer<'a> = WriteGuard<'a, Shard<u64, 4>>;
+
+fn is_at_1(shard: &Writer<'_>) -> bool {
+    shard.place() == 1 && shard.belongs(5) && !shard.belongs(6)
+}
+
+fn takes_in(shard: &mut Writer<'_>) -> bool {
+    gave(shard.insert(5, 50), None) && gave(shard.insert(5, 51), Some(50))
+}
+
+fn has_51(shard: &Writer<'_>) -> bool {
+    shard.get(5) == Some(&51) && shard.iter().count() == 1
+}
+
+fn takes_out(shard: &mut Writer<'_>) -> bool {
+    shard.remove(5) == Some(51) && shard.get(5).is_none()
+}
+
 // What one writer sees of a shard: the calls of a shard that reads, and those that change it.
 fn has_one_writer<R: Wait>(rt: &R, table: &ConcurrentHashTable<u64, 4>) -> bool {
     let mut shard = table.write(rt, 5);
-    let is_its = [shard.place() == 1, shard.belongs(5), !shard.belongs(6)];
-    let goes_in = [
-        gave(shard.insert(5, 50), None),
-        gave(shard.insert(5, 51), Some(50)),
-    ];
-    let is_there = [shard.get(5) == Some(&51), shard.iter().count() == 1];
-    let goes_out = [shard.remove(5) == Some(51), shard.get(5).is_none()];
-    is_its == [true; 3] && [goes_in, is_there, goes_out] == [[true; 2]; 3]
+    let is_changed = is_at_1(&shard) && takes_in(&mut shard);
+    is_changed && has_51(&shard) && takes_out(&mut shard)
 }
 
 #[test]

@@ -26,13 +26,12 @@ fn is_named(key: &CompactCacheKey, entry: &CacheEntryKey) -> bool {
 fn is_removed(key: &CompactCacheKey, entry: &CacheEntryKey) -> bool {
     let id = CacheEntryId::new(42);
     let (target, active) = (PurgeTarget::Exact(entry), PurgeTarget::Active(key));
-    refers(target.removed_entry(None), entry)
-        && refers(target.removed_entry(Some(id)), entry)
-        && refers(active.removed_entry(Some(id)), entry)
-}
-
-fn refers(removed: CacheEntryKeyRef<'_>, entry: &CacheEntryKey) -> bool {
-    removed == CacheEntryKeyRef::from(entry)
+    let removed = [
+        target.removed_entry(None) == CacheEntryKeyRef::from(entry),
+        target.removed_entry(Some(id)) == CacheEntryKeyRef::from(entry),
+        active.removed_entry(Some(id)) == CacheEntryKeyRef::from(entry),
+    ];
+    removed == [true; 3]
 }
 
 #[test]
