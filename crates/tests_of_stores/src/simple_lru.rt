@@ -130,28 +130,31 @@ fn is_emptied(boxed: &mut Boxed, b: &CacheEntryKey) -> bool {
     }
 }
 
-fn is_one(alloc: Global, mut boxed: Boxed) -> bool {
+fn is_one(alloc: Global, boxed: &mut Boxed) -> bool {
     let b = entry_named(alloc, "b");
-    takes_both(alloc, &mut boxed, &b)
-        && is_raised(alloc, &mut boxed, &b)
-        && has_counted(&boxed)
-        && is_emptied(&mut boxed, &b)
+    takes_both(alloc, boxed, &b)
+        && is_raised(alloc, boxed, &b)
+        && has_counted(boxed)
+        && is_emptied(boxed, &b)
 }
 
-fn is_boxed(alloc: Global, made: Result<Manager>) -> bool {
-    match made {
-        Ok(manager) => match Box::new(alloc, manager) {
-            Ok(boxed) => is_one(alloc, boxed),
-            Err(_refused) => false,
-        },
+fn is_one_in_a_box(alloc: Global, manager: Manager) -> bool {
+    match Box::new(alloc, manager) {
+        Ok(made) => {
+            let mut boxed: Boxed = made;
+            is_one(alloc, &mut boxed)
+        }
         Err(_refused) => false,
     }
 }
 
 #[test]
 fn a_boxed_manager_is_one(rt: HostRuntime) {
-    let made = Manager::new(rt.alloc(), Seed::fixed(), 4);
-    assert!(rt; is_boxed(rt.alloc(), made));
+    let is_good = match Manager::new(rt.alloc(), Seed::fixed(), 4) {
+        Ok(manager) => is_one_in_a_box(rt.alloc(), manager),
+        Err(_refused) => false,
+    };
+    assert!(rt; is_good);
 }
 
 // Admits 50,000 entries, if 5,000 have room.
