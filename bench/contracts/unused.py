@@ -55,14 +55,27 @@ def module_of(path):
     return "Rattle." + os.path.relpath(path, f"{TOP}/crates").removesuffix(".antt").replace("/", ".")
 
 
+def names_imported(text):
+    """The names that a text imports one by one, each with its module."""
+    for module, names in re.findall(r"use (Rattle\.[^\s{}]+)\.\{([^}]*)\}", text):
+        for name in names.split(","):
+            yield module, name.split(" as ")[0].strip()
+
+
 def imports_in(texts):
-    """What all files import, as (module, name), and as (module, None) for a module that is named as a whole."""
-    found = set()
-    for text in texts.values():
-        for module, names in re.findall(r"use (Rattle\.[^\s{}]+)\.\{([^}]*)\}", text):
-            for name in names.split(","):
-                name = name.split(" as ")[0].strip()
-                found |= {(module, name), (f"{module}.{name}", None)}
+    """What all files import, as (module, name), and as (module, None) for a module that is named as a whole. What a crate's Words
+    passes on is imported from where it stands, by who imports it from there."""
+    found, passed = set(), {}
+    for path, text in texts.items():
+        if path.endswith("/proofs/Words.antt"):
+            for module, name in names_imported(text):
+                passed[module_of(path), name] = module
+    for path, text in texts.items():
+        if path.endswith("/proofs/Words.antt"):
+            continue
+        for module, name in names_imported(text):
+            module = passed.get((module, name), module)
+            found |= {(module, name), (f"{module}.{name}", None)}
         found |= {(module, None) for module in re.findall(r"use (Rattle\.[^\s{};]+)(?: as |;|$)", text, re.M)}
         for path in re.findall(r"(\w+(?:::[\w-]+)+)", text):
             parts = path.split("::")

@@ -1,16 +1,9 @@
 -- When bodies came in, as a map.
-use Rattle.std.proofs.Common.{◌≡◌, ℕ, cond, None, Some, ap, sym, ◌∙◌}
-use Rattle.std.specs.Ordering.{eq_by_cmp}
-use Rattle.std.specs.FinMap as fin
-use Rattle.pcache_evict.specs.declared.eviction.entry_key.CacheEntryKey.{CacheEntryKey}
-use Rattle.pcache_evict.specs.Entry.{entry_eq, entry_cmp, entries_total, entry_ties}
-use Rattle.pcache_evict.specs.Tracked.{Tracked}
-use Rattle.pcache_evict.specs.Recency.{Recency, weight_of}
-use Rattle.pcache_evict.specs.Listed.{map_of}
-use Rattle.pcache_evict.proofs.EntryOrder.{exact_entries}
+use Rattle.pcache_evict.specs.Entry.{entry_eq, entry_ties}
+use Rattle.pcache_evict.specs.Recency.{Recency}
 use Rattle.pcache_evict.proofs.Recency.{laws}
-use Rattle.pcache_evict.proofs.Maps.{get-map_of}
-use Rattle.cache_simulation.specs.Fresh.{Fresh}
+use Rattle.cache_simulation.proofs.Words.{◌≡◌, ℕ, cond, None, Some, ap, sym, ◌∙◌, eq_by_cmp, CacheEntryKey, entry_cmp, entries_total, Tracked, weight_of, map_of, exact_entries, get-map_of, Fresh}
+use Rattle.std.specs.FinMap as fin
 
 -- entries that differ at one key make maps that differ there
 pub put : (es fs : Recency) (k : CacheEntryKey) (v : ℕ) → ((q : CacheEntryKey) → weight_of q fs ≡ cond (entry_eq k q) (Some v) (weight_of q es)) → map_of fs ≡ fin.insert (map_of es) k v

@@ -8,3 +8,4 @@ pub mod Standing
 pub mod Tells
 pub mod ToldApart
 pub mod Visits
+pub mod Words

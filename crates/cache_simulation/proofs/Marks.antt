@@ -1,17 +1,10 @@
 -- What was played up to a mark led to it.
-use Rattle.std.proofs.Common.{◌≡◌, ℕ, ◌+◌, arith, Option, List, [], ◌++◌, sym, subst, ◌∙◌, ◌<◌, ◌≤◌, ◌≢◌, length, set, take, ap}
-use Rattle.std.specs.List.{All, AllWithin}
-use Rattle.std.proofs.Math.Seq.{take-append_seam}
+use Rattle.std.proofs.Common.{◌≢◌}
+use Rattle.std.specs.List.{All}
 use Rattle.std.proofs.lemmas.List.{get_or-set_other}
-use Rattle.std.proofs.lemmas.List.Elements.{All-same, AllWithin-more_set}
-use Rattle.std.proofs.lemmas.List.Sums.{sum_by-append}
+use Rattle.std.proofs.lemmas.List.Elements.{AllWithin-more_set}
 use Rattle.pcache_evict.specs.Policy.{Policy}
-use Rattle.cache_simulation.specs.declared.counts.Counts.{Counts}
-use Rattle.cache_simulation.specs.declared.run.Request.{Request}
-use Rattle.cache_simulation.specs.Fresh.{Fresh}
-use Rattle.cache_simulation.specs.Plays.{Rules}
-use Rattle.cache_simulation.specs.Replays.{Place, Served, gone_in, place}
-use Rattle.cache_simulation.specs.Caches.{StandsAs}
+use Rattle.cache_simulation.proofs.Words.{◌≡◌, ℕ, ◌+◌, arith, Option, List, [], ◌++◌, sym, subst, ◌∙◌, ◌<◌, ◌≤◌, length, set, take, ap, AllWithin, take-append_seam, All-same, sum_by-append, Counts, Request, Fresh, Rules, Place, Served, gone_in, place, StandsAs}
 use Rattle.cache_simulation.proofs.Replaying.{replays-all}
 
 pub marked : {O : Type 0} (p : Policy O) (before asked : List Request) (rules kept next : Rules) (start : Option Fresh) (base result gone left : ℕ) (counts none : Counts) (now then : Place O)

@@ -1,19 +1,18 @@
 -- The lowest ranks of hashes, and how many keys a part has by them.
-use Rattle.std.proofs.Common.{◌≡◌, ℕ, zero, suc, ◌+◌, ◌-◌, ◌*◌, ◌/◌, ◌%◌, ◌^◌, ◌<◌, ◌≤◌, Bool, true, false, cond, not, ◌&&◌, ◌||◌, eqb, ltb, leb, nat_eq, nat_lt, List, [], ◌∷◌, ◌++◌, length, take, refl, sym, ap, ap₂, subst, ◌∙◌, arith, eq-eqb, ne_eqb, add-one, le-leb, le-ltb, lt-ltb, mul-zero, unwrap_or, is_some, true≢false, nat_cmp, Ordering, Less, Equal, Greater}
-use Rattle.std.specs.Prelude.{⊤, All, filter, slice_get, nat_le, min, Option, Some, None, IfSome, IsSome}
+use Rattle.std.proofs.Common.{zero, suc, ◌/◌, ◌%◌, eqb, ltb, leb, nat_eq, ap₂, eq-eqb, ne_eqb, add-one, le-leb, le-ltb, lt-ltb, mul-zero, true≢false, nat_cmp, Ordering, Less, Equal, Greater}
+use Rattle.std.specs.Prelude.{⊤, All, filter, slice_get, nat_le, IfSome, IsSome}
 use Rattle.std.specs.Ordering.{match_ordering, MatchOrdering}
-use Rattle.std.specs.List.{list_any}
-use Rattle.std.specs.BTreeSet.{insert_key}
 use Rattle.std.specs.Set.{distinct_count, unique_keys, is_member}
 use Rattle.std.proofs.lemmas.Nat.{div-mul-add}
 use Rattle.std.proofs.lemmas.Cmp.{ranked, nat_eq_equiv}
-use Rattle.std.proofs.lemmas.List.{take-take, take_all, take-append-le, length-take, length-append}
-use Rattle.std.proofs.lemmas.List.Elements.{All-nil, All-head, All-tail, All-take, All-get_or}
+use Rattle.std.proofs.lemmas.List.{take-take, take-append-le, length-take, length-append}
+use Rattle.std.proofs.lemmas.List.Elements.{All-nil, All-head, All-tail}
 use Rattle.std.proofs.lemmas.Option.{get_or_from_slice_get, slice_get_within}
 use Rattle.std.proofs.lemmas.Map.Made.{is_member-filter}
 use Rattle.std.proofs.lemmas.Map.Views.{exact_unsigned_eq, All-insert_key}
-use Rattle.cache_simulation.specs.KeyLimit.{keys_in, rank, ranks, IsLargestRate}
+use Rattle.cache_simulation.specs.KeyLimit.{keys_in}
 use Rattle.cache_simulation.specs.Sampled.{whole, is_in_part}
+use Rattle.cache_simulation.proofs.Words.{◌≡◌, ℕ, ◌+◌, ◌-◌, ◌*◌, ◌^◌, ◌<◌, ◌≤◌, Bool, true, false, cond, not, ◌&&◌, ◌||◌, nat_lt, List, [], ◌∷◌, ◌++◌, length, take, refl, sym, ap, subst, ◌∙◌, arith, unwrap_or, is_some, min, Option, Some, None, list_any, insert_key, take_all, All-take, All-get_or, rank, ranks, IsLargestRate}
 
 -- ---- the lowest after an insertion are those of the lowest before it
 

@@ -1,17 +1,10 @@
 -- The requests of lines, one part after the other.
-use Rattle.std.proofs.Common.{◌≡◌, ◌+◌, length, List, [], ◌++◌, ◌∷◌, ap, sym, subst, ◌∙◌}
-use Rattle.std.specs.List.{cons_option}
-use Rattle.std.proofs.lemmas.List.{append_assoc}
-use Rattle.std.proofs.lemmas.List.Elements.{filter_map-append}
-use Rattle.cache_simulation.specs.declared.cache.Span.{Span}
-use Rattle.cache_simulation.specs.declared.options.Setting.{Setting}
 use Rattle.cache_simulation.specs.declared.player.Player.{Player}
 use Rattle.cache_simulation.specs.declared.report.Row.{Row}
-use Rattle.cache_simulation.specs.declared.run.Request.{Request}
 use Rattle.cache_simulation.specs.declared.runs.Runs.{Runs}
-use Rattle.cache_simulation.specs.Caches.{HasPlayed, IsRow}
-use Rattle.cache_simulation.specs.Reading.{Line, request_of, requests_of, bytes_in, HasAsked, IsRowOf}
+use Rattle.cache_simulation.specs.Reading.{request_of}
 use Rattle.cache_simulation.specs.Sampled.{expected, expected_bytes}
+use Rattle.cache_simulation.proofs.Words.{◌≡◌, ◌+◌, length, List, [], ◌++◌, ◌∷◌, ap, sym, subst, ◌∙◌, cons_option, append_assoc, filter_map-append, Span, Setting, Request, HasPlayed, IsRow, Line, requests_of, bytes_in, HasAsked, IsRowOf}
 
 pub moved-on : (s t : Setting) (before lines : List Line) (runs : Runs) → t ≡ s → HasPlayed (requests_of s before ++ requests_of s lines) [] runs → HasPlayed (requests_of t (before ++ lines)) [] runs
 moved-on s t before lines runs same h =

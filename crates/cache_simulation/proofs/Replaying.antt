@@ -1,19 +1,11 @@
 -- What requests make of a manager's order is the plain run of its policy.
-use Rattle.std.proofs.Common.{◌≡◌, ℕ, ◌+◌, ◌-◌, ◌^◌, ◌≤◌, min, arith, length, length-append, cond, Bool, false, ◌&&◌, Option, is_some, List, [], ◌∷◌, ◌++◌, refl, ap, sym, subst, ◌∙◌}
-use Rattle.std.specs.FinMap as fin
-use Rattle.std.proofs.lemmas.List.Sums.{sum_by-append, sum_by-cons}
-use Rattle.pcache_evict.specs.declared.eviction.entry_key.CacheEntryKey.{CacheEntryKey}
-use Rattle.pcache_evict.specs.Tracked.{Tracked, Limits, IsFair, without}
-use Rattle.pcache_evict.specs.Listed.{map_of}
+use Rattle.std.proofs.Common.{length-append}
+use Rattle.pcache_evict.specs.Tracked.{IsFair}
 use Rattle.pcache_evict.specs.Policy.{Policy, is_in}
-use Rattle.pcache_evict.proofs.Maps.{get-map_of}
-use Rattle.cache_simulation.specs.declared.run.Request.{Request}
-use Rattle.cache_simulation.specs.declared.counts.Counts.{Counts}
-use Rattle.cache_simulation.specs.Fresh.{Fresh}
-use Rattle.cache_simulation.specs.Events.{Event, Hit, Came, Renewed, Passed, comes, is_hit, size_in}
-use Rattle.cache_simulation.specs.Plays.{Rules, State, IsCounted, IsEvent, state}
+use Rattle.cache_simulation.specs.Replays.{Answers, Brings, gone_of}
+use Rattle.cache_simulation.proofs.Words.{◌≡◌, ℕ, ◌+◌, ◌-◌, ◌^◌, ◌≤◌, min, arith, length, cond, Bool, false, ◌&&◌, Option, is_some, List, [], ◌∷◌, ◌++◌, refl, ap, sym, subst, ◌∙◌, sum_by-append, sum_by-cons, CacheEntryKey, Tracked, Limits, without, map_of, get-map_of, Request, Counts, Fresh, Event, Hit, Came, Renewed, Passed, comes, is_hit, size_in, Rules, State, IsCounted, IsEvent, state, Place, Replays, gone_in, count_after, counts_after, Served}
+use Rattle.std.specs.FinMap as fin
 use Rattle.cache_simulation.proofs.Standing.{is-come, insert-removed}
-use Rattle.cache_simulation.specs.Replays.{Place, Answers, Brings, Replays, gone_in, gone_of, count_after, counts_after, Served}
 
 -- the map and the order have the same entries
 pub is-in : {O : Type 0} (p : Policy O) (o : O) (m : Tracked) (k : CacheEntryKey) → m ≡ map_of (p.entries o) → is_in p k o ≡ fin.contains_key m k

@@ -1,11 +1,8 @@
 -- Caches that were parted had the requests made to them if both parts had.
-use Rattle.std.proofs.Common.{◌≡◌, ◌∙◌, ℕ, List, ◌++◌, ap, sym, take, drop, length}
 use Rattle.std.specs.List.{All}
-use Rattle.std.proofs.Math.Seq.{take-append_seam, drop-append_seam}
-use Rattle.std.proofs.lemmas.List.Elements.{All-append, All-take, All-drop, All-same}
-use Rattle.cache_simulation.specs.declared.cache.Cache.{Cache}
-use Rattle.cache_simulation.specs.declared.run.Request.{Request}
-use Rattle.cache_simulation.specs.Caches.{MakesEach, StandsIn}
+use Rattle.std.proofs.lemmas.List.Elements.{All-append, All-drop}
+use Rattle.cache_simulation.specs.Caches.{MakesEach}
+use Rattle.cache_simulation.proofs.Words.{◌≡◌, ◌∙◌, ℕ, List, ◌++◌, ap, sym, take, drop, length, take-append_seam, drop-append_seam, All-take, All-same, Cache, Request, StandsIn}
 
 pub makes-both : (requests : List Request) (all some others some' others' : List Cache) → all ≡ some ++ others → MakesEach requests some some' → MakesEach requests others others' → MakesEach requests all (some' ++ others')
 makes-both requests all some others some' others' is first second = record {

@@ -1,21 +1,13 @@
 -- What a manager tracks is what stands after the events so far.
-use Rattle.std.proofs.Common.{◌≡◌, ℕ, ◌+◌, arith, length-append, sum_by, Bool, true, false, cond, not, ◌&&◌, ◌||◌, None, Some, is_some, List, [], ◌∷◌, ◌++◌, refl, ap, sym, subst, ◌∙◌}
-use Rattle.std.specs.Prelude.{◌<◌, ◌≤◌}
-use Rattle.std.specs.List.{list_any}
-use Rattle.std.specs.Ordering.{eq_by_cmp}
-use Rattle.std.specs.FinMap as fin
+use Rattle.std.proofs.Common.{length-append, sum_by}
 use Rattle.std.proofs.lemmas.Bool.{both_ways}
-use Rattle.std.proofs.lemmas.List.Sums.{sum_by-append, sum_by-cons}
-use Rattle.pcache_evict.specs.declared.eviction.entry_key.CacheEntryKey.{CacheEntryKey}
-use Rattle.pcache_evict.specs.Entry.{entry_cmp, entries_total}
-use Rattle.pcache_evict.specs.Tracked.{Tracked, Limits, IsWithin, without}
-use Rattle.pcache_evict.proofs.EntryOrder.{exact_entries}
+use Rattle.pcache_evict.specs.Tracked.{IsWithin}
 use Rattle.pcache_evict.proofs.Evictions.{is_gone}
 use Rattle.pcache_evict.proofs.TrackedMaps.{get-without_apart}
-use Rattle.cache_simulation.specs.declared.run.Request.{Request}
-use Rattle.cache_simulation.specs.declared.counts.Counts.{Counts}
-use Rattle.cache_simulation.specs.Events.{Event, Hit, Came, Renewed, Passed, comes, RunsTo, stands, HitsStand, is_hit, size_in}
-use Rattle.cache_simulation.specs.Plays.{Rules, State, IsEvent, Becomes, Plays, IsCounted, rules_of}
+use Rattle.cache_simulation.specs.Events.{RunsTo, stands, HitsStand}
+use Rattle.cache_simulation.specs.Plays.{Becomes}
+use Rattle.cache_simulation.proofs.Words.{◌≡◌, ℕ, ◌+◌, arith, Bool, true, false, cond, not, ◌&&◌, ◌||◌, None, Some, is_some, List, [], ◌∷◌, ◌++◌, refl, ap, sym, subst, ◌∙◌, ◌<◌, ◌≤◌, list_any, eq_by_cmp, sum_by-append, sum_by-cons, CacheEntryKey, entry_cmp, entries_total, Tracked, Limits, without, exact_entries, Request, Counts, Event, Hit, Came, Renewed, Passed, comes, is_hit, size_in, Rules, State, IsEvent, Plays, IsCounted, rules_of}
+use Rattle.std.specs.FinMap as fin
 
 abbrev ties : CacheEntryKey → CacheEntryKey → Bool
 ties = eq_by_cmp entry_cmp

@@ -1,15 +1,8 @@
 -- What a run tells of the requests since the mark, and where it begins.
-use Rattle.std.proofs.Common.{◌≡◌, ℕ, ◌-◌, ◌^◌, min, Option, List, sym, subst, ap, ◌∙◌}
 use Rattle.pcache_evict.specs.Tracked.{weight}
-use Rattle.pcache_evict.specs.Listed.{map_of}
 use Rattle.pcache_evict.specs.Policy.{Policy}
-use Rattle.cache_simulation.specs.declared.cache.Told.{Told}
-use Rattle.cache_simulation.specs.declared.counts.Counts.{Counts}
-use Rattle.cache_simulation.specs.declared.run.Request.{Request}
-use Rattle.cache_simulation.specs.Fresh.{Fresh}
-use Rattle.cache_simulation.specs.Plays.{Rules}
-use Rattle.cache_simulation.specs.Replays.{Place, Served}
-use Rattle.cache_simulation.specs.Caches.{RanAs, StandsAs}
+use Rattle.cache_simulation.specs.Caches.{RanAs}
+use Rattle.cache_simulation.proofs.Words.{◌≡◌, ℕ, ◌-◌, ◌^◌, min, Option, List, sym, subst, ap, ◌∙◌, map_of, Told, Counts, Request, Fresh, Rules, Place, Served, StandsAs}
 
 pub told-as : {O : Type 0} (p : Policy O) (before asked : List Request) (rules kept : Rules) (start : Option Fresh) (base gone : ℕ) (counts : Counts) (now : Place O) (told : Told)
     → told.counts ≡ counts → told.evicted ≡ gone - base → told.tracked ≡ min (weight (map_of (p.entries now.order))) (2 ^ 64 - 1)

@@ -1,10 +1,10 @@
 -- Keys that stand by themselves are told apart, from each other and from longer ones.
-use Rattle.std.proofs.Common.{⊎_elim, ◌≡◌, ◌∙◌, ℕ, ◌-◌, ◌≤◌, ◌<◌, ◌++◌, ◌∷◌, [], List, Option, None, Some, cond, ap, sym, length, take, drop, replicate, length-append, arith}
-use Rattle.std.proofs.Math.Seq.{drop-append_seam, take-append_seam}
-use Rattle.std.proofs.lemmas.Bool.{le-leb, lt-leb, cases_lt}
-use Rattle.std.proofs.lemmas.List.{append_assoc, length-replicate, length-drop, take-append-drop}
+use Rattle.std.proofs.Common.{⊎_elim, replicate, length-append}
+use Rattle.std.proofs.lemmas.Bool.{le-leb, lt-leb}
+use Rattle.std.proofs.lemmas.List.{length-replicate, length-drop, take-append-drop}
 use Rattle.pcache_base.specs.Blake2b.{blake2b_128}
 use Rattle.cache_simulation.specs.Names.{without_tag, padded, by_itself, stands_by}
+use Rattle.cache_simulation.proofs.Words.{◌≡◌, ◌∙◌, ℕ, ◌-◌, ◌≤◌, ◌<◌, ◌++◌, ◌∷◌, [], List, Option, None, Some, cond, ap, sym, length, take, drop, arith, drop-append_seam, take-append_seam, cases_lt, append_assoc}
 
 -- the kinds of keys
 

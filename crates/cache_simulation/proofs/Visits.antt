@@ -1,21 +1,15 @@
 -- What several caches have served, after one more request.
-use Rattle.std.proofs.Common.{◌≡◌, ◌∙◌, ℕ, ◌+◌, ◌<◌, ◌≤◌, ◌==◌, Bool, true, false, not, Option, None, Some, List, [], ◌∷◌, ◌++◌, inl, inr, refl, ap, sym, subst, length, get_or, set, take, arith}
-use Rattle.std.specs.Prelude.{◌⊎◌, if◌then◌else◌, nat_lt, unwrap_or, slice_index, EachIndex}
-use Rattle.std.specs.List.{All, cons_option}
-use Rattle.std.proofs.lemmas.Bool.{eqb-true, eqb-false, cond_both, cases_lt}
-use Rattle.std.proofs.lemmas.List.{append-nil, get_or_push, get_or_append_left, length_push, length-set, get_or-map, get_or-set_same, take_at}
-use Rattle.std.proofs.lemmas.List.Elements.{All-get_or, filter_map-append}
+use Rattle.std.proofs.Common.{inl, inr}
+use Rattle.std.specs.Prelude.{◌⊎◌, if◌then◌else◌}
+use Rattle.std.specs.List.{All}
+use Rattle.std.proofs.lemmas.Bool.{eqb-true, eqb-false, cond_both}
+use Rattle.std.proofs.lemmas.List.{get_or_push, get_or_append_left, get_or-map, get_or-set_same, take_at}
 use Rattle.rendezvous.specs.Nodes.{GoesTo}
-use Rattle.cache_simulation.specs.declared.cache.Cache.{Cache}
-use Rattle.cache_simulation.specs.declared.cache.Told.{Told}
 use Rattle.cache_simulation.specs.declared.options.Policy.{Policy as Named}
-use Rattle.cache_simulation.specs.declared.options.Setting.{Setting}
-use Rattle.cache_simulation.specs.declared.run.Request.{Request}
 use Rattle.cache_simulation.specs.declared.tiers.Tiers.{Tiers}
-use Rattle.cache_simulation.specs.Fresh.{Fresh}
-use Rattle.cache_simulation.specs.Plays.{Rules}
-use Rattle.cache_simulation.specs.Caches.{Stands, StandsIn, Ran, rules_in, start_in, shape_of, policy_of}
-use Rattle.cache_simulation.specs.Tiers.{Visit, IsVisit, Got, HasServed, HasHad, Makes, MakesAt, Tells, at_node, behind, one_more, is_at, hits_in, hits_at}
+use Rattle.cache_simulation.specs.Caches.{Ran, shape_of}
+use Rattle.cache_simulation.specs.Tiers.{IsVisit, HasServed, Makes, MakesAt, behind, one_more, is_at, hits_at}
+use Rattle.cache_simulation.proofs.Words.{◌≡◌, ◌∙◌, ℕ, ◌+◌, ◌<◌, ◌≤◌, ◌==◌, Bool, true, false, not, Option, None, Some, List, [], ◌∷◌, ◌++◌, refl, ap, sym, subst, length, get_or, set, take, arith, nat_lt, unwrap_or, slice_index, EachIndex, cons_option, cases_lt, append-nil, length_push, length-set, All-get_or, filter_map-append, Cache, Told, Setting, Request, Fresh, Rules, Stands, StandsIn, rules_in, start_in, policy_of, Visit, Got, HasHad, Tells, at_node, hits_in}
 
 -- the same requests
 pub same-served : (own own' : ℕ → List Request) (asked asked' : List Request) (t : Tiers) → ((n : ℕ) → own n ≡ own' n) → asked ≡ asked' → HasServed own asked t → HasServed own' asked' t
@@ -158,7 +152,7 @@ pub tells : (setting : Setting) (policy : Named) (size : ℕ) (asked : List Requ
     → ((before asked : List Request) (rules : Rules) (start : Option Fresh) → Stands before asked rules start c.gone c.run → Ran before asked rules start told) → Got setting policy size asked c → Tells setting policy size asked told
 tells setting policy size asked c told same ran got = (
   same ∙ ap (λ p. p.0) got.shape,
-  subst (λ (n : ℕ). Ran [] asked (rules_in setting n) (start_in setting) told) (ap (λ p. p.1) got.shape) (ran [] asked (rules_in setting c.size) (start_in setting) got.stands),
+  subst (λ (p : Named × ℕ). Ran [] asked (rules_in p.0 setting p.1) (start_in setting) told) got.shape (ran [] asked (rules_in (policy_of c.run) setting c.size) (start_in setting) got.stands),
 )
 
 -- ---- a request that was made

@@ -1,6 +1,8 @@
 -- The caches of a simulation, and what their rows say (own).
 use Rattle.std.specs.Prelude.{◌≡◌, ℕ, ◌*◌, ◌-◌, ◌^◌, min, Option, List, ◌++◌, option_map, if◌then◌else◌}
 use Rattle.std.specs.List.{All}
+use Rattle.pcache_evict.specs.declared.eviction.policy.EvictionPolicy.{EvictionPolicy}
+use Rattle.pcache_evict.specs.declared.eviction.policy.EvictionPolicy.TheVariants as eviction
 use Rattle.pcache_evict.specs.Tracked.{limits_of, weight}
 use Rattle.pcache_evict.specs.Listed.{map_of}
 use Rattle.pcache_evict.specs.Policy.{Policy, lru, sharded}
@@ -82,6 +84,16 @@ policy_of (run.Fifo r) = named.Fifo
 policy_of (run.Clock r) = named.Clock
 policy_of (run.TwoQueues r) = named.TwoQueues
 
+-- the policy of a manager, by the simulator's name for it
+abbrev pub goes_by : Named → EvictionPolicy
+goes_by named.Lru = eviction.Lru
+goes_by named.Sharded = eviction.ShardedLru
+goes_by named.Sieve = eviction.Sieve
+goes_by named.S3Fifo = eviction.S3Fifo
+goes_by named.Fifo = eviction.Fifo
+goes_by named.Clock = eviction.Clock
+goes_by named.TwoQueues = eviction.TwoQueues
+
 -- what a run has counted
 abbrev pub counts_of : AnyRun → Counts
 counts_of (run.Lru r) = r.counts
@@ -96,9 +108,9 @@ counts_of (run.TwoQueues r) = r.counts
 abbrev pub most_in : Setting → ℕ → ℕ
 most_in s limit = if s.passes_by then limit else largest
 
--- the rules of a cache that has this size over all keys
-abbrev pub rules_in : Setting → ℕ → Rules
-rules_in s size = rules_of (limits_of (expected s.sample.rate size) (option_map (expected s.sample.rate) s.watermark)) (most_in s (expected s.sample.rate size)) s.replaces
+-- the rules of a cache of this policy that has this size over all keys
+abbrev pub rules_in : Named → Setting → ℕ → Rules
+rules_in policy s size = rules_of (limits_of (goes_by policy) (expected s.sample.rate size) (option_map (expected s.sample.rate) s.watermark)) (most_in s (expected s.sample.rate size)) s.replaces
 
 -- what is recorded of freshness before the first request
 abbrev pub start_in : Setting → Option Fresh
@@ -106,7 +118,7 @@ start_in s = option_map (λ t. none_fresh (t * 1000000000)) s.ttl
 
 -- a cache has served these requests after those before the mark
 abbrev pub StandsIn : Setting → List Request → List Request → Cache → Type 0
-StandsIn setting before asked c = Stands before asked (rules_in setting c.size) (start_in setting) c.gone c.run
+StandsIn setting before asked c = Stands before asked (rules_in (policy_of c.run) setting c.size) (start_in setting) c.gone c.run
 
 -- the policy of a cache and its size
 abbrev pub shape_of : Cache → Named × ℕ
@@ -123,7 +135,7 @@ HasPlayed before asked runs = All (StandsIn runs.setting before asked) runs.cach
 -- a row tells what the plain run of its policy gives of these requests after those before the mark, in this part of a trace
 pub record IsRow (setting : Setting) (span : Span) (before asked : List Request) (row : Row) : Type 0 where
   pub by : row.setting ≡ setting
-  pub ran : Ran before asked (rules_in setting row.size) (start_in setting) row.told
+  pub ran : Ran before asked (rules_in row.told.policy setting row.size) (start_in setting) row.told
   pub begins : row.from ≡ span.from
   pub ends : row.until ≡ span.until
   pub requests : row.expected ≡ expected setting.sample.rate span.all.requests

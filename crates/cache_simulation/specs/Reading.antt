@@ -69,7 +69,7 @@ pub record HasRead (before lines : List Line) (p : Player) : Type 0 where
 -- expected of so many lines
 pub record IsRowOf (setting : Setting) (before lines : List Line) (row : Row) : Type 0 where
   pub by : row.setting ≡ setting
-  pub ran : Ran (requests_of setting before) (requests_of setting lines) (rules_in setting row.size) (start_in setting) row.told
+  pub ran : Ran (requests_of setting before) (requests_of setting lines) (rules_in row.told.policy setting row.size) (start_in setting) row.told
   pub begins : row.from ≡ length before
   pub ends : row.until ≡ length before + length lines
   pub requests : row.expected ≡ expected setting.sample.rate (length lines)

@@ -81,7 +81,7 @@ one_more n more own m = if n == m then own m ++ more else own m
 
 -- a node tells what the plain run of its policy gives of its requests
 abbrev pub Tells : Setting → Named → ℕ → List Request → Told → Type 0
-Tells setting policy size asked told = (told.policy ≡ policy) × Ran [] asked (rules_in setting size) (start_in setting) told
+Tells setting policy size asked told = (told.policy ≡ policy) × Ran [] asked (rules_in policy setting size) (start_in setting) told
 
 -- each node does, of the requests that it got
 pub record TellEach (visits : List Visit) (t : Tiers) (told : List Told) : Type 0 where

@@ -7,7 +7,7 @@ ghost use Rattle.cache_simulation.specs.declared.run.Request.{Request};
 ghost use Rattle.cache_simulation.specs.Fresh.{Fresh, none_fresh};
 ghost use Rattle.cache_simulation.specs.Plays.{Rules, rules_of};
 ghost use Rattle.cache_simulation.specs.declared.options.Setting.{Setting};
-ghost use Rattle.cache_simulation.specs.Caches.{Stands, StandsIn, Ran, IsRow, policy_of, shape_of, counts_of};
+ghost use Rattle.cache_simulation.specs.Caches.{Stands, StandsIn, Ran, IsRow, goes_by, policy_of, shape_of, counts_of};
 
 use crate::counts::Counts;
 use crate::options::{Policy, Setting};
@@ -67,7 +67,7 @@ impl AnyRun {
         replaces: bool,
     ) -> Result<AnyRun>
         ensures empty { IfOk result (λ r. Stands [] []
-            (rules_of (limits_of limit watermark) most replaces)
+            (rules_of (limits_of (goes_by policy) limit watermark) most replaces)
             (option_map (λ t. none_fresh (as_nanos t)) time) 0 r) }
         ensures policy { IfOk result (λ r. policy_of r ≡ policy) }
         ensures kind { IfErr result (λ e. e ≡ OutOfMemory) }

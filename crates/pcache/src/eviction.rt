@@ -1,7 +1,8 @@
 //! Eviction managers, and their files.
 
 pub use pcache_evict::eviction::{
-    CacheEntryId, CacheEntryKey, CacheEntryKeyRef, EvictionManager, sharded_lru, simple_lru,
+    CacheEntryId, CacheEntryKey, CacheEntryKeyRef, EvictionManager, EvictionPolicy, sharded_lru,
+    simple_lru,
 };
 pub use pcache_files as files;
 pub use pcache_files::device::{CountedRead, CountedWrite};

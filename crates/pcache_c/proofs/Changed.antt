@@ -1,12 +1,9 @@
 -- A call on a handle whose object is taken out and put back.
-use Rattle.std.proofs.Common.{◌≡◌, ◌⊎◌, inl, inr, sym, ap, ◌∙◌, subst, ℕ, Bool, true, Option, Some, None, Result, Ok, Err, is_some}
-use Rattle.std.proofs.lemmas.Bool.{false≢true}
-use Rattle.pcache_base.specs.declared.error.ErrorType.{ErrorType}
+use Rattle.std.proofs.Common.{Bool, true}
 use Rattle.pcache_base.specs.declared.error.ErrorType.TheVariants.{InternalError, OutOfMemory}
-use Rattle.std.specs.Prelude.{option_map}
-use Rattle.pcache_c.specs.Codes.{OnGood, code_of, no_memory, unreadable}
-use Rattle.pcache_c.specs.Handles.{Asks, Changes, OnKind, Turns}
-use Rattle.pcache_c.specs.declared.object.Object.{Object}
+use Rattle.pcache_c.specs.Codes.{unreadable}
+use Rattle.pcache_c.specs.Handles.{Asks, Changes}
+use Rattle.pcache_c.proofs.Words.{◌≡◌, ◌⊎◌, inl, inr, sym, ap, ◌∙◌, subst, ℕ, Option, Some, None, Result, Ok, Err, is_some, false≢true, ErrorType, option_map, OnGood, code_of, no_memory, OnKind, Turns, Object}
 
 pub changed : {X : Type 0} (value : X → Object) (r : Option X) (x : X) (old new : Option Object) (code : ℕ) (does : Object → Object → Type 0) (y b : Object)
     → option_map value r ≡ old → r ≡ Some x → y ≡ value x → new ≡ Some b → does y b → Changes old new code does

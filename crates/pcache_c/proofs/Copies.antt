@@ -1,14 +1,7 @@
 -- How a copy of a meta comes into a handle.
-use Rattle.std.proofs.Common.{◌≡◌, ◌⊎◌, inl, inr, refl, sym, ap, subst, ◌∙◌, ℕ, Option, Some, None, Ok, Err}
-use Rattle.std.specs.Prelude.{IsSome, option_map}
-use Rattle.std.proofs.lemmas.Bool.{false≢true}
-use Rattle.std.proofs.lemmas.Option.{none-some}
-use Rattle.pcache_meta.specs.Meta.{Meta}
-use Rattle.pcache_c.specs.Caches.{CopiesMeta}
-use Rattle.pcache_c.specs.Codes.{no_memory, nothing}
-use Rattle.pcache_c.specs.Handles.{Fills, IsSame}
-use Rattle.pcache_c.specs.Requests.{CopyOf}
-use Rattle.pcache_c.specs.declared.handle.PcacheHandle.{PcacheHandle}
+use Rattle.std.specs.Prelude.{IsSome}
+use Rattle.pcache_c.specs.Codes.{nothing}
+use Rattle.pcache_c.proofs.Words.{◌≡◌, ◌⊎◌, inl, inr, refl, sym, ap, subst, ◌∙◌, ℕ, Option, Some, None, Ok, Err, option_map, false≢true, none-some, Meta, CopiesMeta, no_memory, Fills, IsSame, CopyOf, PcacheHandle}
 use Rattle.pcache_c.specs.declared.object.Object.TheVariants as object
 
 pub copy_filled : (m : Option Meta) (copy : Meta) (old new : PcacheHandle) (code : ℕ) → CopyOf m (Ok copy) → Fills (object.Meta copy) old new code → CopiesMeta m old new code

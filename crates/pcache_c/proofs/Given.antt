@@ -1,12 +1,10 @@
 -- What a caller in C gives is good.
-use Rattle.std.proofs.Common.{◌≡◌, ◌⊎◌, inl, inr, sym, ap, ◌∙◌, subst, ℕ, suc, ◌==◌, List, [], ◌∷◌, length, Bool, true, false, Option, Some, None, Result, Ok, Err}
-use Rattle.std.specs.Prelude.{IsErr, ⊤}
-use Rattle.std.proofs.Math.Nat.{suc-ne-zero}
-use Rattle.std.proofs.lemmas.Bool.{false≢true}
-use Rattle.pcache_evict.specs.declared.eviction.entry_key.CacheEntryKey.{CacheEntryKey}
-use Rattle.pcache_c.specs.Codes.{OnGood, OnText, bad_value, code_in, nonempty}
+use Rattle.std.proofs.Common.{Bool, true}
+use Rattle.std.specs.Prelude.{IsErr}
+use Rattle.pcache_c.specs.Codes.{OnText, bad_value, code_in, nonempty}
 use Rattle.pcache_c.specs.Managers.{entry_keyed}
 use Rattle.pcache_c.specs.declared.entries.PcacheEntry.{PcacheEntry}
+use Rattle.pcache_c.proofs.Words.{◌≡◌, ◌⊎◌, inl, inr, sym, ap, ◌∙◌, subst, ℕ, suc, ◌==◌, List, [], ◌∷◌, length, false, Option, Some, None, Result, Ok, Err, ⊤, suc-ne-zero, false≢true, CacheEntryKey, OnGood}
 
 -- a buffer that is not empty
 pub room_good : (xs : List ℕ) (code : ℕ) (same : Type 0) (does : List ℕ → Type 0) → (length xs == 0) ≡ false → does xs → OnGood (nonempty xs) code same does

@@ -1,13 +1,7 @@
 -- What a call leaves that was refused.
-use Rattle.std.proofs.Common.{◌≡◌, ◌≢◌, ◌⊎◌, inl, inr, ℕ, List, Option, None}
-use Rattle.pcache_base.specs.declared.error.ErrorType.{ErrorType}
-use Rattle.pcache_cache.specs.Parts.{Parts}
-use Rattle.pcache_c.specs.Codes.{Outcome, code_of, nothing, ok, wrong_call}
-use Rattle.pcache_c.specs.Handles.{Fills, IsSame}
+use Rattle.pcache_c.specs.Codes.{nothing, wrong_call}
 use Rattle.pcache_c.specs.Requests.{Reads, Views}
-use Rattle.pcache_c.specs.declared.handle.PcacheHandle.{PcacheHandle}
-use Rattle.pcache_c.specs.declared.object.Object.{Object}
-use Rattle.pcache_c.specs.declared.served.Open.{Open}
+use Rattle.pcache_c.proofs.Words.{◌≡◌, ◌≢◌, ◌⊎◌, inl, inr, ℕ, List, Option, None, ErrorType, Parts, Outcome, code_of, ok, Fills, IsSame, PcacheHandle, Object, Open}
 
 -- a handle that was not filled is as it was
 pub fill_left : (x : Object) (old new : PcacheHandle) (code : ℕ) → Fills x old new code → code ≢ ok → IsSame old new

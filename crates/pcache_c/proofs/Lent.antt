@@ -1,7 +1,5 @@
 -- A request that was found by its number, and what is left in its place.
-use Rattle.std.proofs.Common.{◌≡◌, sym, ap, ◌∙◌, subst, Option, Some}
-use Rattle.std.specs.Prelude.{OnSome, option_map}
-use Rattle.std.specs.Borrow.{MutBor}
+use Rattle.pcache_c.proofs.Words.{◌≡◌, sym, ap, ◌∙◌, subst, Option, Some, OnSome, option_map, MutBor}
 
 module _ {X : Type 0} (r : Option (MutBor X)) (o : MutBor X) (some : r ≡ Some o) where
   -- what it was

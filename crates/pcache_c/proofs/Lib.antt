@@ -12,3 +12,4 @@ pub mod Outcomes
 pub mod Places
 pub mod Storable
 pub mod Told
+pub mod Words

@@ -1,11 +1,11 @@
 -- The fields of a head, as it is shown.
-use Rattle.std.proofs.Common.{◌≡◌, ℕ, zero, suc, Bool, true, false, cond, List, [], ◌∷◌, map, length, refl, sym, ap, ◌∙◌, bytes_eq}
-use Rattle.std.specs.Prelude.{Option, option_map, slice_get}
+use Rattle.std.proofs.Common.{Bool, true, bytes_eq}
 use Rattle.std.proofs.lemmas.List.{length-map}
 use Rattle.http_header.specs.FieldValue.{FieldValue}
-use Rattle.http_header.specs.HeaderMap.{Entries, get_all, pairs}
+use Rattle.http_header.specs.HeaderMap.{Entries}
 use Rattle.pcache_meta.specs.Header.{shown_fields}
 use Rattle.pcache_meta.proofs.HeaderSpelled.{pairs-shown}
+use Rattle.pcache_c.proofs.Words.{◌≡◌, ℕ, zero, suc, false, cond, List, [], ◌∷◌, map, length, refl, sym, ap, ◌∙◌, Option, option_map, slice_get, get_all, pairs}
 
 abbrev pub bytes : FieldValue → List ℕ
 bytes value = value.bytes

@@ -1,10 +1,9 @@
 -- The byte strings of a meta, written.
-use Rattle.std.proofs.Common.{◌≡◌, inr, ap, sym, ◌∙◌, subst, ℕ, List, length}
 use Rattle.pcache_meta.specs.HeaderText.{header_written}
-use Rattle.pcache_meta.specs.Meta.{Meta}
 use Rattle.pcache_meta.specs.MetaBytes.{SpellsMeta}
 use Rattle.pcache_meta.specs.MetaWriting.{internal_written}
-use Rattle.pcache_c.specs.Values.{AreWritten, SavesMeta}
+use Rattle.pcache_c.specs.Values.{AreWritten}
+use Rattle.pcache_c.proofs.Words.{◌≡◌, inr, ap, sym, ◌∙◌, subst, ℕ, List, length, Meta, SavesMeta}
 
 pub meta_saved : (m : Meta) (f s f' s' i i' h h' : List ℕ) (ni nh code : ℕ) → f ≡ internal_written m.internal → s ≡ header_written m.header → SpellsMeta f s m → f' ≡ f → s' ≡ s
     → ni ≡ length f → nh ≡ length s → AreWritten f' s' i i' h h' code → SavesMeta m i i' h h' ni nh code

@@ -1,19 +1,13 @@
 -- How a call gets to a request by its number.
-use Rattle.std.proofs.Common.{◌≡◌, refl, sym, ap, ◌∙◌, subst, ℕ, Option, Some, None, Box, Global}
-use Rattle.std.specs.Prelude.{OnSome, option_map}
-use Rattle.std.specs.Borrow.{MutBor}
+use Rattle.std.proofs.Common.{Box, Global}
 use Rattle.std.specs.Box.{with_value}
-use Rattle.pcache_cache.specs.Parts.{Parts}
 use Rattle.pcache_c.specs.Codes.{bad_handle, wrong_kind}
 use Rattle.pcache_c.specs.Counts.{Counting, counts_nothing}
-use Rattle.pcache_c.specs.Handles.{OnKind}
-use Rattle.pcache_c.specs.Objects.{as_cache}
-use Rattle.pcache_c.specs.Reached.{CountsOnNumber, Does, OnNumber, OnOpen}
-use Rattle.pcache_c.specs.Seats.{AreSame, IsSet, request_at}
-use Rattle.pcache_c.specs.declared.object.Object.{Object}
-use Rattle.pcache_c.specs.declared.object.Object.TheVariants as object
-use Rattle.pcache_c.specs.declared.served.Open.{Open}
+use Rattle.pcache_c.specs.Reached.{CountsOnNumber, OnOpen}
+use Rattle.pcache_c.specs.Seats.{AreSame}
 use Rattle.pcache_c.specs.declared.served.Served.{Served}
+use Rattle.pcache_c.proofs.Words.{◌≡◌, refl, sym, ap, ◌∙◌, subst, ℕ, Option, Some, None, OnSome, option_map, MutBor, Parts, OnKind, as_cache, Does, OnNumber, IsSet, request_at, Object, Open}
+use Rattle.pcache_c.specs.declared.object.Object.TheVariants as object
 
 -- the object is a cache in a box, and s is what the box has; t is what is left in the box
 module _ (n : ℕ) (old : Object) (b : Box Served Global) (s : Served) (code : ℕ) (counting : Counting) (does : Does) (is : old ≡ object.Cache b) (value : s ≡ b.value) (t : Served) where

@@ -1,20 +1,7 @@
 -- The machine value of a `ObjectPtr`, and what it owns. Assumes `Logic`.
-use Rattle.std.proofs.Common.{◌≡◌, List, [], ◌∷◌, ◌++◌, refl, ap, ◌∙◌, subst}
 use mathlib.Core.Bool.{Bool, not}
-use lib.Dec.{T}
-use Rattle.std.specs.Prelude.{Option, None, Some, IsTrue, is_some}
-use seplogic.Ra.Ura.{Ura}
-use mir.Val.{Val, vstruct, vcons, vnil, of_list}
-use types.Logic.{Logic}
-use types.Kit.{Item, Goal, Seq, Step, step, ‵, ◌$◌, drop, fsplit, fjoin, fpick, fpack, feq_i, feq_l}
-use denote.RattleType.{RattleType, Valss}
-use denote.Builtin.{RawPtr}
-use denote.RawPtr.{Ptr, ptr_val}
 use denote.Steps.{nothing}
-use denote.Struct.Struct.{within}
-use denote.Struct.Owning.{shape}
-use Rattle.pcache_c.specs.declared.object.Object.{Object}
-use Rattle.pcache_c.specs.Handle.{object_at}
+use Rattle.pcache_c.proofs.Words.{◌≡◌, List, [], ◌∷◌, ◌++◌, refl, ap, ◌∙◌, subst, T, Option, None, Some, IsTrue, is_some, Ura, Val, vstruct, vcons, vnil, of_list, Logic, Item, Goal, Seq, Step, step, ‵, ◌$◌, drop, fsplit, fjoin, fpick, fpack, feq_i, feq_l, RattleType, Valss, RawPtr, Ptr, ptr_val, within, shape, Object, object_at}
 use Rattle.pcache_c.specs.contracts.handle.ObjectPtr as held
 
 abbrev pub ObjectPtr : RattleType

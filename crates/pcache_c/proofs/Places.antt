@@ -1,12 +1,12 @@
 -- A list whose one element is changed, and what a place has then.
-use Rattle.std.proofs.Common.{◌≡◌, ◌≢◌, ◌⊎◌, inl, inr, refl, sym, ap, ◌∙◌, subst, ℕ, zero, suc, ◌+◌, ◌*◌, ◌/◌, ◌%◌, ◌^◌, List, [], ◌∷◌, Option, Some, None, Bool, true, false, nat_eq}
-use Rattle.std.specs.Prelude.{slice_get, slice_set, option_and_then, option_map, unwrap_or, OnSome, cond, ◌==◌}
+use Rattle.std.proofs.Common.{◌/◌, Bool, true, nat_eq}
+use Rattle.std.specs.Prelude.{slice_set, option_and_then, unwrap_or}
 use Rattle.std.proofs.lemmas.Bool.{eqb-true, eq-eqb, false_from_ne_true}
 use Rattle.std.proofs.lemmas.Bool.Decides.{eqb_tells}
 use Rattle.std.proofs.Math.Nat.{mod-add-div}
-use Rattle.std.proofs.lemmas.Option.{none-some}
 use Rattle.pcache_c.specs.declared.seats.Seat.{Seat}
 use Rattle.pcache_c.specs.Seats.{open_in, request_in, round_in}
+use Rattle.pcache_c.proofs.Words.{◌≡◌, ◌≢◌, ◌⊎◌, inl, inr, refl, sym, ap, ◌∙◌, subst, ℕ, zero, suc, ◌+◌, ◌*◌, ◌%◌, ◌^◌, List, [], ◌∷◌, Option, Some, None, false, slice_get, option_map, OnSome, cond, ◌==◌, none-some}
 
 module _ {X : Type 0} where
   pub set_back : (xs : List X) (i : ℕ) (x : X) → slice_get xs i ≡ Some x → slice_set xs i x ≡ xs

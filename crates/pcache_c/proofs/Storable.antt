@@ -1,17 +1,11 @@
 -- The decision on a response, and its meta in a handle.
-use Rattle.std.proofs.Common.{◌≡◌, ℕ, Bool, true, false, Option, None, Some, inr, subst, sym}
+use Rattle.std.proofs.Common.{Bool, true}
 use Rattle.std.specs.Bool.{MatchBool}
-use Rattle.std.specs.declared.time.Duration.{Duration}
-use Rattle.pcache_meta.specs.Meta.{Meta}
-use Rattle.pcache_meta.specs.declared.header.ResponseHeader.{ResponseHeader}
 use Rattle.pcache_control.specs.Filters.{FreshBy, forbids, said_moment}
-use Rattle.pcache_control.specs.Responses.{IsDecision}
-use Rattle.pcache_control.specs.declared.cache_control.CacheControl.{CacheControl}
 use Rattle.pcache_control.specs.declared.response.RespCacheable.{RespCacheable}
-use Rattle.pcache_control.specs.declared.response.RespCacheable.TheVariants as decision
-use Rattle.pcache_c.specs.Handles.{Fills}
 use Rattle.pcache_c.specs.Values.{Decides, GivesMeta, IsControlOf}
-use Rattle.pcache_c.specs.declared.handle.PcacheHandle.{PcacheHandle}
+use Rattle.pcache_c.proofs.Words.{◌≡◌, ℕ, false, Option, None, Some, inr, subst, sym, Duration, Meta, ResponseHeader, IsDecision, CacheControl, Fills, PcacheHandle}
+use Rattle.pcache_control.specs.declared.response.RespCacheable.TheVariants as decision
 use Rattle.pcache_c.specs.declared.object.Object.TheVariants as object
 
 fresh_by : (now : ℕ) (said : Option ℕ) (P Q : Option Duration → Type 0) (until : Option ℕ) → ((d : Option Duration) → P d → Q d) → FreshBy now said P until → FreshBy now said Q until

@@ -1,11 +1,9 @@
 -- What the calls that decide by RFC 9111 tell.
-use Rattle.std.proofs.Common.{◌≡◌, inr, subst, ℕ, List, Result, Ok, Err}
 use Rattle.std.specs.Prelude.{MatchResult}
 use Rattle.http_header.specs.Token.{IsToken}
 use Rattle.pcache_meta.specs.declared.header.RequestHeader.{RequestHeader}
 use Rattle.pcache_c.specs.Decisions.{IsAsked, MakesAsked}
-use Rattle.pcache_c.specs.Handles.{Fills}
-use Rattle.pcache_c.specs.declared.handle.PcacheHandle.{PcacheHandle}
+use Rattle.pcache_c.proofs.Words.{◌≡◌, inr, subst, ℕ, List, Result, Ok, Err, Fills, PcacheHandle}
 use Rattle.pcache_c.specs.declared.object.Object.TheVariants as object
 
 pub ok_err : {T E : Type 0} (t : T) (e : E) → ◌≡◌ {A = Result T E} (Ok t) (Err e) → ⊥

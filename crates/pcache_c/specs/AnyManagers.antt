@@ -1,10 +1,12 @@
 -- A manager of one of several policies (own).
 use Rattle.std.specs.Prelude.{◌≡◌, ◌≤◌, ℕ, [], Option, None, Some}
+use Rattle.pcache_evict.specs.declared.eviction.policy.EvictionPolicy.{EvictionPolicy}
+use Rattle.pcache_evict.specs.declared.eviction.policy.EvictionPolicy.TheVariants as eviction
 use Rattle.pcache_evict.specs.Listed.{map_of}
 use Rattle.pcache_evict.specs.Policy.{Rules, Shown, lru, one_shown, rules_of}
 use Rattle.pcache_evict.specs.Tracked.{Evicted, Limits, Tracked, limits_of}
 use Rattle.pcache_policies.specs.Managed.{entries_in}
-use Rattle.pcache_policies.specs.OneQueue.{clock, fifo, one_queue_shown, queue_way, set_bit}
+use Rattle.pcache_policies.specs.OneQueue.{clock, clock_way, fifo, fifo_way, one_queue_shown}
 use Rattle.pcache_policies.specs.Sieve.{sieve_policy, sieve_way}
 use Rattle.pcache_c.specs.declared.any_manager.AnyManager.{AnyManager}
 use Rattle.pcache_c.specs.declared.any_manager.AnyManager.TheVariants as any
@@ -22,6 +24,13 @@ abbrev pub IsNamed : ℕ → Option Policy → Type 0
 IsNamed n None = 4 ≤ n
 IsNamed n (Some p) = policy_number p ≡ n
 
+-- the policy as it stands among a manager's limits, which no call changes
+abbrev pub goes_by : Policy → EvictionPolicy
+goes_by policy.Lru = eviction.Lru
+goes_by policy.Fifo = eviction.Fifo
+goes_by policy.Clock = eviction.Clock
+goes_by policy.Sieve = eviction.Sieve
+
 -- the policy of a manager
 abbrev pub named_by : AnyManager → Policy
 named_by (any.Lru m) = policy.Lru
@@ -38,8 +47,8 @@ rules_by policy.Sieve = rules_of sieve_way.shown sieve_policy
 
 abbrev pub tracked_in : AnyManager → Tracked
 tracked_in (any.Lru m) = map_of m.entries
-tracked_in (any.Fifo m) = map_of (entries_in (queue_way (λ v. v)) m.order)
-tracked_in (any.Clock m) = map_of (entries_in (queue_way set_bit) m.order)
+tracked_in (any.Fifo m) = map_of (entries_in fifo_way m.order)
+tracked_in (any.Clock m) = map_of (entries_in clock_way m.order)
 tracked_in (any.Sieve m) = map_of (entries_in sieve_way m.order)
 
 abbrev pub limits_in : AnyManager → Limits
@@ -60,8 +69,8 @@ shown_in (any.Fifo m) = one_queue_shown m.order
 shown_in (any.Clock m) = one_queue_shown m.order
 shown_in (any.Sieve m) = sieve_way.shown m.order
 
--- it tracks nothing, has these limits, and evicted nothing
-pub record HasNone (limit : ℕ) (watermark : Option ℕ) (m : AnyManager) : Type 0 where
+-- it tracks nothing, has these limits, goes by this policy, and evicted nothing
+pub record HasNone (named : Policy) (limit : ℕ) (watermark : Option ℕ) (m : AnyManager) : Type 0 where
   pub tracked : tracked_in m ≡ map_of []
-  pub limits : limits_in m ≡ limits_of limit watermark
+  pub limits : limits_in m ≡ limits_of (goes_by named) limit watermark
   pub evicted : evicted_in m ≡ record { weight = 0; count = 0 }

@@ -9,6 +9,7 @@ use Rattle.pcache_evict.specs.Listed.{map_of}
 use Rattle.pcache_evict.specs.Tracked.{limits_of, weight}
 use Rattle.pcache_meta.specs.Meta.{Meta}
 use Rattle.pcache_store.specs.Totals.{slots, stored_bytes}
+use Rattle.pcache_c.specs.AnyManagers.{goes_by}
 use Rattle.pcache_c.specs.Codes.{no_memory, nothing}
 use Rattle.pcache_c.specs.Counts.{nothing_counted}
 use Rattle.pcache_c.specs.Handles.{Fills, IsSame}
@@ -26,11 +27,10 @@ use Rattle.pcache_c.specs.declared.served.Served.{Served}
 abbrev pub key_with : List ℕ → List ℕ → Key
 key_with primary tag = record { primary = primary; primary_override = None; variance = None; user_tag = tag; unusable = None }
 
--- a cache that was made over a manager of this policy, in which nothing is stored, of which no request is open, and that has
--- counted nothing. Every place for a request is in round 0
+-- a cache over a manager of this policy, in which nothing is stored, of which no request is open, and that has counted nothing.
+-- The policy stands among the limits of its manager, which no call changes. Every place for a request is in round 0
 pub record IsNewCache (named : Policy) (how : Weighing) (limit : ℕ) (watermark : Option ℕ) (age : ℕ) (s : Served) : Type 0 where
-  pub parts : s.cache ≡ new_cache how (map_of []) (limits_of limit watermark) (record { weight = 0; count = 0 }) age
-  pub policy : s.policy ≡ named
+  pub parts : s.cache ≡ new_cache how (map_of []) (limits_of (goes_by named) limit watermark) (record { weight = 0; count = 0 }) age
   pub counts : s.counts ≡ nothing_counted
   pub none : (number : ℕ) → request_at s.seats number ≡ None
   pub rounds : (place : ℕ) → round_at s.seats place ≡ 0

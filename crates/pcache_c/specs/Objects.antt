@@ -29,6 +29,7 @@ abbrev pub as_meta : Object → Option Meta
 as_meta (object.Meta m) = Some m
 as_meta _ = None
 
+-- what a call does to the cache of an object is said of this, before and after it, and not of the box
 abbrev pub as_cache : Object → Option Served
 as_cache (object.Cache b) = Some b.value
 as_cache _ = None

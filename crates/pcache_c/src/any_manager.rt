@@ -60,7 +60,7 @@ impl AnyManager {
         watermark: Option<usize>,
     ) -> Result<AnyManager>
         ensures policy { IfOk result (λ m. named_by m ≡ policy) }
-        ensures none { IfOk result (λ m. HasNone limit watermark m) }
+        ensures none { IfOk result (λ m. HasNone policy limit watermark m) }
         ensures kind { IfErr result (λ e. e ≡ OutOfMemory) }
     {
         match policy {
@@ -82,20 +82,6 @@ impl AnyManager {
                 let manager = sieve::Manager::new_with_watermark(alloc, seed, limit, watermark)?;
                 Ok(AnyManager::Sieve(manager))
             }
-        }
-    }
-}
-
-impl AnyManager {
-    /// Its policy.
-    pub(crate) fn policy(&self) -> Policy
-        ensures { result ≡ named_by self.now }
-    {
-        match self {
-            AnyManager::Lru(_) => Policy::Lru,
-            AnyManager::Fifo(_) => Policy::Fifo,
-            AnyManager::Clock(_) => Policy::Clock,
-            AnyManager::Sieve(_) => Policy::Sieve,
         }
     }
 }

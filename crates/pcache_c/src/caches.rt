@@ -1,4 +1,4 @@
-//! A cache with its requests: a store in memory, an eviction manager with one list, and a lock table.
+//! A cache with its requests: a store in memory, an eviction manager of one of four policies, and a lock table.
 
 ghost use Rattle.std.specs.Prelude.{◌≡◌, ◌≢◌, ◌⊎◌, ◌*◌, IfErr, IfOk, IsUtf8, OnOk, Option};
 ghost use Rattle.pcache_base.specs.declared.reason.NoCacheReason.{NoCacheReason};

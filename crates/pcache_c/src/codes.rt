@@ -1,4 +1,5 @@
-//! What the exported functions return.
+//! What the exported functions return, as numbers from the innermost function on: so no layer turns one type of result into another.
+//! What a call says besides goes through a parameter.
 ghost use Rattle.std.specs.Prelude.{◌≡◌, ◌≢◌, ◌≤◌};
 ghost use Rattle.pcache_c.specs.Codes.{code_of};
 

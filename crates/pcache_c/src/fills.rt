@@ -66,23 +66,23 @@ pub extern "C" fn pcache_request_new_with_unusable(
 }
 
 /// Publishes tokens of what was found out about the fill, if the request holds the permit.
-pub(crate) fn publish(cache: &mut AnyCache, open: &Open, tokens: &[u64]) -> u32
-    ensures { Publishes tokens.now cache.old cache.new open.now open.now result }
+pub(crate) fn publish(cache: &mut AnyCache, opened: &Open, tokens: &[u64]) -> u32
+    ensures { Publishes tokens.now cache.old cache.new opened.now opened.now result }
 {
-    if !holds_permit(open) {
+    if !holds_permit(opened) {
         return NONE;
     }
-    match cache.lock_publish_fill_tokens(&open.request, tokens) {
+    match cache.lock_publish_fill_tokens(&opened.request, tokens) {
         Ok(_) => OK,
         Err(e) => code_of(e),
     }
 }
 
 /// The token of the fill for which the last wait that was abandoned was abandoned.
-pub(crate) fn abandoned(open: &Open, token: &mut u64) -> u32
-    ensures { SaysKnown (token_abandoned open.now) token.new result }
+pub(crate) fn abandoned(opened: &Open, token: &mut u64) -> u32
+    ensures { SaysKnown (token_abandoned opened.now) token.new result }
 {
-    match open.request.cache.lock_abandon() {
+    match opened.request.cache.lock_abandon() {
         Some(abandon) => {
             *token = abandon.token;
             OK

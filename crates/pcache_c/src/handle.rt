@@ -88,6 +88,7 @@ impl PcacheHandle {
         if self.tag != TAG {
             return None;
         }
+        // The object is out of its handle while a call runs: so a call that is given one handle twice finds nothing in the second.
         self.tag = 0;
         let held = mem::replace(&mut self.held, ObjectPtr::none());
         Some(held.into_loose(alloc).into_box())

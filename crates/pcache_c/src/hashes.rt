@@ -14,7 +14,7 @@ use pcache_base::text::Text;
 use pcache_base::variance::VarianceBuilder;
 use std::alloc::Global;
 
-/// A hash from exactly 16 bytes.
+/// A hash from exactly 16 bytes: an array does not cross by value.
 pub(crate) fn hash_from(bytes: &[u8]) -> Option<HashBinary>
     ensures { result ≡ hash_at bytes.now }
 {

@@ -282,7 +282,8 @@ fn decide_on(
 }
 
 /// Whether the response of a head is to be stored: if so, its meta goes to a second handle, and if
-/// not, there is nothing to hand over. A response that says nothing of its lifetime is not stored.
+/// not, there is nothing to hand over. A response that says nothing of its lifetime is not stored:
+/// the default lifetimes are a function of the status, and a pointer to one does not cross.
 /// An authorization that is not 0 means that the request had one. The windows are what holds in
 /// seconds if the response says nothing of being served stale.
 #[unsafe(no_mangle)]

@@ -41,7 +41,7 @@ impl<M: EvictionManager> Managed<M> {
         }
     }
 
-    // Admits, unless evicted entries wait.
+    // Admits, unless evicted entries wait: of a caller who forgot them the cache would keep bodies that nothing tracks.
     fn admit(&mut self, item: CacheEntryKey, weight: usize, fresh_until: Moment) -> u32
         ensures { Admits item weight (managing M.tracked M.limits M.evicted self.old)
             (managing M.tracked M.limits M.evicted self.new) result }

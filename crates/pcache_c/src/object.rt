@@ -9,7 +9,8 @@ use pcache_evict::eviction::{sharded_lru, simple_lru};
 use pcache_meta::header::{RequestHeader, ResponseHeader};
 use pcache_meta::meta::CacheMeta;
 
-/// The object of a handle.
+/// The object of a handle. One type has all kinds, so that the three functions that follow a handle's pointer are proved by hand
+/// once; so each object has the room of the largest kind.
 #[derive(Drop)]
 pub enum Object {
     /// A variance in progress.

@@ -58,7 +58,6 @@ pub(crate) fn phase(object: &mut Object, number: u64, out: &mut u32) -> u32
         cache: _cache,
         seats,
         counts: _counts,
-        policy: _policy,
     } = &mut **boxed;
     let Some(request) = seats.find(number) else {
         return BAD_HANDLE;
@@ -79,7 +78,6 @@ pub(crate) fn held(object: &mut Object, number: u64, out: &mut u32) -> u32
         cache: _cache,
         seats,
         counts: _counts,
-        policy: _policy,
     } = &mut **boxed;
     let Some(request) = seats.find(number) else {
         return BAD_HANDLE;
@@ -183,7 +181,6 @@ pub(crate) fn set_meta(object: &mut Object, number: u64, meta: &CacheMeta) -> u3
         cache: _cache,
         seats,
         counts: _counts,
-        policy: _policy,
     } = &mut **boxed;
     let Some(request) = seats.find(number) else {
         return BAD_HANDLE;
@@ -218,7 +215,6 @@ pub(crate) fn serve_updating(object: &mut Object, number: u64) -> u32
         cache: _cache,
         seats,
         counts: _counts,
-        policy: _policy,
     } = &mut **boxed;
     let Some(request) = seats.find(number) else {
         return BAD_HANDLE;
@@ -386,7 +382,6 @@ pub(crate) fn seek(object: &mut Object, number: u64, start: usize, end: usize) -
         cache: _cache,
         seats,
         counts: _counts,
-        policy: _policy,
     } = &mut **boxed;
     let Some(request) = seats.find(number) else {
         return BAD_HANDLE;
@@ -438,7 +433,6 @@ pub(crate) fn limit_waits(object: &mut Object, number: u64, most_millis: u64) ->
         cache: _cache,
         seats,
         counts: _counts,
-        policy: _policy,
     } = &mut **boxed;
     let Some(request) = seats.find(number) else {
         return BAD_HANDLE;
@@ -458,7 +452,6 @@ pub(crate) fn waited(object: &mut Object, number: u64, secs: &mut u64, nanos: &m
         cache: _cache,
         seats,
         counts: _counts,
-        policy: _policy,
     } = &mut **boxed;
     let Some(request) = seats.find(number) else {
         return BAD_HANDLE;
@@ -538,7 +531,6 @@ pub(crate) fn meta_of(object: &mut Object, number: u64) -> Result<CacheMeta, u32
         cache: _cache,
         seats,
         counts: _counts,
-        policy: _policy,
     } = &mut **boxed;
     let Some(request) = seats.find(number) else {
         return Err(BAD_HANDLE);
@@ -573,7 +565,6 @@ pub(crate) fn abandoned(object: &mut Object, number: u64, token: &mut u64) -> u3
         cache: _cache,
         seats,
         counts: _counts,
-        policy: _policy,
     } = &mut **boxed;
     let Some(request) = seats.find(number) else {
         return BAD_HANDLE;
@@ -593,7 +584,6 @@ pub(crate) fn limit_body(object: &mut Object, number: u64, most: usize) -> u32
         cache: _cache,
         seats,
         counts: _counts,
-        policy: _policy,
     } = &mut **boxed;
     let Some(request) = seats.find(number) else {
         return BAD_HANDLE;
@@ -613,7 +603,6 @@ pub(crate) fn count_body(object: &mut Object, number: u64, count: usize, within:
         cache: _cache,
         seats,
         counts: _counts,
-        policy: _policy,
     } = &mut **boxed;
     let Some(request) = seats.find(number) else {
         return BAD_HANDLE;
@@ -633,7 +622,6 @@ pub(crate) fn limit_head(object: &mut Object, number: u64, most: usize) -> u32
         cache: _cache,
         seats,
         counts: _counts,
-        policy: _policy,
     } = &mut **boxed;
     let Some(request) = seats.find(number) else {
         return BAD_HANDLE;

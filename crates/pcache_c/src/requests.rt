@@ -100,16 +100,16 @@ fn number_of_outcome(outcome: Poll<LockWaitOutcome>) -> u32
 
 /// Asks the store, and the lock table if nothing is handed on. Says whether something was found, which stays with the
 /// request until it is taken or passed.
-pub(crate) fn look(cache: &mut AnyCache, open: &mut Open, now: Moment, found: &mut u32) -> u32
-    ensures { Looks now cache.old cache.new open.old open.new found.new result }
+pub(crate) fn look(cache: &mut AnyCache, opened: &mut Open, now: Moment, found: &mut u32) -> u32
+    ensures { Looks now cache.old cache.new opened.old opened.new found.new result }
 {
-    if open.found.is_some() || !open.request.cache.phase().may_look_up() {
+    if opened.found.is_some() || !opened.request.cache.phase().may_look_up() {
         return WRONG_CALL;
     }
-    match cache.cache_lookup_without_policy(&mut open.request, now) {
+    match cache.cache_lookup_without_policy(&mut opened.request, now) {
         Ok(pair) => {
             *found = u32::from(pair.is_some());
-            if let Some((_meta, hit)) = mem::replace(&mut open.found, pair) {
+            if let Some((_meta, hit)) = mem::replace(&mut opened.found, pair) {
                 cache.let_go(hit);
             }
             OK
@@ -120,28 +120,28 @@ pub(crate) fn look(cache: &mut AnyCache, open: &mut Open, now: Moment, found: &m
 
 // Forgets bytes that were read and not returned: they are of another body than the one that is read
 // from then on.
-fn forget_piece(open: &mut Open)
-    ensures piece { open.new.piece ≡ [] }
-    ensures request { open.new.request ≡ open.old.request }
-    ensures found { open.new.found ≡ open.old.found }
+fn forget_piece(opened: &mut Open)
+    ensures piece { opened.new.piece ≡ [] }
+    ensures request { opened.new.request ≡ opened.old.request }
+    ensures found { opened.new.found ≡ opened.old.found }
 {
-    open.piece = Bytes::new();
-    open.next_byte = 0;
+    opened.piece = Bytes::new();
+    opened.next_byte = 0;
 }
 
 /// Takes the pair that a look-up found. Bytes that were read before are no longer returned.
-pub(crate) fn take(cache: &mut AnyCache, open: &mut Open, status: HitStatus, now: Moment) -> u32
-    ensures { Takes status now cache.old cache.new open.old open.new result }
+pub(crate) fn take(cache: &mut AnyCache, opened: &mut Open, status: HitStatus, now: Moment) -> u32
+    ensures { Takes status now cache.old cache.new opened.old opened.new result }
 {
-    if !open.request.cache.phase().may_look_up() {
+    if !opened.request.cache.phase().may_look_up() {
         return WRONG_CALL;
     }
-    let Some((meta, hit)) = open.found.take() else {
+    let Some((meta, hit)) = opened.found.take() else {
         return NONE;
     };
-    match cache.cache_found(&mut open.request, meta, hit, status, now) {
+    match cache.cache_found(&mut opened.request, meta, hit, status, now) {
         Ok(()) => {
-            forget_piece(open);
+            forget_piece(opened);
             OK
         }
         Err(e) => code_of(e),
@@ -149,10 +149,10 @@ pub(crate) fn take(cache: &mut AnyCache, open: &mut Open, status: HitStatus, now
 }
 
 /// Lets go the pair that a look-up found.
-pub(crate) fn pass(cache: &mut AnyCache, open: &mut Open) -> u32
-    ensures { Passes cache.old cache.new open.old open.new result }
+pub(crate) fn pass(cache: &mut AnyCache, opened: &mut Open) -> u32
+    ensures { Passes cache.old cache.new opened.old opened.new result }
 {
-    match open.found.take() {
+    match opened.found.take() {
         Some((_meta, hit)) => {
             cache.let_go(hit);
             OK
@@ -162,50 +162,50 @@ pub(crate) fn pass(cache: &mut AnyCache, open: &mut Open) -> u32
 }
 
 /// Looks for the variant of what a look-up found: says whether it is the one, 1 or 0. If not, it is let go, and the next look-up is
-/// for the variant.
+/// for the variant: a caller who had to let it go, and forgot to, would serve the wrong one.
 pub(crate) fn look_for(
     cache: &mut AnyCache,
-    open: &mut Open,
+    opened: &mut Open,
     variance: HashBinary,
     same: &mut u32,
 ) -> u32
-    ensures { LooksForVariant variance cache.old cache.new open.old open.new same.new result }
+    ensures { LooksForVariant variance cache.old cache.new opened.old opened.new same.new result }
 {
-    if !open.request.cache.phase().may_look_up() {
+    if !opened.request.cache.phase().may_look_up() {
         return WRONG_CALL;
     }
-    let Some((meta, _)) = &open.found else {
+    let Some((meta, _)) = &opened.found else {
         return NONE;
     };
-    let is_same = open.request.cache.cache_vary_lookup(variance, meta);
+    let is_same = opened.request.cache.cache_vary_lookup(variance, meta);
     *same = u32::from(is_same);
     if !is_same {
-        let_go(cache, open.found.take());
+        let_go(cache, opened.found.take());
     }
     OK
 }
 
 /// Goes on as a miss.
-pub(crate) fn miss(open: &mut Open) -> u32
-    ensures { Misses open.old open.new result }
+pub(crate) fn miss(opened: &mut Open) -> u32
+    ensures { Misses opened.old opened.new result }
 {
-    if open.found.is_some() || !open.request.cache.phase().may_miss() {
+    if opened.found.is_some() || !opened.request.cache.phase().may_miss() {
         return WRONG_CALL;
     }
-    open.request.cache.cache_miss();
+    opened.request.cache.cache_miss();
     OK
 }
 
 /// Sets a copy of a meta as that of the response that is to be stored.
-pub(crate) fn set_meta(open: &mut Open, meta: &CacheMeta) -> u32
-    ensures { SetsMeta meta.now open.old open.new result }
+pub(crate) fn set_meta(opened: &mut Open, meta: &CacheMeta) -> u32
+    ensures { SetsMeta meta.now opened.old opened.new result }
 {
-    if !open.request.cache.may_take_meta() {
+    if !opened.request.cache.may_take_meta() {
         return WRONG_CALL;
     }
     match meta.copied() {
         Ok(meta) => {
-            open.request.cache.set_cache_meta(meta);
+            opened.request.cache.set_cache_meta(meta);
             OK
         }
         Err(e) => code_of(e),
@@ -213,10 +213,10 @@ pub(crate) fn set_meta(open: &mut Open, meta: &CacheMeta) -> u32
 }
 
 /// A copy of the meta of what a look-up found, else of the request's own.
-pub(crate) fn meta_of(open: &Open) -> Result<CacheMeta, u32>
-    ensures { CopyOf (meta_shown open.now) result }
+pub(crate) fn meta_of(opened: &Open) -> Result<CacheMeta, u32>
+    ensures { CopyOf (meta_shown opened.now) result }
 {
-    let meta = match (&open.found, open.request.cache.meta()) {
+    let meta = match (&opened.found, opened.request.cache.meta()) {
         (Some((meta, _)), _) => meta,
         (None, Some(meta)) => meta,
         (None, None) => return Err(NONE),
@@ -228,48 +228,48 @@ pub(crate) fn meta_of(open: &Open) -> Result<CacheMeta, u32>
 }
 
 /// Serves a stale body on, of which the origin said that it is good, with this meta's dates and head.
-pub(crate) fn renew(cache: &mut AnyCache, open: &mut Open, meta: &CacheMeta) -> u32
-    ensures { Renews meta.now cache.old cache.new open.old open.new result }
+pub(crate) fn renew(cache: &mut AnyCache, opened: &mut Open, meta: &CacheMeta) -> u32
+    ensures { Renews meta.now cache.old cache.new opened.old opened.new result }
 {
-    if !open.request.cache.may_revalidate() {
+    if !opened.request.cache.may_revalidate() {
         return WRONG_CALL;
     }
     let meta = match meta.copied() {
         Ok(meta) => meta,
         Err(e) => return code_of(e),
     };
-    match cache.revalidate_cache_meta(&mut open.request, meta) {
+    match cache.revalidate_cache_meta(&mut opened.request, meta) {
         Ok(_) => OK,
         Err(e) => code_of(e),
     }
 }
 
 /// Serves a stale body while another request renews it.
-pub(crate) fn serve_updating(open: &mut Open) -> u32
-    ensures { ServesUpdating open.old open.new result }
+pub(crate) fn serve_updating(opened: &mut Open) -> u32
+    ensures { ServesUpdating opened.old opened.new result }
 {
-    if !open.request.cache.phase().is_stale() {
+    if !opened.request.cache.phase().is_stale() {
         return WRONG_CALL;
     }
-    open.request.cache.set_stale_updating();
+    opened.request.cache.set_stale_updating();
     OK
 }
 
 /// Serves a stale body on with the head of an answer that says that it is good, and that is not stored.
 pub(crate) fn serve_on(
     cache: &mut AnyCache,
-    open: &mut Open,
+    opened: &mut Open,
     head: &ResponseHeader,
     reason: NoCacheReason,
 ) -> u32
-    ensures { ServesOn (shown head.now) reason cache.old cache.new open.old open.new result }
+    ensures { ServesOn (shown head.now) reason cache.old cache.new opened.old opened.new result }
 {
-    if !open.request.cache.may_revalidate() || !open.request.cache.may_release(reason) {
+    if !opened.request.cache.may_revalidate() || !opened.request.cache.may_release(reason) {
         return WRONG_CALL;
     }
     match head.copied() {
         Ok(head) => {
-            cache.revalidate_uncacheable(&mut open.request, head, reason);
+            cache.revalidate_uncacheable(&mut opened.request, head, reason);
             OK
         }
         Err(e) => code_of(e),
@@ -277,26 +277,26 @@ pub(crate) fn serve_on(
 }
 
 /// Sets what the response varies on.
-pub(crate) fn vary(cache: &mut AnyCache, open: &mut Open, variance: Option<HashBinary>) -> u32
-    ensures { Varies variance cache.old cache.new open.old open.new result }
+pub(crate) fn vary(cache: &mut AnyCache, opened: &mut Open, variance: Option<HashBinary>) -> u32
+    ensures { Varies variance cache.old cache.new opened.old opened.new result }
 {
-    if !open.request.cache.may_write() {
+    if !opened.request.cache.may_write() {
         return WRONG_CALL;
     }
-    cache.update_variance(&mut open.request, variance);
+    cache.update_variance(&mut opened.request, variance);
     OK
 }
 
 /// Begins the write, which the request reads from then on.
-pub(crate) fn begin(cache: &mut AnyCache, open: &mut Open) -> u32
-    ensures { Begins cache.old cache.new open.old open.new result }
+pub(crate) fn begin(cache: &mut AnyCache, opened: &mut Open) -> u32
+    ensures { Begins cache.old cache.new opened.old opened.new result }
 {
-    if !open.request.cache.may_write() {
+    if !opened.request.cache.may_write() {
         return WRONG_CALL;
     }
-    match cache.set_miss_handler(&mut open.request) {
+    match cache.set_miss_handler(&mut opened.request) {
         Ok(()) => {
-            forget_piece(open);
+            forget_piece(opened);
             OK
         }
         Err(e) => code_of(e),
@@ -307,19 +307,19 @@ pub(crate) fn begin(cache: &mut AnyCache, open: &mut Open) -> u32
 pub(crate) fn write(
     alloc: Global,
     cache: &mut AnyCache,
-    open: &mut Open,
+    opened: &mut Open,
     bytes: &[u8],
     eof: bool,
 ) -> u32
-    ensures { Adds bytes.now eof cache.old cache.new open.old open.new result }
+    ensures { Adds bytes.now eof cache.old cache.new opened.old opened.new result }
 {
-    if !open.request.cache.phase().is_filling() {
+    if !opened.request.cache.phase().is_filling() {
         return WRONG_CALL;
     }
     let Ok(bytes) = Bytes::copy_from_slice(alloc, bytes) else {
         return NO_MEMORY;
     };
-    match cache.write_body(&mut open.request, bytes, eof) {
+    match cache.write_body(&mut opened.request, bytes, eof) {
         Ok(true) => OK,
         Ok(false) => WRONG_CALL,
         Err(e) => code_of(e),
@@ -329,16 +329,16 @@ pub(crate) fn write(
 /// Ends the write. Says how many bytes were stored, and how many entries were evicted for them.
 pub(crate) fn finish(
     cache: &mut AnyCache,
-    open: &mut Open,
+    opened: &mut Open,
     stored: &mut usize,
     evicted: &mut usize,
 ) -> u32
-    ensures { Finishes stored.new evicted.new cache.old cache.new open.old open.new result }
+    ensures { Finishes stored.new evicted.new cache.old cache.new opened.old opened.new result }
 {
-    if !open.request.cache.phase().is_filling() || !cache.may_end(&open.request) {
+    if !opened.request.cache.phase().is_filling() || !cache.may_end(&opened.request) {
         return WRONG_CALL;
     }
-    match cache.finish_miss_handler(&mut open.request) {
+    match cache.finish_miss_handler(&mut opened.request) {
         Ok(Some(report)) => {
             *stored = report.size;
             *evicted = report.evicted.len();
@@ -353,17 +353,18 @@ pub(crate) fn finish(
 /// there were some, 0 at the end, 3 where the body was cut off, 2 if nothing is there yet.
 pub(crate) fn read(
     cache: &mut AnyCache,
-    open: &mut Open,
+    opened: &mut Open,
     out: &mut [u8],
     len: &mut usize,
     more: &mut u32,
 ) -> u32
-    ensures { Reads out.old out.new len.new more.new cache.old cache.new open.old open.new result }
+    ensures { Reads out.old out.new len.new more.new cache.old cache.new opened.old opened.new
+        result }
 {
-    if open.next_byte >= open.piece.len() {
-        return read_on(cache, open, out, len, more);
+    if opened.next_byte >= opened.piece.len() {
+        return read_on(cache, opened, out, len, more);
     }
-    *len = hand_over(open, out);
+    *len = hand_over(opened, out);
     *more = 1;
     OK
 }
@@ -371,26 +372,27 @@ pub(crate) fn read(
 // The same if nothing is left of what was read.
 fn read_on(
     cache: &mut AnyCache,
-    open: &mut Open,
+    opened: &mut Open,
     out: &mut [u8],
     len: &mut usize,
     more: &mut u32,
 ) -> u32
-    requires { rest_of open.old ≡ [] }
-    ensures { Reads out.old out.new len.new more.new cache.old cache.new open.old open.new result }
+    requires { rest_of opened.old ≡ [] }
+    ensures { Reads out.old out.new len.new more.new cache.old cache.new opened.old opened.new
+        result }
 {
-    if !open.request.cache.has_body_reader() {
+    if !opened.request.cache.has_body_reader() {
         return WRONG_CALL;
     }
-    match cache.read_body(&mut open.request) {
+    match cache.read_body(&mut opened.request) {
         Ok(Poll::Ready(Some(piece))) => {
-            open.piece = piece;
-            open.next_byte = 0;
-            *len = hand_over(open, out);
+            opened.piece = piece;
+            opened.next_byte = 0;
+            *len = hand_over(opened, out);
             *more = 1;
         }
         Ok(Poll::Ready(None)) => {
-            (*len, *more) = (0, number_of_end(cache.is_body_whole(&open.request)));
+            (*len, *more) = (0, number_of_end(cache.is_body_whole(&opened.request)));
         }
         Ok(Poll::Pending) => (*len, *more) = (0, 2),
         Err(e) => return code_of(e),
@@ -406,16 +408,16 @@ fn number_of_end(is_whole: bool) -> u32
 }
 
 // Copies what has room, and returns how much.
-fn hand_over(open: &mut Open, out: &mut [u8]) -> usize
-    ensures bytes { HandsOver (rest_of open.old) out.old out.new (rest_of open.new) result }
-    ensures rest { open.new ≡ record open.old { next_byte = open.new.next_byte } }
+fn hand_over(opened: &mut Open, out: &mut [u8]) -> usize
+    ensures bytes { HandsOver (rest_of opened.old) out.old out.new (rest_of opened.new) result }
+    ensures rest { opened.new ≡ record opened.old { next_byte = opened.new.next_byte } }
 {
-    let Some(rest) = open.piece.as_slice().get(open.next_byte..) else {
+    let Some(rest) = opened.piece.as_slice().get(opened.next_byte..) else {
         return 0;
     };
     let count = rest.len().min(out.len());
     out[..count].copy_from_slice(&rest[..count]);
-    open.next_byte += count;
+    opened.next_byte += count;
     count
 }
 
@@ -424,61 +426,61 @@ fn hand_over(open: &mut Open, out: &mut [u8]) -> usize
 pub(crate) fn view(
     alloc: Global,
     cache: &mut AnyCache,
-    open: &mut Open,
+    opened: &mut Open,
     view: &mut PcacheHandle,
     at: &mut *const u8,
     len: &mut usize,
     more: &mut u32,
 ) -> u32
     requires { object_of view.old ≡ None }
-    ensures { Views (object_of view.new) len.new more.new cache.old cache.new open.old open.new
+    ensures { Views (object_of view.new) len.new more.new cache.old cache.new opened.old opened.new
         result }
 {
-    if open.next_byte >= open.piece.len() {
-        return view_on(alloc, cache, open, view, at, len, more);
+    if opened.next_byte >= opened.piece.len() {
+        return view_on(alloc, cache, opened, view, at, len, more);
     }
     *more = 1;
-    hand_out(alloc, open, view, at, len)
+    hand_out(alloc, opened, view, at, len)
 }
 
 // The same if nothing is left of what was read.
 fn view_on(
     alloc: Global,
     cache: &mut AnyCache,
-    open: &mut Open,
+    opened: &mut Open,
     view: &mut PcacheHandle,
     at: &mut *const u8,
     len: &mut usize,
     more: &mut u32,
 ) -> u32
-    requires rest { rest_of open.old ≡ [] }
+    requires rest { rest_of opened.old ≡ [] }
     requires empty { object_of view.old ≡ None }
-    ensures { Views (object_of view.new) len.new more.new cache.old cache.new open.old open.new
+    ensures { Views (object_of view.new) len.new more.new cache.old cache.new opened.old opened.new
         result }
 {
-    let code = fetch(cache, open, more);
+    let code = fetch(cache, opened, more);
     if code != OK || *more != 1 {
         *len = 0;
         return code;
     }
-    hand_out(alloc, open, view, at, len)
+    hand_out(alloc, opened, view, at, len)
 }
 
 // Reads a piece, which stays with the request. Says what is to come, as `read` does.
-fn fetch(cache: &mut AnyCache, open: &mut Open, more: &mut u32) -> u32
-    requires { rest_of open.old ≡ [] }
-    ensures { Fetches more.new cache.old cache.new open.old open.new result }
+fn fetch(cache: &mut AnyCache, opened: &mut Open, more: &mut u32) -> u32
+    requires { rest_of opened.old ≡ [] }
+    ensures { Fetches more.new cache.old cache.new opened.old opened.new result }
 {
-    if !open.request.cache.has_body_reader() {
+    if !opened.request.cache.has_body_reader() {
         return WRONG_CALL;
     }
-    match cache.read_body(&mut open.request) {
+    match cache.read_body(&mut opened.request) {
         Ok(Poll::Ready(Some(piece))) => {
-            open.piece = piece;
-            open.next_byte = 0;
+            opened.piece = piece;
+            opened.next_byte = 0;
             *more = 1;
         }
-        Ok(Poll::Ready(None)) => *more = number_of_end(cache.is_body_whole(&open.request)),
+        Ok(Poll::Ready(None)) => *more = number_of_end(cache.is_body_whole(&opened.request)),
         Ok(Poll::Pending) => *more = 2,
         Err(e) => return code_of(e),
     }
@@ -486,11 +488,11 @@ fn fetch(cache: &mut AnyCache, open: &mut Open, more: &mut u32) -> u32
 }
 
 // What is left of the piece, which is shared.
-fn rest_shared(open: &Open) -> Result<Bytes, AllocError>
-    ensures { IfOk result (λ b. b ≡ rest_of open.now) }
+fn rest_shared(opened: &Open) -> Result<Bytes, AllocError>
+    ensures { IfOk result (λ b. b ≡ rest_of opened.now) }
 {
-    let mut rest = open.piece.clone()?;
-    rest.advance(open.next_byte.min(rest.len()));
+    let mut rest = opened.piece.clone()?;
+    rest.advance(opened.next_byte.min(rest.len()));
     Ok(rest)
 }
 
@@ -504,31 +506,31 @@ fn start_of(bytes: &[u8]) -> *const u8
 // Hands out what is left of the piece. If there is no memory for it, it stays.
 fn hand_out(
     alloc: Global,
-    open: &mut Open,
+    opened: &mut Open,
     view: &mut PcacheHandle,
     at: &mut *const u8,
     len: &mut usize,
 ) -> u32
     requires { object_of view.old ≡ None }
-    ensures { HandsOut (object_of view.new) len.new open.old open.new result }
+    ensures { HandsOut (object_of view.new) len.new opened.old opened.new result }
 {
-    let Ok(rest) = rest_shared(open) else {
+    let Ok(rest) = rest_shared(opened) else {
         return NO_MEMORY;
     };
     let (start, count) = (start_of(rest.as_slice()), rest.len());
     let code = view.fill(alloc, Object::View(rest));
     if code == OK {
         (*at, *len) = (start, count);
-        forget_piece(open);
+        forget_piece(opened);
     }
     code
 }
 
 /// The length of the body that is read.
-pub(crate) fn length(cache: &AnyCache, open: &Open, out: &mut usize) -> u32
-    ensures { SaysKnown (length_by open.now.request.cache.reader cache.now.store) out.new result }
+pub(crate) fn length(cache: &AnyCache, opened: &Open, out: &mut usize) -> u32
+    ensures { SaysKnown (length_by opened.now.request.cache.reader cache.now.store) out.new result }
 {
-    match cache.body_length(&open.request) {
+    match cache.body_length(&opened.request) {
         Some(length) => {
             *out = length;
             OK
@@ -538,15 +540,15 @@ pub(crate) fn length(cache: &AnyCache, open: &Open, out: &mut usize) -> u32
 }
 
 /// Moves the reader to the bytes from `start` to before `end`.
-pub(crate) fn seek(open: &mut Open, start: usize, end: usize) -> u32
-    ensures { Seeks start end open.old open.new result }
+pub(crate) fn seek(opened: &mut Open, start: usize, end: usize) -> u32
+    ensures { Seeks start end opened.old opened.new result }
 {
-    if !open.request.cache.has_body_reader() {
+    if !opened.request.cache.has_body_reader() {
         return WRONG_CALL;
     }
-    match open.request.cache.seek(start, Some(end)) {
+    match opened.request.cache.seek(start, Some(end)) {
         Ok(()) => {
-            forget_piece(open);
+            forget_piece(opened);
             OK
         }
         Err(_) => BAD_VALUE,
@@ -554,24 +556,24 @@ pub(crate) fn seek(open: &mut Open, start: usize, end: usize) -> u32
 }
 
 /// Ends the reader.
-pub(crate) fn finish_hit(cache: &mut AnyCache, open: &mut Open) -> u32
-    ensures { EndsHit cache.old cache.new open.old open.new result }
+pub(crate) fn finish_hit(cache: &mut AnyCache, opened: &mut Open) -> u32
+    ensures { EndsHit cache.old cache.new opened.old opened.new result }
 {
-    if !open.request.cache.phase().may_finish_hit() {
+    if !opened.request.cache.phase().may_finish_hit() {
         return WRONG_CALL;
     }
-    forget_piece(open);
-    match cache.finish_hit_handler(&mut open.request) {
+    forget_piece(opened);
+    match cache.finish_hit_handler(&mut opened.request) {
         Ok(()) => OK,
         Err(e) => code_of(e),
     }
 }
 
 /// What the request holds of its key's lock: 0 for nothing, 1 for the permit, 2 for a read lock.
-pub(crate) fn number_of_held(open: &Open) -> u32
-    ensures { result ≡ held_number open.now.request.cache.held }
+pub(crate) fn number_of_held(opened: &Open) -> u32
+    ensures { result ≡ held_number opened.now.request.cache.held }
 {
-    match open.request.cache.held() {
+    match opened.request.cache.held() {
         None => 0,
         Some(Locked::Write(_)) => 1,
         Some(Locked::Read(_)) => 2,
@@ -579,13 +581,13 @@ pub(crate) fn number_of_held(open: &Open) -> u32
 }
 
 /// Whether the wait for the lock is over: says 0 if it is not, else how it ended.
-pub(crate) fn wait(cache: &mut AnyCache, open: &mut Open, now: Moment, outcome: &mut u32) -> u32
-    ensures { Waits now outcome.new cache.old cache.new open.old open.new result }
+pub(crate) fn wait(cache: &mut AnyCache, opened: &mut Open, now: Moment, outcome: &mut u32) -> u32
+    ensures { Waits now outcome.new cache.old cache.new opened.old opened.new result }
 {
-    if !open.request.cache.phase().is_on() || !open.request.cache.is_cache_locked() {
+    if !opened.request.cache.phase().is_on() || !opened.request.cache.is_cache_locked() {
         return WRONG_CALL;
     }
-    match cache.cache_lock_wait(&mut open.request, now) {
+    match cache.cache_lock_wait(&mut opened.request, now) {
         Ok(polled) => {
             *outcome = number_of_outcome(polled);
             OK
@@ -595,25 +597,25 @@ pub(crate) fn wait(cache: &mut AnyCache, open: &mut Open, now: Moment, outcome: 
 }
 
 /// Sets how long the request waits for locks at most.
-pub(crate) fn limit_waits(open: &mut Open, most_millis: u64) -> u32
-    ensures { LimitsWaits (most_millis * 1000000) open.old open.new result }
+pub(crate) fn limit_waits(opened: &mut Open, most_millis: u64) -> u32
+    ensures { LimitsWaits (most_millis * 1000000) opened.old opened.new result }
 {
-    if !open.request.cache.may_set_cache_lock() {
+    if !opened.request.cache.may_set_cache_lock() {
         return WRONG_CALL;
     }
     let limits = CacheOptionOverrides {
         wait_timeout: Some(Duration::from_millis(most_millis)),
         max_lock_retries: None,
     };
-    open.request.cache.set_cache_lock(true, Some(limits));
+    opened.request.cache.set_cache_lock(true, Some(limits));
     OK
 }
 
 /// How long the request waited for locks, over all its waits that ended.
-pub(crate) fn waited(open: &Open, secs: &mut u64, nanos: &mut u32) -> u32
-    ensures { SaysTime open.now.request.cache.digest.waits secs.new nanos.new result }
+pub(crate) fn waited(opened: &Open, secs: &mut u64, nanos: &mut u32) -> u32
+    ensures { SaysTime opened.now.request.cache.digest.waits secs.new nanos.new result }
 {
-    match open.request.cache.lock_duration() {
+    match opened.request.cache.lock_duration() {
         Some(waited) => {
             (*secs, *nanos) = (waited.as_secs(), waited.subsec_nanos());
             OK
@@ -623,39 +625,39 @@ pub(crate) fn waited(open: &Open, secs: &mut u64, nanos: &mut u32) -> u32
 }
 
 /// Releases the permit, with the status of the reason.
-pub(crate) fn release(cache: &mut AnyCache, open: &mut Open, reason: NoCacheReason) -> u32
-    ensures { Releases reason cache.old cache.new open.old open.new result }
+pub(crate) fn release(cache: &mut AnyCache, opened: &mut Open, reason: NoCacheReason) -> u32
+    ensures { Releases reason cache.old cache.new opened.old opened.new result }
 {
-    if !open.request.cache.may_release(reason) {
+    if !opened.request.cache.may_release(reason) {
         return WRONG_CALL;
     }
-    match cache.release_write_lock(&mut open.request, reason) {
+    match cache.release_write_lock(&mut opened.request, reason) {
         Some(_) => OK,
         None => NONE,
     }
 }
 
 /// Turns caching off for this request, and gives back all that it holds.
-pub(crate) fn disable(cache: &mut AnyCache, open: &mut Open, reason: NoCacheReason) -> u32
-    ensures { TurnsOff reason cache.old cache.new open.old open.new result }
+pub(crate) fn disable(cache: &mut AnyCache, opened: &mut Open, reason: NoCacheReason) -> u32
+    ensures { TurnsOff reason cache.old cache.new opened.old opened.new result }
 {
-    if !open.request.cache.may_disable(reason) {
+    if !opened.request.cache.may_disable(reason) {
         return WRONG_CALL;
     }
-    let_go(cache, open.found.take());
-    forget_piece(open);
-    cache.disable(&mut open.request, reason);
+    let_go(cache, opened.found.take());
+    forget_piece(opened);
+    cache.disable(&mut opened.request, reason);
     OK
 }
 
 /// Removes what stands under the request's key. Says whether anything was there, 1 or 0.
-pub(crate) fn purge(cache: &mut AnyCache, open: &mut Open, was: &mut u32) -> u32
-    ensures { Purges was.new cache.old cache.new open.old open.new result }
+pub(crate) fn purge(cache: &mut AnyCache, opened: &mut Open, was: &mut u32) -> u32
+    ensures { Purges was.new cache.old cache.new opened.old opened.new result }
 {
-    if !open.request.cache.phase().may_purge() {
+    if !opened.request.cache.phase().may_purge() {
         return WRONG_CALL;
     }
-    match cache.purge(&mut open.request) {
+    match cache.purge(&mut opened.request) {
         Ok(there) => {
             *was = u32::from(there);
             OK
@@ -665,13 +667,13 @@ pub(crate) fn purge(cache: &mut AnyCache, open: &mut Open, was: &mut u32) -> u32
 }
 
 /// Ends the freshness of what stands under the request's key. Says whether a body was there, 1 or 0.
-pub(crate) fn expire(cache: &mut AnyCache, open: &mut Open, now: Moment, was: &mut u32) -> u32
-    ensures { Expires now was.new cache.old cache.new open.old open.new result }
+pub(crate) fn expire(cache: &mut AnyCache, opened: &mut Open, now: Moment, was: &mut u32) -> u32
+    ensures { Expires now was.new cache.old cache.new opened.old opened.new result }
 {
-    if !open.request.cache.phase().may_purge() {
+    if !opened.request.cache.phase().may_purge() {
         return WRONG_CALL;
     }
-    match cache.expire(&mut open.request, now) {
+    match cache.expire(&mut opened.request, now) {
         Ok(there) => {
             *was = u32::from(there);
             OK

@@ -45,6 +45,8 @@ pub(crate) struct Seats<T> {
     pub(crate) first_free: u32,
 }
 
+// Over any type: of what is written through a `&mut` to a value of a type that names `'static`, as a reason of the caller's own
+// does, no clause tells, and of what is written through a type parameter one does.
 impl<T> Seats<T> {
     /// No seat: every place is in round 0.
     pub(crate) fn new(alloc: Global) -> Seats<T>

@@ -2,13 +2,13 @@
 ghost use Rattle.std.specs.Prelude.{◌≡◌, ℕ, None, option_map};
 ghost use Rattle.std.specs.Duration.{as_nanos};
 ghost use Rattle.pcache_store.specs.Readers.{reader_of};
-ghost use Rattle.pcache_c.specs.AnyManagers.{evicted_in, limits_in, named_by, tracked_in};
+ghost use Rattle.pcache_c.specs.AnyManagers.{evicted_in, limits_in, tracked_in};
 ghost use Rattle.pcache_c.specs.Counts.{nothing_counted};
 ghost use Rattle.pcache_c.specs.Opening.{EndsNumber, EndsRequest, IsNew, OpensRequest, new_cache};
 ghost use Rattle.pcache_c.specs.Requests.{KeepsButStore, left_found};
 ghost use Rattle.pcache_c.specs.Seats.{request_at, round_at};
 
-use crate::any_manager::{AnyManager, Policy};
+use crate::any_manager::AnyManager;
 use crate::codes::{BAD_HANDLE, NO_MEMORY, OK};
 use crate::counts::PcacheCounted;
 use crate::seats::{Seat, Seats};
@@ -70,8 +70,6 @@ pub struct Served {
     pub(crate) cache: AnyCache,
     pub(crate) seats: Seats<Open>,
     pub(crate) counts: PcacheCounted,
-    // The policy of the manager that the cache was made with.
-    pub(crate) policy: Policy,
 }
 
 impl Served {
@@ -85,16 +83,13 @@ impl Served {
         ensures cache { result.cache ≡ new_cache weighing (tracked_in manager) (limits_in manager)
             (evicted_in manager) (as_nanos age_timeout) }
         ensures counts { result.counts ≡ nothing_counted }
-        ensures policy { result.policy ≡ named_by manager }
         ensures none { (number : ℕ) → request_at result.seats number ≡ None }
         ensures rounds { (place : ℕ) → round_at result.seats place ≡ 0 }
     {
-        let policy = manager.policy();
         Served {
             cache: Cache::with_weighing(alloc, seed, manager, age_timeout, weighing),
             seats: Seats::new(alloc),
             counts: PcacheCounted::none(),
-            policy,
         }
     }
 
@@ -147,7 +142,6 @@ impl Drop for Served {
                 first_free: _,
             },
             counts: _,
-            policy: _,
         } = self;
         'seats: while let Some(seat) = seats.pop() {
             let Seat {

@@ -14,46 +14,49 @@ use crate::served::{AnyCache, Open};
 use std::alloc::Global;
 
 /// Sets how many bytes a body has at most.
-pub(crate) fn limit_body(open: &mut Open, most: usize) -> u32
-    ensures { LimitsBody most open.old open.new result }
+pub(crate) fn limit_body(opened: &mut Open, most: usize) -> u32
+    ensures { LimitsBody most opened.old opened.new result }
 {
-    if !open.request.cache.phase().is_on() {
+    if !opened.request.cache.phase().is_on() {
         return WRONG_CALL;
     }
-    open.request.cache.set_max_file_size_bytes(most);
+    opened.request.cache.set_max_file_size_bytes(most);
     OK
 }
 
 /// Counts bytes of the body, and says whether those so far are within the limit, 1 or 0.
-pub(crate) fn count_body(open: &mut Open, count: usize, within: &mut u32) -> u32
-    ensures { CountsBody count within.new open.old open.new result }
+pub(crate) fn count_body(opened: &mut Open, count: usize, within: &mut u32) -> u32
+    ensures { CountsBody count within.new opened.old opened.new result }
 {
-    if !open.request.cache.phase().was_enabled() {
+    if !opened.request.cache.phase().was_enabled() {
         return WRONG_CALL;
     }
-    let is_within = open.request.cache.track_body_bytes_for_max_file_size(count);
+    let is_within = opened
+        .request
+        .cache
+        .track_body_bytes_for_max_file_size(count);
     *within = u32::from(is_within);
     OK
 }
 
 /// Sets how many bytes a head has at most.
-pub(crate) fn limit_head(open: &mut Open, most: usize) -> u32
-    ensures { LimitsHead most open.old open.new result }
+pub(crate) fn limit_head(opened: &mut Open, most: usize) -> u32
+    ensures { LimitsHead most opened.old opened.new result }
 {
-    if !open.request.cache.phase().is_on() {
+    if !opened.request.cache.phase().is_on() {
         return WRONG_CALL;
     }
-    open.request.cache.set_max_head_size_bytes(most);
+    opened.request.cache.set_max_head_size_bytes(most);
     OK
 }
 
 /// Whether the head of the request's write is longer than it may be, 1 or 0.
-pub(crate) fn is_head_too_long(cache: &AnyCache, open: &Open) -> u32
+pub(crate) fn is_head_too_long(cache: &AnyCache, opened: &Open) -> u32
     ensures { result
-        ≡ from_bool (exceeds_head open.now.request.cache.head_limit
-        (written_head cache.now.store open.now.request.cache.write)) }
+        ≡ from_bool (exceeds_head opened.now.request.cache.head_limit
+        (written_head cache.now.store opened.now.request.cache.write)) }
 {
-    u32::from(cache.exceeded_max_head_size(&open.request))
+    u32::from(cache.exceeded_max_head_size(&opened.request))
 }
 
 /// Sets how many bytes the body that a request fills has at most, and counts none so far. Without a limit it may have any number.

@@ -7,6 +7,7 @@ pub mod Ended
 pub mod Own
 pub mod Only
 pub mod Room
+pub mod Pieces
 pub mod Renewed
 pub mod Fed
 pub mod Adding

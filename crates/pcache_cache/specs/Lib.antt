@@ -1,8 +1,15 @@
+pub mod Ending
+pub mod Feeding
+pub mod Filling
 pub mod Growing
+pub mod Locking
+pub mod Looking
 pub mod OwnPut
 pub mod Parts
 pub mod PartsCode
+pub mod Removing
 pub mod Renewing
+pub mod Revalidating
 pub mod Room
 pub mod Strays
 pub mod Weighing

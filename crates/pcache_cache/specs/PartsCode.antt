@@ -1,8 +1,9 @@
 -- An encoding of what contracts see of a cache, which the value of a model needs (own).
-use Rattle.std.specs.Prelude.{ℕ, Option, refl}
-use Rattle.std.specs.Coded.{Coded, code_by, coded×, coded_ℕ, coded_option}
+use Rattle.std.specs.Prelude.{ℕ, refl}
+use Rattle.std.specs.Coded.{Coded, code_by, coded×, coded_ℕ}
 use Rattle.std.specs.FinMap.{code}
-use Rattle.pcache_evict.specs.Tracked.{Tracked}
+use Rattle.pcache_evict.specs.LimitsCode.{limits_code}
+use Rattle.pcache_evict.specs.Tracked.{Limits, Tracked}
 use Rattle.pcache_evict.specs.contracts.eviction.entry_key.CacheEntryKey as key_row
 use Rattle.pcache_lock.specs.Past.{Known as KnownLocks}
 use Rattle.pcache_lock.specs.PastCode.{known_code as known_locks}
@@ -14,8 +15,8 @@ use Rattle.pcache_cache.specs.declared.weighing.Weighing.{Weighing}
 
 abbrev pub parts_code : Coded Parts
 parts_code =
-    code_by (Weighing × (KnownStore × (Tracked × ((ℕ × Option ℕ) × ((ℕ × ℕ) × KnownLocks)))))
-    (coded× weighing_row.the_row.coded (coded× known_store (coded× (code key_row.the_row.coded coded_ℕ) (coded× (coded× coded_ℕ (coded_option coded_ℕ)) (coded× (coded× coded_ℕ coded_ℕ) known_locks)))))
-    (λ p. (p.weighing, (record { state = p.store; past = p.past }, (p.tracked, ((p.limits.weight, p.limits.watermark), ((p.evicted.weight, p.evicted.count), record { table = p.locks; past = p.deeds }))))))
-    (λ q. record { weighing = q.0; store = q.1.0.state; past = q.1.0.past; tracked = q.1.1.0; limits = record { weight = q.1.1.1.0.0; watermark = q.1.1.1.0.1 }; evicted = record { weight = q.1.1.1.1.0.0; count = q.1.1.1.1.0.1 }; locks = q.1.1.1.1.1.table; deeds = q.1.1.1.1.1.past })
+    code_by (Weighing × (KnownStore × (Tracked × (Limits × ((ℕ × ℕ) × KnownLocks)))))
+    (coded× weighing_row.the_row.coded (coded× known_store (coded× (code key_row.the_row.coded coded_ℕ) (coded× limits_code (coded× (coded× coded_ℕ coded_ℕ) known_locks)))))
+    (λ p. (p.weighing, (record { state = p.store; past = p.past }, (p.tracked, (p.limits, ((p.evicted.weight, p.evicted.count), record { table = p.locks; past = p.deeds }))))))
+    (λ q. record { weighing = q.0; store = q.1.0.state; past = q.1.0.past; tracked = q.1.1.0; limits = q.1.1.1.0; evicted = record { weight = q.1.1.1.1.0.0; count = q.1.1.1.1.0.1 }; locks = q.1.1.1.1.1.table; deeds = q.1.1.1.1.1.past })
     (λ _. refl)

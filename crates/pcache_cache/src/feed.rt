@@ -1,5 +1,5 @@
 //! Puts: their pieces and their end.
-ghost use Rattle.std.specs.Prelude.{◌≡◌, Some, IfErr, option_map};
+ghost use Rattle.std.specs.Prelude.{◌≡◌, IfErr, option_map};
 ghost use Rattle.pcache_request.specs.Requests.{dropped_by};
 ghost use Rattle.pcache_request.specs.StorePasts.{dropped_past};
 ghost use Rattle.pcache_cache.specs.OwnPut.{MayEndPut, put_past, store_put};
@@ -25,22 +25,11 @@ use pcache_store::memory::{MemCache, MemMissHandler};
 use pcache_store::storage::HandleMiss;
 
 impl<M: EvictionManager, K> Cache<M, K> {
-    ghost use Rattle.std.specs.Prelude.{[], ◌≡◌, ◌⊎◌, ◌↔◌, Some, IsTrue, IfErr, List, OnErr, Option};
-    ghost use Rattle.pcache_response.specs.Progress.{HasFailed};
-    ghost use Rattle.pcache_put.specs.Puts.{IsResult, Piece};
-    ghost use Rattle.pcache_put.specs.Readings.{IsReadAt, MayFailOnceRead, StoresPiece};
-    ghost use Rattle.pcache_put.specs.State.{Filled, HasTaken, limit_of, write_in};
-    ghost use Rattle.pcache_put.specs.Steps.{Done, EndsAs, MayFailPiece, RepeatsResult, IsStageAfter, TakesPiece, TellsResult, stage_ended};
-    ghost use Rattle.pcache_request.specs.NoBody.{LeavesNone};
-    ghost use Rattle.pcache_request.specs.Requests.{dropped_by};
-    ghost use Rattle.pcache_request.specs.StorePasts.{dropped_past};
-    ghost use Rattle.pcache_put.specs.Pasts.{EndsPutPast};
-    ghost use Rattle.pcache_store.specs.Readers.{in_memory};
-    ghost use Rattle.pcache_cache.specs.OwnPut.{EndsOwnPut, MayEndPut, evicted_put, put_past, store_put};
-    ghost use Rattle.pcache_cache.specs.Parts.{Adds};
-    ghost use Rattle.pcache_cache.specs.Room.{IfRoom, evicted_by_put};
-    ghost use Rattle.pcache_cache.specs.Strays.{LeavesNoStray};
-    ghost use Rattle.pcache_cache.specs.Weighing.{ending_weight};
+    ghost use Rattle.std.specs.Prelude.{◌↔◌, IsTrue};
+    ghost use Rattle.pcache_put.specs.Readings.{IsReadAt};
+    ghost use Rattle.pcache_put.specs.State.{write_in};
+    ghost use Rattle.pcache_cache.specs.Feeding.{DropsLeft, FinishesPut, StoresRead, TakesIn};
+    ghost use Rattle.pcache_cache.specs.OwnPut.{MayEndPut};
 
     /// Whether a put may end here: it has no write, or one of this cache and of its own key. This holds of each put whose pieces
     /// all came here.
@@ -62,18 +51,8 @@ impl<M: EvictionManager, K> Cache<M, K> {
         piece: &[u8],
         now: Moment,
     ) -> Result<Option<NoCacheReason>>
-        ensures step { (d : Done)
-            × TakesPiece (C.says put.old.put.policy) put.old.put put.new.put
-            (record { bytes = piece.now; now = now }) d
-            × (self.new.store ≡ store_put put.old.put d result self.old.store)
-            × Adds (put_past put.old.put d result self.old.store) self.old.past self.new.past }
-        ensures stands { IsStageAfter result put.new.put.stage }
-        ensures again { RepeatsResult put.old.put.stage result }
-        ensures kind { IfErr result (λ e.
-            MayFailPiece put.old.put.stage self.old.store e ⊎ (put.old.put.parser ≡ HasFailed e)) }
-        ensures own { MayEndPut self.old.store put.old.put → MayEndPut self.new.store put.new.put }
-        ensures rest { self.new
-            ≡ record self.old { store = self.new.store; past = self.new.past } }
+        ensures takes { TakesIn result (C.says put.old.put.policy) put.old.put put.new.put
+            (record { bytes = piece.now; now = now }) self.old self.new }
     {
         let read = put.put.read_piece(piece, now);
         self.store_piece(put, read)
@@ -87,46 +66,21 @@ impl<M: EvictionManager, K> Cache<M, K> {
         read: ReadPiece,
     ) -> Result<Option<NoCacheReason>>
         requires at { IsReadAt put.old.put.stage read }
-        ensures step { (d : Done)
-            × StoresPiece (C.says put.old.put.policy) put.old.put put.new.put read d
-            × (self.new.store ≡ store_put put.old.put d result self.old.store)
-            × Adds (put_past put.old.put d result self.old.store) self.old.past self.new.past }
-        ensures stands { IsStageAfter result put.new.put.stage }
-        ensures again { RepeatsResult put.old.put.stage result }
-        ensures kind { IfErr result (MayFailOnceRead put.old.put.stage self.old.store read) }
-        ensures own { MayEndPut self.old.store put.old.put → MayEndPut self.new.store put.new.put }
-        ensures rest { self.new
-            ≡ record self.old { store = self.new.store; past = self.new.past } }
+        ensures takes { StoresRead result (C.says put.old.put.policy) put.old.put put.new.put read
+            self.old self.new }
     {
         store_in(&mut put.put, read, &mut self.store)
     }
 
     /// `CachePutCtx::finish_replacing`: ends the put once all pieces have come. The body is stored and its entry admitted, and what is
     /// evicted for it is purged: nothing, where nothing is tracked beside what is stored, and the body has room beside those of the
-    /// other keys (clause `room`). The entry of the body that stood under the key until then is taken out first. If the put ends too
+    /// other keys (`FinishesPut.room`). The entry of the body that stood under the key until then is taken out first. If the put ends too
     /// early, or the end of its write fails, nothing is stored, and the write is dropped; if the admission fails, the body is purged
     /// again. Requires a write of this cache, if there is one; ask `may_end_put`.
     pub fn finish_put<C: CachePut>(&mut self, put: &mut PendingPut<C, K>) -> Result<PutOutcome>
         requires own { MayEndPut self.old.store put.old.put }
-        ensures ended { EndsAs result (λ end. EndsOwnPut put.old.put end self.old self.new
-            × EndsPutPast in_memory put.old.put.key put.old.put.stage end (Some self.old.past)
-            (Some self.new.past)
-            × (self.new.evicted ≡ evicted_put put.old.put end self.old)
-            × (put.new.put.stage ≡ stage_ended end)
-            × ((pieces : List Piece) (f : Option Filled)
-            → HasTaken (C.says put.old.put.policy) put.old.put pieces f
-            → TellsResult
-            (IsResult (C.says put.old.put.policy) (limit_of put.old.put.size) pieces) f end)) }
-        ensures withdrawn { OnErr result (LeavesNone (Some put.old.put.key)
-            (write_in put.old.put.stage) self.old.store self.new.store) }
-        ensures only { LeavesNoStray (Some put.old.put.key) self.old self.new }
-        ensures room { IfRoom (Some put.old.put.key)
-            (ending_weight self.old.weighing self.old.store (write_in put.old.put.stage)) self.old
-            (evicted_by_put result ≡ []) }
-        ensures limits { self.new.limits ≡ self.old.limits }
-        ensures weighing { self.new.weighing ≡ self.old.weighing }
-        ensures locks { self.new.locks ≡ self.old.locks }
-        ensures deeds { self.new.deeds ≡ self.old.deeds }
+        ensures takes { FinishesPut result (C.says put.old.put.policy) put.old.put put.new.put
+            self.old self.new }
     {
         // For the prover: the contract of the call says that the entry of the write has the write's
         // number.
@@ -141,20 +95,14 @@ impl<M: EvictionManager, K> Cache<M, K> {
 
     /// Ends the put, and drops a write that is still in flight.
     pub fn end_put<C: CachePut>(&mut self, put: PendingPut<C, K>)
-        ensures store { self.new.store ≡ dropped_by (write_in put.put.stage) self.old.store }
-        ensures past { Adds (dropped_past (write_in put.put.stage)) self.old.past self.new.past }
-        ensures rest { self.new
-            ≡ record self.old { store = self.new.store; past = self.new.past } }
+        ensures takes { DropsLeft (write_in put.put.stage) self.old self.new }
     {
         self.drop_left(put.into_left());
     }
 
     /// Drops the write that an ended put left in flight, if there is one.
     pub fn drop_left(&mut self, left: LeftWrite<K>)
-        ensures store { self.new.store ≡ dropped_by left self.old.store }
-        ensures past { Adds (dropped_past left) self.old.past self.new.past }
-        ensures rest { self.new
-            ≡ record self.old { store = self.new.store; past = self.new.past } }
+        ensures takes { DropsLeft left self.old self.new }
     {
         drop_writer(&mut self.store, left.into_writer());
     }

@@ -31,8 +31,8 @@ impl<M: EvictionManager, K> Cache<M, K> {
     /// - `bounded`: the lengths of the complete bodies sum to at most the manager's limit, and so do their weights, and their number
     ///   is at most its watermark.
     /// - `sums`: where nothing is tracked beside the entries of the complete bodies, the weights of what is tracked sum to those of
-    ///   the complete bodies, and their numbers are equal. Of each call that changes what is tracked or complete, the clause `only`
-    ///   says that it leaves nothing tracked beside them, if it was made for the key that all requests of the slot have.
+    ///   the complete bodies, and their numbers are equal. Of each call that changes what is tracked or complete, the field `only`
+    ///   of what it does says that it leaves nothing tracked beside them, if it was made for the key that all requests of the slot have.
     /// - `one`: at most one permit of a key waits: it was given, and not yet released, let go or found too old.
     /// - `gives`: a request for a key's lock gets the permit exactly when none waits for that key, and else a read lock on the one
     ///   that does.

@@ -10,18 +10,11 @@ use pcache_lock::lock::{LockWaitOutcome, WritePermit};
 use pcache_request::cache::{LockName, ReleasedLock};
 
 impl<M: EvictionManager, K> Cache<M, K> {
-    ghost use Rattle.std.specs.Prelude.{◌≡◌, [], IfOk, IfErr, IfSome, OnOk, OnErr, IsOk, IsSome, None, option_map};
-    ghost use Rattle.pcache_base.specs.declared.error.ErrorType.TheVariants.{OutOfMemory};
-    ghost use Rattle.pcache_lock.specs.declared.lock.permit.Locked.TheVariants.{Write};
-    ghost use Rattle.pcache_lock.specs.declared.lock.status.LockStatus.TheVariants.{GiveUp};
-    ghost use Rattle.pcache_request.specs.LockUse.{gone_for, handed, permit_in, published_by, read_in, table_handed, unheld};
-    ghost use Rattle.pcache_request.specs.LockWaits.{table_waited, unusable_in, wait_result, waited};
+    ghost use Rattle.std.specs.Prelude.{IsSome};
+    ghost use Rattle.pcache_request.specs.LockUse.{read_in};
     ghost use Rattle.pcache_request.specs.Phases.{IsOn};
-    ghost use Rattle.pcache_request.specs.Releasing.{MayRelease, status_for};
-    ghost use Rattle.pcache_request.specs.Reports.{name_of, released_as};
-    ghost use Rattle.pcache_request.specs.Requests.{settled};
-    ghost use Rattle.pcache_request.specs.LockPasts.{handed_deeds, published_deeds, settled_deeds, waited_deeds};
-    ghost use Rattle.pcache_cache.specs.Parts.{Adds};
+    ghost use Rattle.pcache_request.specs.Releasing.{MayRelease};
+    ghost use Rattle.pcache_cache.specs.Locking.{Publishes, Releases, TakesPermit, Waits};
 
     /// `HttpCache::cache_lock_wait`: whether the wait for the lock is over, and how it ended. Requires a read lock.
     pub fn cache_lock_wait(
@@ -30,24 +23,7 @@ impl<M: EvictionManager, K> Cache<M, K> {
         now: Moment,
     ) -> Result<Poll<LockWaitOutcome>>
         requires { IsSome (read_in request.old.cache.held) }
-        ensures answer { IfOk result (λ p.
-            p ≡ wait_result self.old.locks now request.old.cache.held request.old.cache) }
-        ensures request { OnOk result (request.new.cache
-            ≡ waited self.old.locks now request.old.cache.held request.old.cache) }
-        ensures table { OnOk result (self.new.locks
-            ≡ table_waited self.old.locks now request.old.cache.held request.old.cache) }
-        ensures deeds { OnOk result (Adds
-            (waited_deeds self.old.locks now request.old.cache.held request.old.cache)
-            self.old.deeds self.new.deeds) }
-        ensures same_request { OnErr result (request.new.cache ≡ request.old.cache) }
-        ensures same_table { OnErr result (self.new.locks ≡ self.old.locks) }
-        ensures same_deeds { OnErr result (self.new.deeds ≡ self.old.deeds) }
-        ensures kind { IfErr result (λ e. e ≡ OutOfMemory) }
-        ensures later { IfSome (read_in request.old.cache.held) (λ rd.
-            IsSome rd.watch → IsOk result) }
-        ensures unnamed { unusable_in request.old.cache.key ≡ None → IsOk result }
-        ensures rest { self.new
-            ≡ record self.old { locks = self.new.locks; deeds = self.new.deeds } }
+        ensures takes { Waits result now request.old.cache request.new.cache self.old self.new }
     {
         request.cache.cache_lock_wait(&mut self.lock, now)
     }
@@ -59,16 +35,8 @@ impl<M: EvictionManager, K> Cache<M, K> {
         reason: NoCacheReason,
     ) -> Option<ReleasedLock>
         requires { MayRelease reason request.old.cache.held }
-        ensures request { request.new.cache ≡ unheld request.old.cache }
-        ensures table { self.new.locks
-            ≡ settled (status_for (λ text. GiveUp) reason) request.old.cache.held self.old.locks }
-        ensures deeds { Adds
-            (settled_deeds (status_for (λ text. GiveUp) reason) request.old.cache.held)
-            self.old.deeds self.new.deeds }
-        ensures released { result
-            ≡ option_map (released_as (status_for (λ text. GiveUp) reason)) request.old.cache.held }
-        ensures rest { self.new
-            ≡ record self.old { locks = self.new.locks; deeds = self.new.deeds } }
+        ensures takes { Releases result reason request.old.cache request.new.cache self.old
+            self.new }
     {
         request.cache.release_write_lock(&mut self.lock, reason)
     }
@@ -81,12 +49,8 @@ impl<M: EvictionManager, K> Cache<M, K> {
         permit: WritePermit,
     ) -> Option<LockName>
         requires { IsOn request.old.cache.phase }
-        ensures request { request.new.cache ≡ handed permit request.old.cache }
-        ensures table { self.new.locks ≡ table_handed permit request.old.cache self.old.locks }
-        ensures deeds { Adds (handed_deeds permit request.old.cache) self.old.deeds self.new.deeds }
-        ensures let_go { result ≡ option_map name_of (gone_for permit request.old.cache) }
-        ensures rest { self.new
-            ≡ record self.old { locks = self.new.locks; deeds = self.new.deeds } }
+        ensures takes { TakesPermit result permit request.old.cache request.new.cache self.old
+            self.new }
     {
         request.cache.set_write_lock(&mut self.lock, permit)
     }
@@ -98,19 +62,7 @@ impl<M: EvictionManager, K> Cache<M, K> {
         request: &CacheRequest<K>,
         tokens: &[u64],
     ) -> Result<Option<LockName>>
-        ensures published { IfOk result (λ p.
-            p ≡ option_map (λ w. name_of (Write w)) (permit_in request.now.cache.held)) }
-        ensures table { OnOk result (self.new.locks
-            ≡ published_by tokens.now request.now.cache.held self.old.locks) }
-        ensures deeds { OnOk result (Adds (published_deeds tokens.now request.now.cache.held)
-            self.old.deeds self.new.deeds) }
-        ensures same_table { OnErr result (self.new.locks ≡ self.old.locks) }
-        ensures same_deeds { OnErr result (self.new.deeds ≡ self.old.deeds) }
-        ensures kind { IfErr result (λ e. e ≡ OutOfMemory) }
-        ensures clears { tokens.now ≡ [] → IsOk result }
-        ensures none { permit_in request.now.cache.held ≡ None → IsOk result }
-        ensures rest { self.new
-            ≡ record self.old { locks = self.new.locks; deeds = self.new.deeds } }
+        ensures takes { Publishes result tokens.now request.now.cache self.old self.new }
     {
         request
             .cache

@@ -15,24 +15,15 @@ use pcache_store::memory::{FoundBody, MemHitHandler};
 use pcache_store::storage::HandleHit;
 
 impl<M: EvictionManager, K> Cache<M, K> {
-    ghost use Rattle.std.specs.Prelude.{◌≡◌, ◌⊎◌, false, IfOk, IfErr, IfSome, OnOk, OnErr, IsOk, IsSome, IsTrue, None, option_map, true};
-    ghost use Rattle.pcache_base.specs.declared.error.ErrorType.TheVariants.{NumbersExhausted, OutOfMemory};
-    ghost use Rattle.pcache_lock.specs.Locks.{MayFailLock};
-    ghost use Rattle.pcache_lock.specs.declared.lock.status.LockStatus.TheVariants.{GiveUp};
-    ghost use Rattle.pcache_request.specs.Admissions.{Decides, asks_policy, decision_taken, looked_with, store_looked_with, table_looked_with, with_decision};
-    ghost use Rattle.pcache_request.specs.Failures.{FailsToLook};
-    ghost use Rattle.pcache_request.specs.Phases.{IsDisabled, MayFinishHit, MayLookUp};
-    ghost use Rattle.pcache_request.specs.Releasing.{MayDisable, disabled_for, status_for};
-    ghost use Rattle.pcache_request.specs.Reports.{name_of};
-    ghost use Rattle.pcache_request.specs.Requests.{HoldsNothing, asks_for_hit, counts_found, dropped_by, found_for, found_row, left_by, length_by, let_go_by, settled, store_found, table_found, whole_by, without_reader};
-    ghost use Rattle.pcache_request.specs.Variants.{asks_unseen, hides_for, looked_for, searched, seen_for, table_looked_for};
-    ghost use Rattle.pcache_request.specs.LockPasts.{found_deeds, let_go_deeds, looked_deeds, looked_with_deeds, settled_deeds};
-    ghost use Rattle.pcache_request.specs.StorePasts.{dropped_past, left_past, looked_past, searched_past, taken_past};
-    ghost use Rattle.pcache_store.specs.Notes.{leave_noted, noted};
+    ghost use Rattle.std.specs.Prelude.{◌≡◌, false, IfOk, IfErr, OnErr, IsSome, IsTrue};
+    ghost use Rattle.pcache_base.specs.declared.error.ErrorType.TheVariants.{OutOfMemory};
+    ghost use Rattle.pcache_request.specs.Admissions.{Decides, asks_policy};
+    ghost use Rattle.pcache_request.specs.Phases.{MayFinishHit, MayLookUp};
+    ghost use Rattle.pcache_request.specs.Releasing.{MayDisable};
+    ghost use Rattle.pcache_request.specs.Requests.{found_for, length_by, whole_by};
     ghost use Rattle.pcache_store.specs.Readers.{if_complete, reader_of};
-    ghost use Rattle.pcache_cache.specs.Parts.{Adds};
-    ghost use Rattle.pcache_cache.specs.Strays.{LeavesNoStray};
-    ghost use Rattle.pcache_store.specs.Store.{gives_piece, left, read_of, reader_after};
+    ghost use Rattle.pcache_cache.specs.Ending.{Disables, EndsRequest};
+    ghost use Rattle.pcache_cache.specs.Looking.{EndsHit, LetsGo, LooksUp, LooksUpAsking, Reads, TakesFound};
 
     /// `HttpCache::cache_lookup_without_policy`: returns what the store has for the request's key, a meta and a reader, unless
     /// a variant hides it; if it returns nothing, the key's lock is asked for. No policy is asked. The caller has to pass a
@@ -44,39 +35,7 @@ impl<M: EvictionManager, K> Cache<M, K> {
         now: Moment,
     ) -> Result<Option<(CacheMeta, MemHitHandler)>>
         requires { MayLookUp request.old.cache.phase }
-        ensures found { IfOk result (λ r.
-            option_map (λ p. (p.0, reader_of p.1)) r ≡ seen_for self.old.store request.old.cache) }
-        ensures request { OnOk result (request.new.cache
-            ≡ looked_for self.old.store self.old.locks request.old.cache) }
-        ensures store { OnOk result (self.new.store ≡ searched self.old.store request.old.cache) }
-        ensures past { OnOk result
-            (Adds (searched_past self.old.store request.old.cache) self.old.past self.new.past) }
-        ensures table { OnOk result (self.new.locks
-            ≡ table_looked_for self.old.store now request.old.cache self.old.locks) }
-        ensures deeds { OnOk result (Adds
-            (looked_deeds self.old.store now self.old.locks request.old.cache) self.old.deeds
-            self.new.deeds) }
-        ensures same_request { OnErr result (request.new.cache ≡ request.old.cache) }
-        ensures left { OnErr result (FailsToLook self.old.store request.old.cache
-            (Some self.old.past) self.new.store (Some self.new.past)) }
-        ensures same_store { OnErr result (hides_for self.old.store request.old.cache ≡ false
-            → self.new.store ≡ self.old.store) }
-        ensures same_table { OnErr result (self.new.locks ≡ self.old.locks) }
-        ensures same_deeds { OnErr result (self.new.deeds ≡ self.old.deeds) }
-        ensures kind { IfErr result (λ e. MayFailLock self.old.locks e) }
-        ensures numbers { IfErr result (λ e.
-            e ≡ NumbersExhausted → IsTrue (asks_unseen self.old.store request.old.cache)) }
-        ensures something { OnErr result (IsSome (found_for self.old.store request.old.cache.key)
-            ⊎ IsTrue request.old.cache.uses.lock) }
-        ensures phase { OnOk result (request.new.cache.phase ≡ request.old.cache.phase) }
-        ensures uses { OnOk result (request.new.cache.uses ≡ request.old.cache.uses) }
-        ensures rest { self.new
-            ≡ record self.old {
-              store = self.new.store;
-              past = self.new.past;
-              locks = self.new.locks;
-              deeds = self.new.deeds;
-            } }
+        ensures takes { LooksUp result now request.old.cache request.new.cache self.old self.new }
     {
         request
             .cache
@@ -93,49 +52,13 @@ impl<M: EvictionManager, K> Cache<M, K> {
         now: Moment,
     ) -> Result<Option<(CacheMeta, MemHitHandler)>>
         requires { MayLookUp request.old.cache.phase }
-        ensures found { IfOk result (λ r.
-            option_map (λ p. (p.0, reader_of p.1)) r ≡ seen_for self.old.store request.old.cache) }
+        ensures takes { LooksUpAsking result now request.old.cache request.new.cache self.old
+            self.new }
         ensures decides { IsTrue (asks_policy self.old.store request.old.cache)
             → Decides (λ k d. A.decides policy.old k d policy.new) request.old.cache.key
             request.new.cache.digest.admission }
         ensures same_policy { asks_policy self.old.store request.old.cache ≡ false
             → policy.new ≡ policy.old }
-        ensures request { OnOk result (request.new.cache
-            ≡ looked_with (decision_taken self.old.store request.old.cache request.new.cache)
-            self.old.store self.old.locks request.old.cache) }
-        ensures store { OnOk result (self.new.store
-            ≡ store_looked_with (decision_taken self.old.store request.old.cache request.new.cache)
-            request.old.cache self.old.store) }
-        ensures past { OnOk result (Adds
-            (looked_past (decision_taken self.old.store request.old.cache request.new.cache)
-            self.old.store request.old.cache) self.old.past self.new.past) }
-        ensures table { OnOk result (self.new.locks
-            ≡ table_looked_with (decision_taken self.old.store request.old.cache request.new.cache)
-            self.old.store now request.old.cache self.old.locks) }
-        ensures deeds { OnOk result (Adds
-            (looked_with_deeds (decision_taken self.old.store request.old.cache request.new.cache)
-            self.old.store now self.old.locks request.old.cache) self.old.deeds self.new.deeds) }
-        ensures decided { OnErr result (request.new.cache
-            ≡ with_decision (decision_taken self.old.store request.old.cache request.new.cache)
-            request.old.cache) }
-        ensures left { OnErr result (FailsToLook self.old.store request.old.cache
-            (Some self.old.past) self.new.store (Some self.new.past)) }
-        ensures same_store { OnErr result (hides_for self.old.store request.old.cache ≡ false
-            → self.new.store ≡ self.old.store) }
-        ensures same_table { OnErr result (self.new.locks ≡ self.old.locks) }
-        ensures same_deeds { OnErr result (self.new.deeds ≡ self.old.deeds) }
-        ensures kind { IfErr result (λ e. MayFailLock self.old.locks e) }
-        ensures numbers { IfErr result (λ e.
-            e ≡ NumbersExhausted → IsTrue (asks_unseen self.old.store request.old.cache)) }
-        ensures something { OnErr result (IsSome (found_for self.old.store request.old.cache.key)
-            ⊎ IsTrue request.old.cache.uses.lock) }
-        ensures rest { self.new
-            ≡ record self.old {
-              store = self.new.store;
-              past = self.new.past;
-              locks = self.new.locks;
-              deeds = self.new.deeds;
-            } }
     {
         request
             .cache
@@ -170,34 +93,8 @@ impl<M: EvictionManager, K> Cache<M, K> {
         now: Moment,
     ) -> Result<()>
         requires { MayLookUp request.old.cache.phase }
-        ensures request { OnOk result (request.new.cache
-            ≡ found_row status meta (reader_of hit) self.old.locks request.old.cache) }
-        ensures store { OnOk result (self.new.store
-            ≡ store_found status (reader_of hit) request.old.cache self.old.store) }
-        ensures past { OnOk result (Adds (taken_past status (reader_of hit) request.old.cache)
-            self.old.past self.new.past) }
-        ensures table { OnOk result (self.new.locks
-            ≡ table_found status now request.old.cache self.old.locks) }
-        ensures deeds { OnOk result (Adds
-            (found_deeds status now self.old.locks request.old.cache) self.old.deeds
-            self.new.deeds) }
-        ensures tracked { self.new.tracked ≡ self.old.tracked }
-        ensures only { LeavesNoStray None self.old self.new }
-        ensures same_request { OnErr result (request.new.cache ≡ request.old.cache) }
-        ensures left_store { OnErr result (self.new.store ≡ left self.old.store (reader_of hit)) }
-        ensures left_past { OnErr result (Adds (noted (leave_noted (reader_of hit))) self.old.past
-            self.new.past) }
-        ensures same_table { OnErr result (self.new.locks ≡ self.old.locks) }
-        ensures same_deeds { OnErr result (self.new.deeds ≡ self.old.deeds) }
-        ensures something { OnErr result
-            (IsTrue (counts_found status (reader_of hit) request.old.cache)
-            ⊎ IsTrue (asks_for_hit status request.old.cache)) }
-        ensures limits { self.new.limits ≡ self.old.limits }
-        ensures weighing { self.new.weighing ≡ self.old.weighing }
-        ensures evicted { self.new.evicted ≡ self.old.evicted }
-        ensures kind { IfErr result (λ e. MayFailLock self.old.locks e) }
-        ensures numbers { IfErr result (λ e.
-            e ≡ NumbersExhausted → IsTrue (asks_for_hit status request.old.cache)) }
+        ensures takes { TakesFound result status meta (reader_of hit) now request.old.cache
+            request.new.cache self.old self.new }
     {
         request.cache.cache_found_tracked(
             &mut self.store,
@@ -212,10 +109,7 @@ impl<M: EvictionManager, K> Cache<M, K> {
 
     /// Lets go of the reader that a look-up returned.
     pub fn let_go(&mut self, hit: MemHitHandler)
-        ensures store { self.new.store ≡ left self.old.store (reader_of hit) }
-        ensures past { Adds (noted (leave_noted (reader_of hit))) self.old.past self.new.past }
-        ensures rest { self.new
-            ≡ record self.old { store = self.new.store; past = self.new.past } }
+        ensures takes { LetsGo (reader_of hit) self.old self.new }
     {
         hit.let_go(&mut self.store);
     }
@@ -223,18 +117,7 @@ impl<M: EvictionManager, K> Cache<M, K> {
     /// `HttpCache::read_body`: reads the next bytes. Requires a reader. Fails only if there are bytes to give.
     pub fn read_body(&mut self, request: &mut CacheRequest<K>) -> Result<Poll<Option<Bytes>>>
         requires { IsSome request.old.cache.reader }
-        ensures read { IfOk result (λ p.
-            IfSome request.old.cache.reader (λ r. p ≡ read_of self.old.store r)) }
-        ensures request { OnOk result (request.new.cache
-            ≡ record request.old.cache {
-              reader = option_map (reader_after self.old.store)
-                  request.old.cache.reader;
-            }) }
-        ensures same_request { OnErr result (request.new.cache ≡ request.old.cache) }
-        ensures same_store { self.new.store ≡ self.old.store }
-        ensures something { OnErr result
-            (IfSome request.old.cache.reader (λ r. gives_piece (read_of self.old.store r) ≡ true)) }
-        ensures kind { IfErr result (λ e. e ≡ OutOfMemory) }
+        ensures takes { Reads result request.old.cache request.new.cache self.old }
         ensures rest { self.new ≡ self.old }
     {
         request.cache.read_body(&mut self.store)
@@ -260,12 +143,7 @@ impl<M: EvictionManager, K> Cache<M, K> {
     /// `phase().may_finish_hit()` of the request.
     pub fn finish_hit_handler(&mut self, request: &mut CacheRequest<K>) -> Result<()>
         requires { MayFinishHit request.old.cache.phase }
-        ensures request { request.new.cache ≡ without_reader request.old.cache }
-        ensures store { self.new.store ≡ left_by request.old.cache.reader self.old.store }
-        ensures past { Adds (left_past request.old.cache.reader) self.old.past self.new.past }
-        ensures answer { IsOk result }
-        ensures rest { self.new
-            ≡ record self.old { store = self.new.store; past = self.new.past } }
+        ensures takes { EndsHit result request.old.cache request.new.cache self.old self.new }
     {
         request.cache.finish_hit_handler(&mut self.store)
     }
@@ -279,27 +157,8 @@ impl<M: EvictionManager, K> Cache<M, K> {
         reason: NoCacheReason,
     ) -> Option<LockName>
         requires { MayDisable reason request.old.cache }
-        ensures request { request.new.cache ≡ disabled_for reason request.old.cache }
-        ensures off { IsDisabled request.new.cache.phase }
-        ensures held { HoldsNothing request.new.cache }
-        ensures store { self.new.store
-            ≡ left_by request.old.cache.reader (dropped_by request.old.cache.write self.old.store) }
-        ensures past { Adds
-            (λ p. left_past request.old.cache.reader (dropped_past request.old.cache.write p))
-            self.old.past self.new.past }
-        ensures table { self.new.locks
-            ≡ settled (status_for (λ text. GiveUp) reason) request.old.cache.held self.old.locks }
-        ensures deeds { Adds
-            (settled_deeds (status_for (λ text. GiveUp) reason) request.old.cache.held)
-            self.old.deeds self.new.deeds }
-        ensures released { result ≡ option_map name_of request.old.cache.held }
-        ensures rest { self.new
-            ≡ record self.old {
-              store = self.new.store;
-              past = self.new.past;
-              locks = self.new.locks;
-              deeds = self.new.deeds;
-            } }
+        ensures takes { Disables result reason request.old.cache request.new.cache self.old
+            self.new }
     {
         request
             .cache
@@ -308,21 +167,7 @@ impl<M: EvictionManager, K> Cache<M, K> {
 
     /// `HttpCache::end`: releases all that a request holds.
     pub fn end(&mut self, request: CacheRequest<K>) -> Option<LockName>
-        ensures let_go { result ≡ option_map name_of request.cache.held }
-        ensures store { self.new.store
-            ≡ left_by request.cache.reader (dropped_by request.cache.write self.old.store) }
-        ensures past { Adds
-            (λ p. left_past request.cache.reader (dropped_past request.cache.write p))
-            self.old.past self.new.past }
-        ensures table { self.new.locks ≡ let_go_by request.cache.held self.old.locks }
-        ensures deeds { Adds (let_go_deeds request.cache.held) self.old.deeds self.new.deeds }
-        ensures rest { self.new
-            ≡ record self.old {
-              store = self.new.store;
-              past = self.new.past;
-              locks = self.new.locks;
-              deeds = self.new.deeds;
-            } }
+        ensures takes { EndsRequest result request.cache self.old self.new }
     {
         request.into_cache().end(&mut self.store, &mut self.lock)
     }

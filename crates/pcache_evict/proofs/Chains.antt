@@ -19,7 +19,7 @@ use Rattle.pcache_evict.specs.Shards.{ArePlaced, AreKept, RunsOut, all, list_at,
 use Rattle.pcache_evict.specs.Chain.{span, chain, Pops, IsWithinTotals, Walks, RoomFor, IsFirst, IsFirstFrom}
 use Rattle.pcache_evict.proofs.Recency.{distinct-front, length-others, others-none, weight-moved}
 use Rattle.pcache_evict.proofs.Reweighs.{weight-reweighed}
-use Rattle.pcache_evict.proofs.Walks.{append_nil}
+use Rattle.pcache_evict.proofs.Walks.{append_nil, Walking}
 use Rattle.pcache_evict.proofs.Sharded.{E, Apart, both, weaker, separate, once-append, at_home, others-all, others-apart, elsewhere, in_range, weight-around, length-around, lookup-before, kept-popped}
 
 -- ---- spans
@@ -226,6 +226,23 @@ walks-fit limits k u t s a b v sum count =
     let within : length (others k s) ≡ length (others k v.left) + length (others k v.passed) = ap (λ (l : Recency). length l) own ∙ length-append (others k v.left) (others k v.passed) in
     let sum_v = v.sum in let count_v = v.count in
     (omega arith, omega arith)
+
+-- a walk that ended since the limits hold for what it did not pass
+pub walk-ends : (limits : Limits) (k : CacheEntryKey) (l left : Recency) (a b : Walk) → weight (others k l) ≤ a.sum → length (others k l) ≤ a.count → Walking k l left a b.sum b.count b.room → IsWithinTotals limits b.sum b.count → Walks limits k l a b
+walk-ends limits k l left a b sum count w small =
+    let own : others k l ≡ others k left ++ others k w.passed = ap (others k) w.split ∙ filter-append (λ (e : E). not (entry_eq k e.0)) left w.passed in
+    let whole : weight (others k l) ≡ weight (others k left) + weight (others k w.passed) = ap weight own ∙ sum_by-append (λ (e : E). e.1) (others k left) (others k w.passed) in
+    let longer : length (others k l) ≡ length (others k left) + length (others k w.passed) = ap (λ (t : Recency). length t) own ∙ length-append (others k left) (others k w.passed) in
+    let sum_w = w.sum in let count_w = w.count in
+    record {
+      left = left;
+      passed = w.passed;
+      split = w.split;
+      sum = omega arith;
+      count = omega arith;
+      room = w.room;
+      ends = inr small;
+    }
 
 -- the limits hold for nothing
 pub inside-none : (limits : Limits) → IsWithinAsList limits []

@@ -1,6 +1,7 @@
 pub mod Chain
 pub mod Entry
 pub mod EntryRef
+pub mod LimitsCode
 pub mod Listed
 pub mod Policy
 pub mod Recency

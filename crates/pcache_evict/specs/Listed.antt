@@ -5,6 +5,7 @@ use Rattle.std.specs.Map.{keys_of}
 use Rattle.std.specs.FinMap.{from_entries}
 use Rattle.lru.specs.LruCache.{LruCache}
 use Rattle.pcache_evict.specs.declared.eviction.entry_key.CacheEntryKey.{CacheEntryKey}
+use Rattle.pcache_evict.specs.declared.eviction.policy.EvictionPolicy.TheVariants.{Lru}
 use Rattle.pcache_evict.specs.Entry.{entry_cmp, entry_eq}
 use Rattle.pcache_evict.specs.Tracked.{Tracked, Limits, Evicted, limits_of}
 use Rattle.pcache_evict.specs.Recency.{Recency, weight, IsWithinAsList, Evicts}
@@ -20,7 +21,7 @@ map_of l = from_entries {R = entry_cmp} l
 
 -- a new manager with these limits
 abbrev pub empty_list : ℕ → Option ℕ → Listed
-empty_list limit watermark = record { entries = []; limits = limits_of limit watermark; evicted = record { weight = 0; count = 0 } }
+empty_list limit watermark = record { entries = []; limits = limits_of Lru limit watermark; evicted = record { weight = 0; count = 0 } }
 
 -- no entry occurs twice
 abbrev pub IsOnce : Recency → Type 0

@@ -4,6 +4,7 @@ use Rattle.std.specs.List.{AllByRecursion}
 use Rattle.std.specs.Map.{set_value}
 use Rattle.pcache_base.specs.CompactKey.{compact_slot}
 use Rattle.pcache_evict.specs.declared.eviction.entry_key.CacheEntryKey.{CacheEntryKey}
+use Rattle.pcache_evict.specs.declared.eviction.policy.EvictionPolicy.TheVariants.{ShardedLru}
 use Rattle.pcache_evict.specs.Entry.{entry_eq, key_of}
 use Rattle.pcache_evict.specs.Tracked.{Limits, Evicted, raised, limits_of}
 use Rattle.pcache_evict.specs.Recency.{Recency, weight, weight_of, moved, IsWithinAsList}
@@ -86,7 +87,7 @@ pub record Sharded : Type 0 where
 
 -- a new manager with so many shards and these limits
 abbrev pub empty_shards : ℕ → ℕ → Option ℕ → Sharded
-empty_shards n limit watermark = record { shards = no_entries n; limits = limits_of limit watermark; evicted = record { weight = 0; count = 0 } }
+empty_shards n limit watermark = record { shards = no_entries n; limits = limits_of ShardedLru limit watermark; evicted = record { weight = 0; count = 0 } }
 
 -- the lists become these, and then entries are evicted
 pub record Runs (n : ℕ) (old : Sharded) (lists : List Recency) (new : Sharded) (out : List CacheEntryKey) : Type 0 where

@@ -4,6 +4,7 @@ use Rattle.std.specs.List.{IsDistinct}
 use Rattle.std.specs.Ordering.{eq_by_cmp}
 use Rattle.std.specs.FinMap.{FinMap, get, insert, remove, values, len, contains_key}
 use Rattle.pcache_evict.specs.declared.eviction.entry_key.CacheEntryKey.{CacheEntryKey}
+use Rattle.pcache_evict.specs.declared.eviction.policy.EvictionPolicy.{EvictionPolicy}
 use Rattle.pcache_evict.specs.Entry.{entry_cmp}
 
 -- the tracked entries, each with its weight
@@ -33,14 +34,16 @@ raised delta cap (Some w) = max w (min (w + delta) (unwrap_or cap (2 ^ 64 - 1)))
 abbrev pub incremented : Tracked → CacheEntryKey → ℕ → Option ℕ → Tracked
 incremented m e delta cap = insert m e (raised delta cap (get m e))
 
--- the limits of a manager: on the weight, and on the number of entries if there is a watermark
+-- what no call of a manager changes: its limits, on the weight, and on the number of entries if there is a watermark; and the
+-- policy that entries go by, which is not looked at to see whether the limits hold
 pub record Limits : Type 0 where
   pub weight : ℕ
   pub watermark : Option ℕ
+  pub policy : EvictionPolicy
 
--- these limits
-abbrev pub limits_of : ℕ → Option ℕ → Limits
-limits_of limit watermark = record { weight = limit; watermark = watermark }
+-- these limits, of a manager that goes by this policy
+abbrev pub limits_of : EvictionPolicy → ℕ → Option ℕ → Limits
+limits_of policy limit watermark = record { weight = limit; watermark = watermark; policy = policy }
 
 -- the map is within the limits
 pub record IsWithin (limits : Limits) (m : Tracked) : Type 0 where

@@ -14,6 +14,7 @@ use pcache_base::moment::Moment;
 
 mod entry_key;
 pub mod ordered;
+mod policy;
 mod recency;
 pub mod sharded_lru;
 mod shards;
@@ -21,18 +22,20 @@ pub mod simple_lru;
 
 pub use entry_key::{CacheEntryKey, CacheEntryKeyRef};
 pub use pcache_base::entry_id::CacheEntryId;
+pub use policy::EvictionPolicy;
 
 /// Decides which entries leave a cache, by their weights and by how they are used.
 ///
-/// A contract sees the map from entries to weights, and the limits on their sum and number; and the
-/// order of the entries, as the manager shows it, with the rules by which calls change it. Calls
-/// fail only when memory runs out, and a failed call leaves the entries and their weights; the order
+/// A contract sees the map from entries to weights, the limits on their sum and number, and the
+/// policy that the entries go by; and the order of the entries, as the manager shows it, with the
+/// rules by which calls change it. Calls fail only when memory runs out, and a failed call leaves the entries and their weights; the order
 /// of those that were looked at to find one that goes may have changed.
 pub trait EvictionManager: Drop {
     /// The entries, with their weights.
     ghost tracked: { Self → Tracked };
 
-    /// What no call changes.
+    /// What no call changes: the limits on the weights' sum and on the number of entries, and the
+    /// policy by which entries go.
     ghost limits: { Self → Limits };
 
     /// The weight and the number of all that was evicted.

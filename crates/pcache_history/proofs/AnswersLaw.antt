@@ -1,13 +1,8 @@
 -- The result of a look-up and of a read in a legal history is what the events before it say.
-use Rattle.std.proofs.Common.{◌≡◌, ℕ, Option, None, Some, List, [], ◌∷◌, ◌++◌, refl, subst}
-use Rattle.pcache_evict.specs.Tracked.{Tracked, Limits}
 use Rattle.pcache_store.specs.Store.{Reader}
-use Rattle.pcache_history.specs.declared.entry.Entry.{Entry}
-use Rattle.pcache_history.specs.Due.{makes_of, reader_for, AreDue}
+use Rattle.pcache_history.specs.Due.{reader_for}
 use Rattle.pcache_history.specs.Headline.{LooksAreTrue, ReadsAreTrue}
-use Rattle.pcache_history.specs.Ongoing.{Ongoing, row, request_of}
-use Rattle.pcache_history.specs.History.{events_of}
-use Rattle.pcache_history.specs.Legal.{IsLegal}
+use Rattle.pcache_history.proofs.Words.{◌≡◌, ℕ, Option, None, Some, List, [], ◌∷◌, ◌++◌, refl, subst, Tracked, Limits, Entry, makes_of, AreDue, Ongoing, row, request_of, events_of, IsLegal}
 
 pub looks_are_true : LooksAreTrue
 looks_are_true age limits start before entry k answer rest l is =

@@ -1,27 +1,16 @@
 -- What is stored stays within the limits.
-use Rattle.std.proofs.Common.{◌≡◌, ◌≢◌, ℕ, ◌≤◌, Bool, true, false, ◌&&◌, ◌==◌, if◌then◌else◌, Option, None, Some, is_some, List, [], ◌∷◌, refl, ap, sym, subst, ◌∙◌, arith}
-use Rattle.std.specs.Prelude.{IfSome}
 use Rattle.std.specs.Option.{option_map, unwrap_or}
-use Rattle.std.specs.List.{AllByRecursion, IsDistinct, list_any, sum_by}
-use Rattle.std.specs.Ordering.{nat_cmp, eq_by_cmp}
-use Rattle.std.specs.FinMap as map
-use Rattle.std.proofs.lemmas.Bool.{eqb-true, eq-eqb, both_ways, or_parts, and_parts}
+use Rattle.std.specs.List.{AllByRecursion, IsDistinct, sum_by}
 use Rattle.std.proofs.lemmas.List.Sums.{sum_by-cons, sum_by-le-sum_by}
 use Rattle.std.proofs.lemmas.Map.Keys.{IsDistinct-cons}
-use Rattle.pcache_meta.specs.Meta.{Meta, expired_at, in_place_of}
-use Rattle.pcache_base.specs.Totals.{total, share}
 use Rattle.pcache_base.proofs.Totals.{sum-le-total, len-total}
-use Rattle.pcache_evict.specs.declared.eviction.entry_key.CacheEntryKey.{CacheEntryKey}
 use Rattle.pcache_evict.specs.declared.eviction.entry_key.CacheEntryKey.TheVariants.{KeyOnly, Identified}
-use Rattle.pcache_evict.specs.Entry.{entry_cmp, entries_total, id_of}
-use Rattle.pcache_evict.specs.Tracked.{Tracked, Limits, IsWithin, weight}
-use Rattle.pcache_evict.proofs.EntryOrder.{exact_entries}
+use Rattle.pcache_evict.specs.Tracked.{IsWithin, weight}
 use Rattle.pcache_base.specs.CompactKey.{compact_slot}
-use Rattle.pcache_store.specs.Store.{Stored}
-use Rattle.pcache_history.specs.declared.entry.Event.{Event}
-use Rattle.pcache_history.specs.declared.entry.Event.TheVariants.{Look, Ask, Access, Begin, Wrote, Finish, Dropped, Release, LetGo, Aged, Admit, Purge, Expire, Renew, Untrack, Read}
-use Rattle.pcache_history.specs.Events.{begun, begin_of, names_slot, is_removed, in_flight, body_of, complete, tracked, with_key, finished_keys, stored_size, stored, slots}
-use Rattle.pcache_history.specs.Kept.{IsTidy, IsExact, IsBounded, standing_entry}
+use Rattle.pcache_history.specs.declared.entry.Event.TheVariants.{Read}
+use Rattle.pcache_history.specs.Events.{with_key, finished_keys, stored, slots}
+use Rattle.pcache_history.proofs.Words.{◌≡◌, ◌≢◌, ℕ, ◌≤◌, Bool, true, false, ◌&&◌, ◌==◌, if◌then◌else◌, Option, None, Some, is_some, List, [], ◌∷◌, refl, ap, sym, subst, ◌∙◌, arith, IfSome, list_any, nat_cmp, eq_by_cmp, eqb-true, eq-eqb, both_ways, or_parts, and_parts, Meta, expired_at, in_place_of, total, share, CacheEntryKey, entry_cmp, entries_total, id_of, Tracked, Limits, exact_entries, Stored, Event, Look, Ask, Access, Begin, Wrote, Finish, Dropped, Release, LetGo, Aged, Admit, Purge, Expire, Renew, Untrack, begun, begin_of, names_slot, is_removed, in_flight, body_of, complete, tracked, stored_size, IsTidy, IsExact, IsBounded, standing_entry}
+use Rattle.std.specs.FinMap as map
 use Rattle.pcache_history.proofs.Steps.{complete-wrote, complete-begin, complete-purge, complete-expire, complete-renew, complete-finish, body_with, altered_body}
 use Rattle.pcache_history.proofs.Tidy.{tidy-finish}
 use Rattle.pcache_history.proofs.Exact.{apart, standing-numbered}

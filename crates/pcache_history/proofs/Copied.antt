@@ -1,12 +1,6 @@
 -- A reply and its copy change a request alike, and say alike whether the call was a wrong one.
-use Rattle.std.proofs.Common.{◌≡◌, Option, List, refl, ap, sym, subst, ◌∙◌, inl, inr}
-use Rattle.pcache_base.specs.declared.error.ErrorType.TheVariants.{OutOfMemory}
-use Rattle.pcache_history.specs.declared.call.Act.{Act}
-use Rattle.pcache_history.specs.declared.call.Reply.{Reply}
+use Rattle.pcache_history.proofs.Words.{◌≡◌, Option, List, refl, ap, sym, subst, ◌∙◌, inl, inr, OutOfMemory, Act, Reply, Event, Ongoing, kind_of_reply, row_by, row, IsOther, IsCopy}
 use Rattle.pcache_history.specs.declared.call.Reply.TheVariants as R
-use Rattle.pcache_history.specs.declared.entry.Event.{Event}
-use Rattle.pcache_history.specs.Ongoing.{Ongoing, kind_of_reply, row_by, row}
-use Rattle.pcache_history.specs.Rules.{IsOther, IsCopy}
 
 pub kind-copied : (reply told : Reply) → IsCopy reply told → kind_of_reply told ≡ kind_of_reply reply
 kind-copied reply told (inl same) = ap kind_of_reply same

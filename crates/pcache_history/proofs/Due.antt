@@ -1,16 +1,7 @@
 -- What events that are due keep, whatever call has them: the history stays tidy, one request makes each write in flight, under
 -- its key, what stands is tracked exactly, and it is within the limits.
-use Rattle.std.proofs.Common.{◌≡◌, ◌≢◌, ℕ, ◌<◌, Bool, true, false, not, ◌&&◌, ◌||◌, ◌==◌, if◌then◌else◌, Option, None, Some, is_some, List, [], ◌∷◌, ◌++◌, refl, ap, sym, subst, ◌∙◌, arith, reverse, inl, inr, ◌⊎◌}
-use Rattle.std.proofs.lemmas.Bool.{eqb-true, eqb-false, eq-eqb, ne_eqb, and_parts}
-use Rattle.pcache_meta.specs.Meta.{Meta, numbered}
-use Rattle.pcache_evict.specs.Tracked.{Tracked, Limits}
-use Rattle.pcache_store.specs.Store.{Stored}
-use Rattle.pcache_history.specs.declared.entry.Event.{Event}
+use Rattle.pcache_history.proofs.Words.{◌≡◌, ◌≢◌, ℕ, ◌<◌, Bool, true, false, not, ◌&&◌, ◌||◌, ◌==◌, if◌then◌else◌, Option, None, Some, is_some, List, [], ◌∷◌, ◌++◌, refl, ap, sym, subst, ◌∙◌, arith, reverse, inl, inr, ◌⊎◌, eqb-true, eqb-false, eq-eqb, ne_eqb, and_parts, Meta, numbered, Tracked, Limits, Stored, Event, Owed, slot_of, makes, owes, IsNext, AreDue, option_any, begun, begin_of, has_ended, in_flight, body_of, last_finished, complete, stored_size, tracked, names_slot, Ongoing, IsTidy, IsExact, IsBounded}
 use Rattle.pcache_history.specs.declared.entry.Event.TheVariants as E
-use Rattle.pcache_history.specs.Due.{Owed, slot_of, makes, owes, IsNext, AreDue}
-use Rattle.pcache_history.specs.Events.{option_any, begun, begin_of, has_ended, in_flight, body_of, last_finished, complete, stored_size, tracked, names_slot}
-use Rattle.pcache_history.specs.Ongoing.{Ongoing}
-use Rattle.pcache_history.specs.Kept.{IsTidy, IsExact, IsBounded}
 use Rattle.pcache_history.proofs.Bound.{bound-within, bound-wrote, bound-begin, bound-purge, bound-expire, bound-renew, bound-undone}
 use Rattle.pcache_history.proofs.Exact.{exact-wrote, exact-begin, exact-purge, exact-expire, exact-renew, exact-untrack, exact-access, exact-admit, exact-undone}
 use Rattle.pcache_history.proofs.Runs.{turned}

@@ -1,25 +1,13 @@
 -- Of each standing key, the entry that was admitted last stays tracked with the length of its body.
-use Rattle.std.proofs.Common.{◌≡◌, ◌≢◌, ℕ, Bool, true, false, cond, ◌&&◌, ◌==◌, if◌then◌else◌, Option, None, Some, is_some, List, [], ◌∷◌, refl, ap, sym, subst, ◌∙◌}
-use Rattle.std.specs.Ordering.{eq_by_cmp, is_eq}
 use Rattle.std.specs.declared.cmp.Ordering.{Ordering}
 use Rattle.std.specs.declared.cmp.Ordering.TheVariants.{Less, Equal, Greater}
-use Rattle.std.specs.Cmp.{tied_itself}
-use Rattle.std.specs.FinMap as map
-use Rattle.std.specs.Option.{option_map, option_and_then}
-use Rattle.std.proofs.lemmas.Bool.{eqb-true, eq-eqb, both_ways, or_parts, and_parts, and_from}
-use Rattle.pcache_base.specs.Key.{Key, slot}
-use Rattle.pcache_meta.specs.Meta.{Meta, expired_at, in_place_of}
-use Rattle.pcache_evict.specs.declared.eviction.entry_key.CacheEntryKey.{CacheEntryKey}
-use Rattle.pcache_evict.specs.Entry.{entry_cmp, entries_total, id_of}
-use Rattle.pcache_evict.specs.Tracked.{Tracked, without, added}
-use Rattle.pcache_evict.proofs.EntryOrder.{exact_entries}
-use Rattle.pcache_store.specs.Store.{Stored}
+use Rattle.std.specs.Option.{option_map}
+use Rattle.pcache_evict.specs.Tracked.{without, added}
 use Rattle.pcache_request.specs.Finishing.{entry_slot}
-use Rattle.pcache_request.specs.Requests.{entry_of}
-use Rattle.pcache_history.specs.declared.entry.Event.{Event}
-use Rattle.pcache_history.specs.declared.entry.Event.TheVariants.{Look, Ask, Access, Begin, Wrote, Finish, Dropped, Release, LetGo, Aged, Admit, Purge, Expire, Renew, Untrack, Read}
-use Rattle.pcache_history.specs.Events.{begun, begin_of, names_slot, is_number, goes_with, goes_with_any, option_any, is_removed, in_flight, body_of, last_finished, meta_kept, complete, tracked, stored_size}
-use Rattle.pcache_history.specs.Kept.{IsTidy, IsExact, standing_entry}
+use Rattle.pcache_history.specs.declared.entry.Event.TheVariants.{Read}
+use Rattle.pcache_history.specs.Events.{is_number, goes_with}
+use Rattle.pcache_history.proofs.Words.{◌≡◌, ◌≢◌, ℕ, Bool, true, false, cond, ◌&&◌, ◌==◌, if◌then◌else◌, Option, None, Some, is_some, List, [], ◌∷◌, refl, ap, sym, subst, ◌∙◌, eq_by_cmp, is_eq, tied_itself, option_and_then, eqb-true, eq-eqb, both_ways, or_parts, and_parts, and_from, Key, slot, Meta, expired_at, in_place_of, CacheEntryKey, entry_cmp, entries_total, id_of, Tracked, exact_entries, Stored, entry_of, Event, Look, Ask, Access, Begin, Wrote, Finish, Dropped, Release, LetGo, Aged, Admit, Purge, Expire, Renew, Untrack, begun, begin_of, names_slot, goes_with_any, option_any, is_removed, in_flight, body_of, last_finished, meta_kept, complete, tracked, stored_size, IsTidy, IsExact, standing_entry}
+use Rattle.std.specs.FinMap as map
 use Rattle.pcache_history.proofs.Steps.{complete-wrote, complete-begin, complete-purge, complete-admit, complete-expire, complete-renew, complete-finish, body_with, altered_body, goes_last, unless_removed}
 use Rattle.pcache_history.proofs.Tidy.{tidy-finish}
 

@@ -1,38 +1,14 @@
 -- What is read through a hit is the body that a look-up of its request found, or a write that was begun.
-use Rattle.std.proofs.Common.{◌≡◌, ℕ, ◌==◌, ◌&&◌, ◌||◌, nat_lt, length, Bool, true, false, cond, if◌then◌else◌, Option, None, Some, IsSome, List, [], ◌∷◌, ◌++◌, reverse, refl, ap, sym, subst, ◌∙◌}
-use Rattle.std.specs.List.{list_any}
 use Rattle.std.specs.Option.{option_map}
-use Rattle.std.proofs.lemmas.Bool.{and_parts, eqb-true}
-use Rattle.pcache_evict.specs.Tracked.{Tracked, Limits}
-use Rattle.pcache_meta.specs.Meta.{Meta, numbered}
-use Rattle.pcache_base.specs.declared.poll.Poll.{Poll}
-use Rattle.pcache_base.specs.declared.poll.Poll.TheVariants.{Ready, Pending}
-use Rattle.pcache_base.specs.declared.reason.NoCacheReason.TheVariants as reason
-use Rattle.pcache_base.specs.declared.reason.NoCacheReason.TheVariants.{Deferred}
-use Rattle.pcache_predict.specs.declared.admission.Decision.{Decision}
-use Rattle.pcache_request.specs.Admissions.{is_deferral, with_decision}
-use Rattle.pcache_request.specs.Phases.{is_treated_as_miss}
-use Rattle.pcache_request.specs.Releasing.{disabled_for, disabled_in}
-use Rattle.pcache_request.specs.Renewals.{renewed}
-use Rattle.pcache_request.specs.Variants.{is_hidden, visible}
-use Rattle.pcache_request.specs.declared.phase.CachePhase.{CachePhase}
-use Rattle.pcache_request.specs.declared.phase.CachePhase.TheVariants as phase
-use Rattle.pcache_request.specs.Requests.{Request, without_reader}
-use Rattle.pcache_request.specs.declared.phase.HitStatus.{HitStatus}
-use Rattle.pcache_store.specs.Store.{Reader, Whole, Part, end_or, is_forward}
-use Rattle.pcache_history.specs.declared.call.Act.{Act}
-use Rattle.pcache_history.specs.declared.call.Act.TheVariants as C
-use Rattle.pcache_history.specs.declared.entry.Answer.{Answer}
-use Rattle.pcache_history.specs.declared.entry.Answer.TheVariants as A
-use Rattle.pcache_history.specs.declared.entry.Entry.{Entry}
-use Rattle.pcache_history.specs.declared.entry.Event.{Event}
-use Rattle.pcache_history.specs.declared.entry.Event.TheVariants as E
-use Rattle.pcache_history.specs.Events.{begin_of, is_open, option_any}
+use Rattle.pcache_store.specs.Store.{Reader}
 use Rattle.pcache_history.specs.Headline.{FollowsAWrite, IsFoundBy, ReadsWhatWasFound, is_opening, opens_under}
-use Rattle.pcache_history.specs.Ongoing.{Ongoing, Change, fed_in, ongoing_put, opens, closes, stays, turns, turns_by, shuts, looks, takes, begins, ends, reads_on, seeks, reads_no_more, renews, waits, pushes, feeds, goes, change_of, changed, turned_by, shut_by, sought_in, with_sought, ReplyKind, kind_of_reply, is_wrong, is_done, is_taken, opened, asked, carrying, decides, looked_by, pair_of, placed_by, taken_by, without_pair, began, ended, read_past, has_read, on_request, row, row_by, request_of, pair_reader, after_look}
-use Rattle.pcache_history.specs.History.{Finds, events_of}
-use Rattle.pcache_history.specs.Taking.{Taking, new_put}
-use Rattle.pcache_history.specs.Legal.{IsLegal}
+use Rattle.pcache_history.specs.Ongoing.{ends, pair_reader}
+use Rattle.pcache_history.proofs.Words.{◌≡◌, ℕ, ◌==◌, ◌&&◌, ◌||◌, nat_lt, length, Bool, true, false, cond, if◌then◌else◌, Option, None, Some, IsSome, List, [], ◌∷◌, ◌++◌, reverse, refl, ap, sym, subst, ◌∙◌, list_any, and_parts, eqb-true, Tracked, Limits, Meta, numbered, Poll, Ready, Pending, Deferred, Decision, is_deferral, with_decision, is_treated_as_miss, disabled_for, disabled_in, renewed, is_hidden, visible, CachePhase, Request, without_reader, HitStatus, Whole, Part, end_or, is_forward, Act, Answer, Entry, Event, begin_of, is_open, option_any, Ongoing, Change, fed_in, ongoing_put, opens, closes, stays, turns, turns_by, shuts, looks, takes, begins, reads_on, seeks, reads_no_more, renews, waits, pushes, feeds, goes, change_of, changed, turned_by, shut_by, sought_in, with_sought, ReplyKind, kind_of_reply, is_wrong, is_done, is_taken, opened, asked, carrying, decides, looked_by, pair_of, placed_by, taken_by, without_pair, began, ended, read_past, has_read, on_request, row, row_by, request_of, after_look, Finds, events_of, Taking, new_put, IsLegal}
+use Rattle.pcache_base.specs.declared.reason.NoCacheReason.TheVariants as reason
+use Rattle.pcache_request.specs.declared.phase.CachePhase.TheVariants as phase
+use Rattle.pcache_history.specs.declared.call.Act.TheVariants as C
+use Rattle.pcache_history.specs.declared.entry.Answer.TheVariants as A
+use Rattle.pcache_history.specs.declared.entry.Event.TheVariants as E
 use Rattle.pcache_history.proofs.Taken.{taken_keeps}
 use Rattle.pcache_history.proofs.AnswersLaw.{legal-part, looks_are_true}
 use Rattle.pcache_history.proofs.WriteLaws.{reads_the_last}

@@ -22,3 +22,4 @@ pub mod TrackedLaws
 pub mod Waiting
 pub mod WaitsLaw
 pub mod WrongLaw
+pub mod Words

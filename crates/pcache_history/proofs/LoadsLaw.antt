@@ -1,23 +1,12 @@
 -- Loads come first in a legal history, and make no event: so it is legal from whatever the manager tracked before them.
-use Rattle.std.proofs.Common.{◌≡◌, ℕ, ◌↔◌, Bool, true, false, ◌&&◌, Option, None, Some, List, [], ◌∷◌, ◌++◌, reverse, refl, sym, subst, ◌∙◌, inl, inr}
-use Rattle.std.proofs.lemmas.Bool.{both_ways}
-use Rattle.pcache_evict.specs.Tracked.{Tracked, Limits}
-use Rattle.pcache_history.specs.declared.call.Act.{Act}
-use Rattle.pcache_history.specs.declared.call.Act.TheVariants as C
 use Rattle.pcache_history.specs.declared.call.FilesAct.{FilesAct}
-use Rattle.pcache_history.specs.declared.call.FilesAct.TheVariants as F
-use Rattle.pcache_history.specs.declared.call.Reply.{Reply}
-use Rattle.pcache_history.specs.declared.call.Reply.TheVariants as R
-use Rattle.pcache_history.specs.declared.entry.Entry.{Entry}
-use Rattle.pcache_history.specs.declared.entry.Event.{Event}
-use Rattle.pcache_history.specs.Due.{AreDue, makes_of}
-use Rattle.pcache_history.specs.Facts.{Facts}
-use Rattle.pcache_history.specs.Files.{IsEarly, files_in, is_load, only_loads}
+use Rattle.pcache_history.specs.Files.{files_in, is_load, only_loads}
 use Rattle.pcache_history.specs.Headline.{LoadsComeFirst}
-use Rattle.pcache_history.specs.Ongoing.{Ongoing, request_of, row}
-use Rattle.pcache_history.specs.History.{events_of}
-use Rattle.pcache_history.specs.Legal.{IsLegal}
-use Rattle.pcache_history.specs.Rules.{FindsKind, IsCopy, IsFilesReply, IsOther, Replies}
+use Rattle.pcache_history.specs.Rules.{IsFilesReply}
+use Rattle.pcache_history.proofs.Words.{◌≡◌, ℕ, ◌↔◌, Bool, true, false, ◌&&◌, Option, None, Some, List, [], ◌∷◌, ◌++◌, reverse, refl, sym, subst, ◌∙◌, inl, inr, both_ways, Tracked, Limits, Act, Reply, Entry, Event, AreDue, makes_of, Facts, IsEarly, Ongoing, request_of, row, events_of, IsLegal, FindsKind, IsCopy, IsOther, Replies}
+use Rattle.pcache_history.specs.declared.call.Act.TheVariants as C
+use Rattle.pcache_history.specs.declared.call.FilesAct.TheVariants as F
+use Rattle.pcache_history.specs.declared.call.Reply.TheVariants as R
 use Rattle.pcache_history.proofs.Copied.{other-copied, wrong-copied}
 
 -- any number may stand with a call on files

@@ -1,16 +1,9 @@
 -- A found meta has the number of its write.
-use Rattle.std.proofs.Common.{◌≡◌, ℕ, Bool, true, false, ◌==◌, if◌then◌else◌, Option, None, Some, List, [], ◌∷◌, refl, ap, sym, ◌∙◌}
-use Rattle.std.specs.Option.{option_and_then, option_map}
-use Rattle.std.proofs.lemmas.Bool.{eqb-true}
-use Rattle.pcache_meta.specs.Meta.{Meta, expired_at, in_place_of, numbered}
-use Rattle.pcache_store.specs.Store.{Stored}
-use Rattle.pcache_history.specs.declared.entry.Answer.{Answer}
-use Rattle.pcache_history.specs.declared.entry.Answer.TheVariants as A
-use Rattle.pcache_history.specs.declared.entry.Event.{Event}
-use Rattle.pcache_history.specs.declared.entry.Event.TheVariants as E
-use Rattle.pcache_history.specs.Events.{altered_by, begin_of, body_of, complete, is_removed, last_finished, meta_kept, stores, until}
+use Rattle.std.specs.Option.{option_map}
 use Rattle.pcache_history.specs.Headline.{FoundIsNumbered, IsOfItsWrite}
-use Rattle.pcache_history.specs.History.{events_of, Finds}
+use Rattle.pcache_history.proofs.Words.{◌≡◌, ℕ, Bool, true, false, ◌==◌, if◌then◌else◌, Option, None, Some, List, [], ◌∷◌, refl, ap, sym, ◌∙◌, option_and_then, eqb-true, Meta, expired_at, in_place_of, numbered, Stored, Answer, Event, altered_by, begin_of, body_of, complete, is_removed, last_finished, meta_kept, stores, until, events_of, Finds}
+use Rattle.pcache_history.specs.declared.entry.Answer.TheVariants as A
+use Rattle.pcache_history.specs.declared.entry.Event.TheVariants as E
 use Rattle.pcache_history.proofs.AnswersLaw.{looks_are_true}
 use Rattle.pcache_history.proofs.Steps.{unless_removed}
 

@@ -1,37 +1,16 @@
 -- Replies of look-ups, readers at their end, and what is promised of a world's own history.
-use Rattle.std.proofs.Common.{◌≡◌, ℕ, ◌≤◌, Bool, true, false, not, ◌&&◌, cond, nat_lt, Option, None, Some, IsSome, List, [], ◌∷◌, ◌++◌, refl, ap, sym, subst, ◌∙◌, ◌↔◌, inl, inr, arith, length, take, drop, take_all, reverse}
 use Rattle.std.specs.Option.{option_map}
-use Rattle.std.proofs.lemmas.Bool.Decides.{nat_tests}
-use Rattle.pcache_base.specs.Key.{Key, slot}
-use Rattle.pcache_base.specs.declared.poll.Poll.{Poll}
-use Rattle.pcache_base.specs.declared.poll.Poll.TheVariants.{Ready, Pending}
-use Rattle.pcache_evict.specs.Tracked.{Tracked, Limits}
-use Rattle.pcache_meta.specs.Meta.{Meta}
-use Rattle.pcache_predict.specs.declared.admission.Decision.{Decision}
-use Rattle.pcache_request.specs.Admissions.{is_deferral}
-use Rattle.pcache_request.specs.Requests.{Request}
-use Rattle.pcache_request.specs.Variants.{hides_pair, is_hidden, is_unseen}
-use Rattle.pcache_store.specs.Store.{Reader, Part, read_part}
+use Rattle.pcache_request.specs.Variants.{hides_pair}
+use Rattle.pcache_store.specs.Store.{Reader}
+use Rattle.pcache_history.specs.Facts.{Says}
+use Rattle.pcache_history.specs.Headline.{is_found, HandsOnExactly, HandsOnUnhidden, says_found, TellsExactly, ReadsTheWhole, IsEntryOf, FindsUntouched, FinishesUntouched, HitsTheLast, IsWithinAlways, EvictsNothingWithin, GivesWhereNoneWaits}
+use Rattle.pcache_history.specs.Rules.{Looks, look_reply}
+use Rattle.pcache_history.proofs.Words.{◌≡◌, ℕ, ◌≤◌, Bool, true, false, not, ◌&&◌, cond, nat_lt, Option, None, Some, IsSome, List, [], ◌∷◌, ◌++◌, refl, ap, sym, subst, ◌∙◌, ◌↔◌, inl, inr, arith, length, take, drop, take_all, reverse, nat_tests, Key, slot, Poll, Ready, Pending, Tracked, Limits, Meta, Decision, is_deferral, Request, is_hidden, is_unseen, Part, read_part, LockKind, Reply, Answer, Entry, Event, deeds_of, begin_of, in_flight, body_of, is_told, Facts, HasUntouched, Ongoing, carrying, decides, pair_of, request_of, events_of, reads, IsLegal, Gives, Log, HasLegal, read_by, FollowsRule, Replies, HandsOn, LooksOn, Misses, drop_of, release_of, IsCopy}
 use Rattle.pcache_history.specs.declared.call.Act.TheVariants as C
 use Rattle.pcache_history.specs.declared.call.RequestAct.TheVariants as Q
-use Rattle.pcache_history.specs.declared.call.LockKind.{LockKind}
-use Rattle.pcache_history.specs.declared.call.Reply.{Reply}
 use Rattle.pcache_history.specs.declared.call.Reply.TheVariants as R
-use Rattle.pcache_history.specs.declared.entry.Answer.{Answer}
 use Rattle.pcache_history.specs.declared.entry.Answer.TheVariants as A
-use Rattle.pcache_history.specs.declared.entry.Entry.{Entry}
-use Rattle.pcache_history.specs.declared.entry.Event.{Event}
 use Rattle.pcache_history.specs.declared.entry.Event.TheVariants as E
-use Rattle.pcache_history.specs.Deeds.{deeds_of}
-use Rattle.pcache_history.specs.Events.{begin_of, in_flight, body_of, is_told}
-use Rattle.pcache_history.specs.Facts.{Facts, Says}
-use Rattle.pcache_history.specs.Headline.{is_found, HasUntouched, HandsOnExactly, HandsOnUnhidden, says_found, TellsExactly, ReadsTheWhole, IsEntryOf, FindsUntouched, FinishesUntouched, HitsTheLast, IsWithinAlways, EvictsNothingWithin, GivesWhereNoneWaits}
-use Rattle.pcache_history.specs.Ongoing.{Ongoing, carrying, decides, pair_of, request_of}
-use Rattle.pcache_history.specs.History.{events_of, reads}
-use Rattle.pcache_history.specs.Legal.{IsLegal, Gives}
-use Rattle.pcache_history.specs.Log.{Log, HasLegal}
-use Rattle.pcache_history.specs.ReadSoFar.{read_by}
-use Rattle.pcache_history.specs.Rules.{FollowsRule, Replies, HandsOn, Looks, LooksOn, Misses, drop_of, look_reply, release_of, IsCopy}
 use Rattle.pcache_history.proofs.AnswersLaw.{legal-part, looks_are_true, reads_are_true}
 use Rattle.pcache_history.proofs.Found.{follows_a_write}
 use Rattle.pcache_history.proofs.WriteLaws.{finds_exactly, reads_the_last, is_within_limits, finishes_exactly}

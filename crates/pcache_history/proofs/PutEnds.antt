@@ -1,30 +1,14 @@
 -- In a legal history the end of a put's write is announced only with bytes that complete its body.
-use Rattle.std.proofs.Common.{◌≡◌, ◌≢◌, ℕ, ◌<◌, ◌≤◌, ◌==◌, Bool, true, false, if◌then◌else◌, cond, Option, None, Some, IfSome, IsSome, List, [], ◌∷◌, ◌++◌, ◌↔◌, refl, ap, sym, subst, ◌∙◌, arith, reverse, length-append, inl, inr}
-use Rattle.std.proofs.lemmas.Bool.{and_parts, both_ways, eqb-true, eqb-false, ne_eqb}
-use Rattle.std.proofs.lemmas.Bool.Decides.{nat_tests}
-use Rattle.pcache_base.specs.Key.{Key}
 use Rattle.pcache_base.specs.declared.error.ErrorType.{ErrorType}
-use Rattle.pcache_evict.specs.Tracked.{Tracked, Limits}
 use Rattle.pcache_response.specs.Response.{Response, IsResponse, is_whole}
 use Rattle.pcache_response.proofs.PartLemmas.{response_more}
-use Rattle.pcache_put.specs.Puts.{Piece, Says, joined}
+use Rattle.pcache_put.specs.Puts.{Says, joined}
 use Rattle.pcache_put.proofs.Pieces.{joined_push}
-use Rattle.pcache_history.specs.declared.call.Act.{Act}
+use Rattle.pcache_history.specs.PutHistory.{FollowPolicy, AreWhole, EndsBy, SayEnds, pieces_of}
+use Rattle.pcache_history.proofs.Words.{◌≡◌, ◌≢◌, ℕ, ◌<◌, ◌≤◌, ◌==◌, Bool, true, false, if◌then◌else◌, cond, Option, None, Some, IfSome, IsSome, List, [], ◌∷◌, ◌++◌, ◌↔◌, refl, ap, sym, subst, ◌∙◌, arith, reverse, length-append, inl, inr, and_parts, both_ways, eqb-true, eqb-false, ne_eqb, nat_tests, Key, Tracked, Limits, Piece, Act, Reply, Entry, Event, Owed, makes, makes_of, owes, AreDue, IsNext, begun, is_told, tracked, Facts, Ongoing, ReplyKind, change_of, is_done, is_wrong, ongoing_put, kind_of_reply, request_of, row, row_by, events_of, IsLegal, pieces_on, IsIdle, Replies, Taking, new_put}
 use Rattle.pcache_history.specs.declared.call.Act.TheVariants as C
-use Rattle.pcache_history.specs.declared.call.Reply.{Reply}
 use Rattle.pcache_history.specs.declared.call.Reply.TheVariants as R
-use Rattle.pcache_history.specs.declared.entry.Entry.{Entry}
-use Rattle.pcache_history.specs.declared.entry.Event.{Event}
 use Rattle.pcache_history.specs.declared.entry.Event.TheVariants as E
-use Rattle.pcache_history.specs.Due.{Owed, makes, makes_of, owes, AreDue, IsNext}
-use Rattle.pcache_history.specs.Events.{begun, is_told, tracked}
-use Rattle.pcache_history.specs.Facts.{Facts}
-use Rattle.pcache_history.specs.Ongoing.{Ongoing, ReplyKind, change_of, is_done, is_wrong, ongoing_put, kind_of_reply, request_of, row, row_by}
-use Rattle.pcache_history.specs.History.{events_of}
-use Rattle.pcache_history.specs.Legal.{IsLegal}
-use Rattle.pcache_history.specs.PutHistory.{FollowPolicy, AreWhole, EndsBy, SayEnds, pieces_of, pieces_on}
-use Rattle.pcache_history.specs.Rules.{IsIdle, Replies}
-use Rattle.pcache_history.specs.Taking.{Taking, new_put}
 use Rattle.pcache_history.proofs.Copied.{kind-copied, row-copied}
 use Rattle.pcache_history.proofs.WriteLaws.{legal_kept}
 use Rattle.pcache_history.proofs.PutShape.{HasPut, no-push, plain-kept, wrong-pieces, wrong-row}

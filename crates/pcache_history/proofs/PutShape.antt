@@ -1,32 +1,13 @@
 -- In a legal history a put is as a world keeps it, and a call that is wrong leaves what it names.
-use Rattle.std.proofs.Common.{◌≡◌, ℕ, ◌==◌, Bool, true, false, cond, if◌then◌else◌, Option, None, Some, IfSome, List, [], ◌∷◌, refl, ap, sym, subst, ◌∙◌, inl, inr, option_map}
-use Rattle.std.proofs.lemmas.Bool.{eqb-true}
-use Rattle.pcache_evict.specs.Tracked.{Tracked, Limits}
-use Rattle.pcache_predict.specs.declared.admission.Decision.{Decision}
-use Rattle.pcache_base.specs.declared.reason.NoCacheReason.TheVariants.{Deferred}
-use Rattle.pcache_request.specs.Admissions.{is_deferral, with_decision}
-use Rattle.pcache_request.specs.Releasing.{disabled_for}
-use Rattle.pcache_request.specs.Variants.{visible}
-use Rattle.pcache_history.specs.declared.call.Act.{Act}
-use Rattle.pcache_history.specs.declared.call.Act.TheVariants as C
+use Rattle.std.proofs.Common.{option_map}
 use Rattle.pcache_history.specs.declared.call.RequestAct.{RequestAct}
-use Rattle.pcache_history.specs.declared.call.RequestAct.TheVariants as Q
-use Rattle.pcache_put.specs.State.{Filled}
-use Rattle.pcache_put.specs.Puts.{Piece}
-use Rattle.pcache_history.specs.PutHistory.{filled_after, pieces_on}
-use Rattle.pcache_history.specs.declared.call.Reply.{Reply}
-use Rattle.pcache_history.specs.declared.call.Reply.TheVariants as R
-use Rattle.pcache_history.specs.declared.entry.Answer.{Answer}
-use Rattle.pcache_history.specs.declared.entry.Entry.{Entry}
-use Rattle.pcache_history.specs.declared.entry.Event.{Event}
-use Rattle.pcache_history.specs.declared.entry.Event.TheVariants as E
-use Rattle.pcache_history.specs.Facts.{Facts}
-use Rattle.pcache_lock.specs.Permits.{Permit}
 use Rattle.pcache_request.specs.LockUse.{unheld}
-use Rattle.pcache_history.specs.Ongoing.{Ongoing, ReplyKind, was_done, was_wrong, handed_by, on_request, permit_held, row_by, taken_over, taker_in, Change, opens, closes, stays, turns, turns_by, shuts, looks, takes, begins, ends, reads_on, seeks, reads_no_more, renews, waits, pushes, feeds, goes, asked, carrying, change_of, changed, decides, fed_in, ongoing_put, is_done, is_taken, is_wrong, looked_by, kind_of_reply, pair_of, request_of, row, after_look}
-use Rattle.pcache_history.specs.Legal.{IsLegal}
-use Rattle.pcache_history.specs.Rules.{FindsKind, IsIdle, MayBe, MayTake, Replies}
-use Rattle.pcache_history.specs.Taking.{Taking, new_put}
+use Rattle.pcache_history.specs.Ongoing.{ends}
+use Rattle.pcache_history.proofs.Words.{◌≡◌, ℕ, ◌==◌, Bool, true, false, cond, if◌then◌else◌, Option, None, Some, IfSome, List, [], ◌∷◌, refl, ap, sym, subst, ◌∙◌, inl, inr, eqb-true, Tracked, Limits, Decision, Deferred, is_deferral, with_decision, disabled_for, visible, Act, Filled, Piece, filled_after, pieces_on, Reply, Answer, Entry, Event, Facts, Permit, Ongoing, ReplyKind, was_done, was_wrong, handed_by, on_request, permit_held, row_by, taken_over, taker_in, Change, opens, closes, stays, turns, turns_by, shuts, looks, takes, begins, reads_on, seeks, reads_no_more, renews, waits, pushes, feeds, goes, asked, carrying, change_of, changed, decides, fed_in, ongoing_put, is_done, is_taken, is_wrong, looked_by, kind_of_reply, pair_of, request_of, row, after_look, IsLegal, FindsKind, IsIdle, MayBe, MayTake, Replies, Taking, new_put}
+use Rattle.pcache_history.specs.declared.call.Act.TheVariants as C
+use Rattle.pcache_history.specs.declared.call.RequestAct.TheVariants as Q
+use Rattle.pcache_history.specs.declared.call.Reply.TheVariants as R
+use Rattle.pcache_history.specs.declared.entry.Event.TheVariants as E
 use Rattle.pcache_history.proofs.Copied.{kind-copied, row-copied}
 use Rattle.pcache_history.proofs.Taken.{handed-keeps}
 

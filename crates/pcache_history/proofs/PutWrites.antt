@@ -1,27 +1,10 @@
 -- The bytes that, by a legal history, an open put has written are the body of its write.
-use Rattle.std.proofs.Common.{◌≡◌, ◌≢◌, ℕ, ◌<◌, ◌≤◌, ◌==◌, Bool, true, false, if◌then◌else◌, cond, Option, None, Some, IfSome, IsSome, List, [], ◌∷◌, ◌++◌, refl, ap, sym, subst, ◌∙◌, arith, reverse, inl, inr}
-use Rattle.std.proofs.lemmas.Bool.{and_parts, both_ways, eqb-true, eqb-false, ne_eqb}
-use Rattle.pcache_base.specs.Key.{Key}
-use Rattle.pcache_evict.specs.Tracked.{Tracked, Limits}
-use Rattle.pcache_put.specs.State.{Filled}
-use Rattle.pcache_meta.specs.Meta.{numbered}
-use Rattle.pcache_history.specs.declared.call.Act.{Act}
-use Rattle.pcache_history.specs.declared.call.Act.TheVariants as C
-use Rattle.pcache_history.specs.declared.call.Reply.{Reply}
-use Rattle.pcache_history.specs.declared.call.Reply.TheVariants as R
-use Rattle.pcache_history.specs.declared.entry.Entry.{Entry}
-use Rattle.pcache_history.specs.declared.entry.Event.{Event}
-use Rattle.pcache_history.specs.declared.entry.Event.TheVariants as E
-use Rattle.pcache_history.specs.Due.{Owed, makes, makes_of, owes, AreDue, IsNext}
-use Rattle.pcache_history.specs.Events.{begun, begin_of, body_of, tracked}
-use Rattle.pcache_history.specs.Facts.{Facts}
 use Rattle.pcache_history.specs.Headline.{PutsAreWritten}
-use Rattle.pcache_history.specs.Ongoing.{Ongoing, change_of, is_done, is_wrong, ongoing_put, kind_of_reply, request_of, row, row_by}
-use Rattle.pcache_history.specs.History.{events_of}
-use Rattle.pcache_history.specs.Legal.{IsLegal}
-use Rattle.pcache_history.specs.PutHistory.{filled_after, filled_by, filled_noted, filled_of}
-use Rattle.pcache_history.specs.Rules.{IsIdle, IsOther, Replies}
-use Rattle.pcache_history.specs.Taking.{new_put}
+use Rattle.pcache_history.specs.PutHistory.{filled_by, filled_noted, filled_of}
+use Rattle.pcache_history.proofs.Words.{◌≡◌, ◌≢◌, ℕ, ◌<◌, ◌≤◌, ◌==◌, Bool, true, false, if◌then◌else◌, cond, Option, None, Some, IfSome, IsSome, List, [], ◌∷◌, ◌++◌, refl, ap, sym, subst, ◌∙◌, arith, reverse, inl, inr, and_parts, both_ways, eqb-true, eqb-false, ne_eqb, Key, Tracked, Limits, Filled, numbered, Act, Reply, Entry, Event, Owed, makes, makes_of, owes, AreDue, IsNext, begun, begin_of, body_of, tracked, Facts, Ongoing, change_of, is_done, is_wrong, ongoing_put, kind_of_reply, request_of, row, row_by, events_of, IsLegal, filled_after, IsIdle, IsOther, Replies, new_put}
+use Rattle.pcache_history.specs.declared.call.Act.TheVariants as C
+use Rattle.pcache_history.specs.declared.call.Reply.TheVariants as R
+use Rattle.pcache_history.specs.declared.entry.Event.TheVariants as E
 use Rattle.pcache_history.proofs.Copied.{kind-copied, row-copied}
 use Rattle.pcache_history.proofs.WriteLaws.{legal_kept}
 use Rattle.pcache_history.proofs.PutShape.{HasPut, no-push, plain-kept, wrong-filled, wrong-row}

@@ -1,48 +1,22 @@
 -- What a reader has given, over every legal history: a beginning of its write's body, or its range once.
-use Rattle.std.proofs.Common.{◌≡◌, ℕ, ◌+◌, ◌≤◌, ◌==◌, Bool, true, false, not, ◌&&◌, nat_lt, cond, if◌then◌else◌, Option, None, Some, IsSome, IfSome, List, [], ◌∷◌, ◌++◌, refl, ap, sym, subst, ◌∙◌, length, length-append, length-drop, take, drop, take-append-drop, take_all, append-nil, reverse, slice_range, arith, inl, inr, ◌⊎◌}
+use Rattle.std.proofs.Common.{length-drop, take-append-drop, append-nil, slice_range}
 use Rattle.std.specs.Option.{option_map}
-use Rattle.std.proofs.lemmas.Bool.{eqb-true}
 use Rattle.std.proofs.lemmas.List.{take-append-le}
-use Rattle.pcache_base.specs.Key.{slot}
-use Rattle.pcache_meta.specs.Meta.{Meta}
-use Rattle.pcache_base.specs.declared.poll.Poll.{Poll}
-use Rattle.pcache_base.specs.declared.poll.Poll.TheVariants.{Ready, Pending}
-use Rattle.pcache_evict.specs.Tracked.{Tracked, Limits}
-use Rattle.pcache_lock.specs.declared.lock.permit.Locked.{Locked}
-use Rattle.pcache_lock.specs.declared.lock.permit.Locked.TheVariants.{Write, Read}
-use Rattle.pcache_store.specs.Store.{Written, Reader, Whole, Part, read_part, end_or, is_forward}
-use Rattle.pcache_base.specs.declared.reason.NoCacheReason.TheVariants as reason
-use Rattle.pcache_base.specs.declared.reason.NoCacheReason.TheVariants.{Deferred}
-use Rattle.pcache_predict.specs.declared.admission.Decision.{Decision}
-use Rattle.pcache_request.specs.Admissions.{is_deferral, with_decision}
-use Rattle.pcache_request.specs.Phases.{is_treated_as_miss}
-use Rattle.pcache_request.specs.Releasing.{disabled_for, disabled_in}
-use Rattle.pcache_request.specs.Renewals.{renewed}
-use Rattle.pcache_request.specs.Variants.{is_hidden, visible}
-use Rattle.pcache_request.specs.declared.phase.CachePhase.{CachePhase}
-use Rattle.pcache_request.specs.declared.phase.CachePhase.TheVariants as phase
-use Rattle.pcache_request.specs.Requests.{Request, without_reader}
-use Rattle.pcache_request.specs.declared.phase.HitStatus.{HitStatus}
-use Rattle.pcache_history.specs.declared.call.Act.{Act}
-use Rattle.pcache_history.specs.declared.call.Act.TheVariants as C
-use Rattle.pcache_history.specs.declared.call.RequestAct.TheVariants as Q
-use Rattle.pcache_history.specs.declared.call.Reply.{Reply}
-use Rattle.pcache_history.specs.declared.call.Reply.TheVariants as R
-use Rattle.pcache_history.specs.declared.entry.Answer.{Answer}
-use Rattle.pcache_history.specs.declared.entry.Answer.TheVariants as A
-use Rattle.pcache_history.specs.declared.entry.Entry.{Entry}
-use Rattle.pcache_history.specs.declared.entry.Event.{Event}
-use Rattle.pcache_history.specs.declared.entry.Event.TheVariants as E
-use Rattle.pcache_history.specs.Events.{begin_of, in_flight, body_of, is_told}
-use Rattle.pcache_history.specs.Ongoing.{Ongoing, Change, fed_in, ongoing_put, opens, closes, stays, turns, turns_by, shuts, looks, takes, begins, ends, reads_on, seeks, reads_no_more, renews, waits, pushes, feeds, goes, change_of, changed, turned_by, shut_by, sought_in, with_sought, ReplyKind, kind_of_reply, was_wrong, was_done, was_taken, was_waited, was_refused, was_declined, was_other, waited_by, is_wrong, is_done, is_taken, opened, with_given, asked, pair_of, carrying, decides, looked_by, placed_by, taken_by, without_pair, began, ended, read_past, has_read, on_request, row_by, row, request_of, after_look}
-use Rattle.pcache_history.specs.Taking.{Taking, new_put}
-use Rattle.pcache_history.specs.History.{events_of, reads}
-use Rattle.pcache_history.specs.Facts.{Facts, request_in}
-use Rattle.pcache_history.specs.Legal.{IsLegal}
-use Rattle.pcache_history.specs.Rules.{IsIdle, release_of, Begins, Reads, FollowsRule, Replies}
-use Rattle.pcache_history.specs.ReadSoFar.{given_in, read_on, read_by, HasRead}
+use Rattle.pcache_lock.specs.declared.lock.permit.Locked.TheVariants.{Read}
+use Rattle.pcache_store.specs.Store.{Written, Reader}
+use Rattle.pcache_history.specs.Ongoing.{ends, was_taken, was_waited, was_refused, was_declined, was_other, waited_by, with_given}
+use Rattle.pcache_history.specs.Rules.{Begins, Reads}
+use Rattle.pcache_history.specs.ReadSoFar.{given_in, read_on, HasRead}
 use Rattle.pcache_history.specs.Headline.{ReadsABeginning}
 use Rattle.pcache_history.specs.Watching.{waited_on}
+use Rattle.pcache_history.proofs.Words.{◌≡◌, ℕ, ◌+◌, ◌≤◌, ◌==◌, Bool, true, false, not, ◌&&◌, nat_lt, cond, if◌then◌else◌, Option, None, Some, IsSome, IfSome, List, [], ◌∷◌, ◌++◌, refl, ap, sym, subst, ◌∙◌, length, length-append, take, drop, take_all, reverse, arith, inl, inr, ◌⊎◌, eqb-true, slot, Meta, Poll, Ready, Pending, Tracked, Limits, Locked, Write, Whole, Part, read_part, end_or, is_forward, Deferred, Decision, is_deferral, with_decision, is_treated_as_miss, disabled_for, disabled_in, renewed, is_hidden, visible, CachePhase, Request, without_reader, HitStatus, Act, Reply, Answer, Entry, Event, begin_of, in_flight, body_of, is_told, Ongoing, Change, fed_in, ongoing_put, opens, closes, stays, turns, turns_by, shuts, looks, takes, begins, reads_on, seeks, reads_no_more, renews, waits, pushes, feeds, goes, change_of, changed, turned_by, shut_by, sought_in, with_sought, ReplyKind, kind_of_reply, was_wrong, was_done, is_wrong, is_done, is_taken, opened, asked, pair_of, carrying, decides, looked_by, placed_by, taken_by, without_pair, began, ended, read_past, has_read, on_request, row_by, row, request_of, after_look, Taking, new_put, events_of, reads, Facts, request_in, IsLegal, IsIdle, release_of, FollowsRule, Replies, read_by}
+use Rattle.pcache_base.specs.declared.reason.NoCacheReason.TheVariants as reason
+use Rattle.pcache_request.specs.declared.phase.CachePhase.TheVariants as phase
+use Rattle.pcache_history.specs.declared.call.Act.TheVariants as C
+use Rattle.pcache_history.specs.declared.call.RequestAct.TheVariants as Q
+use Rattle.pcache_history.specs.declared.call.Reply.TheVariants as R
+use Rattle.pcache_history.specs.declared.entry.Answer.TheVariants as A
+use Rattle.pcache_history.specs.declared.entry.Event.TheVariants as E
 use Rattle.pcache_history.proofs.Taken.{taken_keeps}
 use Rattle.pcache_history.proofs.Copied.{kind-copied}
 

@@ -1,42 +1,22 @@
 -- In a legal history the finish of a body that is stored comes first in its entry, and the rest of the entry settles the body.
-use Rattle.std.proofs.Common.{◌≡◌, ℕ, Bool, true, false, if◌then◌else◌, ◌||◌, Option, None, Some, IfSome, List, [], ◌∷◌, ◌++◌, length, refl, ap, sym, subst, ◌∙◌, inl, inr}
-use Rattle.std.specs.List.{list_any}
 use Rattle.std.specs.Option.{option_map}
 use Rattle.std.proofs.lemmas.List.Folds.{list_any-append}
-use Rattle.pcache_base.specs.Key.{Key, slot}
-use Rattle.pcache_base.specs.declared.error.ErrorType.TheVariants.{OutOfMemory}
-use Rattle.pcache_evict.specs.Tracked.{Evicted, Tracked, Limits}
-use Rattle.pcache_lock.specs.Permits.{Permit}
-use Rattle.pcache_lock.specs.declared.lock.permit.Locked.{Locked}
-use Rattle.pcache_meta.specs.Meta.{Meta}
+use Rattle.pcache_evict.specs.Tracked.{Evicted}
 use Rattle.pcache_put.specs.State.{Stage, InHead, InBody, HasDeclined, IsOver, write_in}
 use Rattle.pcache_put.specs.Steps.{stage_begun}
 use Rattle.pcache_put.specs.declared.report.Written.{Written}
-use Rattle.pcache_request.specs.Admissions.{is_deferral}
-use Rattle.pcache_request.specs.Requests.{Request, entry_of, counts_found}
-use Rattle.pcache_request.specs.Variants.{is_unseen, leaves_variant}
-use Rattle.pcache_request.specs.declared.phase.HitStatus.{HitStatus}
+use Rattle.pcache_request.specs.Requests.{counts_found}
+use Rattle.pcache_request.specs.Variants.{leaves_variant}
 use Rattle.pcache_store.specs.Store.{Reader}
-use Rattle.pcache_history.specs.declared.call.Act.{Act}
-use Rattle.pcache_history.specs.declared.call.Act.TheVariants as C
-use Rattle.pcache_history.specs.declared.call.LockKind.{LockKind}
-use Rattle.pcache_history.specs.declared.call.RequestAct.TheVariants as Q
-use Rattle.pcache_history.specs.declared.call.Reply.{Reply}
-use Rattle.pcache_history.specs.declared.call.Reply.TheVariants as R
-use Rattle.pcache_history.specs.declared.entry.Answer.{Answer}
-use Rattle.pcache_history.specs.declared.entry.Entry.{Entry}
-use Rattle.pcache_history.specs.declared.entry.Event.{Event}
-use Rattle.pcache_history.specs.declared.entry.Event.TheVariants as E
-use Rattle.pcache_history.specs.Due.{makes_of, slot_of}
-use Rattle.pcache_history.specs.Events.{begin_of, body_of, evicted_by, track}
-use Rattle.pcache_history.specs.Facts.{Facts, request_in}
-use Rattle.pcache_history.specs.Ongoing.{Ongoing, carrying, decides, ongoing_put, pair_of, request_of}
-use Rattle.pcache_history.specs.History.{events_of}
-use Rattle.pcache_history.specs.Legal.{IsLegal}
-use Rattle.pcache_history.specs.Log.{Log, HasLegal}
-use Rattle.pcache_history.specs.Rules.{FollowsRule, AsksIf, Closes, ClosesAt, Does, EndsFilling, Feeds, FeedsAt, Finishes, HandsOn, IsCopy, IsDone, IsIdle, LooksOn, Misses, Replies, Takes, TakesPiece, accesses, began_noted, drop_of, each, given_up, let_go_of, permit_of, piece_noted, release_of, renew_of, wrote_noted, number_read}
+use Rattle.pcache_history.specs.Events.{evicted_by, track}
+use Rattle.pcache_history.specs.Rules.{AsksIf, Closes, ClosesAt, Does, EndsFilling, Feeds, FeedsAt, Finishes, IsDone, Takes, TakesPiece, accesses, began_noted, each, given_up, let_go_of, permit_of, piece_noted, renew_of, wrote_noted, number_read}
 use Rattle.pcache_history.specs.Settling.{Settles, SettlesAtOnce, SettlesWrite, SettlesAlways}
-use Rattle.pcache_history.specs.Taking.{Taking, filling}
+use Rattle.pcache_history.specs.Taking.{filling}
+use Rattle.pcache_history.proofs.Words.{◌≡◌, ℕ, Bool, true, false, if◌then◌else◌, ◌||◌, Option, None, Some, IfSome, List, [], ◌∷◌, ◌++◌, length, refl, ap, sym, subst, ◌∙◌, inl, inr, list_any, Key, slot, OutOfMemory, Tracked, Limits, Permit, Locked, Meta, is_deferral, Request, entry_of, is_unseen, HitStatus, Act, LockKind, Reply, Answer, Entry, Event, makes_of, slot_of, begin_of, body_of, Facts, request_in, Ongoing, carrying, decides, ongoing_put, pair_of, request_of, events_of, IsLegal, Log, HasLegal, FollowsRule, HandsOn, IsCopy, IsIdle, LooksOn, Misses, Replies, drop_of, release_of, Taking}
+use Rattle.pcache_history.specs.declared.call.Act.TheVariants as C
+use Rattle.pcache_history.specs.declared.call.RequestAct.TheVariants as Q
+use Rattle.pcache_history.specs.declared.call.Reply.TheVariants as R
+use Rattle.pcache_history.specs.declared.entry.Event.TheVariants as E
 use Rattle.pcache_history.proofs.Exact.{entry_names}
 use Rattle.pcache_history.proofs.AnswersLaw.{legal-part}
 use Rattle.pcache_history.proofs.PutShape.{IsShaped, legal_shaped}

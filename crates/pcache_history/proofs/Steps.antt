@@ -1,16 +1,9 @@
 -- What stands for a key after one more event.
-use Rattle.std.proofs.Common.{◌≡◌, ℕ, ◌<◌, Bool, true, false, not, ◌&&◌, ◌||◌, ◌==◌, nat_eq, if◌then◌else◌, Option, None, Some, is_some, List, [], ◌∷◌, ◌++◌, refl, ap, sym, subst, ◌∙◌, arith, inl, inr}
-use Rattle.std.specs.Option.{option_map, option_and_then, option_eq}
-use Rattle.std.specs.List.{list_any}
-use Rattle.std.proofs.lemmas.Bool.{eqb-true, ne_eqb, and_parts, both_ways, cases_lt, not-true, not-false, or_left, or_right, or_parts}
-use Rattle.std.proofs.lemmas.Bool.Decides.{nat_tests}
-use Rattle.pcache_meta.specs.Meta.{Meta, expired_at, in_place_of, numbered}
-use Rattle.pcache_evict.specs.declared.eviction.entry_key.CacheEntryKey.{CacheEntryKey}
-use Rattle.pcache_store.specs.Store.{Stored}
-use Rattle.pcache_history.specs.declared.entry.Event.{Event}
-use Rattle.pcache_history.specs.declared.entry.Event.TheVariants.{Begin, Wrote, Finish, Admit, Purge, Expire, Renew}
-use Rattle.pcache_history.specs.Events.{begun, begin_of, since, until, ends, stores, removes, goes_with_any, option_any, is_replaced, was_stored, is_removed, has_ended, in_flight, body_of, is_of, last_finished, altered_by, meta_kept, complete}
-use Rattle.pcache_history.specs.Kept.{IsTidy}
+use Rattle.std.proofs.Common.{nat_eq}
+use Rattle.std.specs.Option.{option_map, option_eq}
+use Rattle.std.proofs.lemmas.Bool.{cases_lt, not-false}
+use Rattle.pcache_history.specs.Events.{since, ends, removes, is_replaced}
+use Rattle.pcache_history.proofs.Words.{◌≡◌, ℕ, ◌<◌, Bool, true, false, not, ◌&&◌, ◌||◌, ◌==◌, if◌then◌else◌, Option, None, Some, is_some, List, [], ◌∷◌, ◌++◌, refl, ap, sym, subst, ◌∙◌, arith, inl, inr, option_and_then, list_any, eqb-true, ne_eqb, and_parts, both_ways, not-true, or_left, or_right, or_parts, nat_tests, Meta, expired_at, in_place_of, numbered, CacheEntryKey, Stored, Event, Begin, Wrote, Finish, Admit, Purge, Expire, Renew, begun, begin_of, until, stores, goes_with_any, option_any, was_stored, is_removed, has_ended, in_flight, body_of, is_of, last_finished, altered_by, meta_kept, complete, IsTidy}
 use Rattle.pcache_history.proofs.Sums.{same-number}
 
 -- a write in flight was begun, and has not ended

@@ -1,11 +1,9 @@
 -- Tests of numbers, and sums over keys that add nothing.
-use Rattle.std.proofs.Common.{◌≡◌, ℕ, zero, suc, ◌+◌, ◌-◌, ◌==◌, true, false, cond, None, Some, is_some, List, [], ◌∷◌, length, refl, ap, sym, subst, ◌∙◌, arith}
-use Rattle.std.specs.Ordering.{nat_cmp, eq_by_cmp, is_eq}
-use Rattle.std.specs.Cmp.{nat_cmp_total, tied_itself}
+use Rattle.std.proofs.Common.{zero, suc, ◌-◌}
+use Rattle.std.specs.Cmp.{nat_cmp_total}
 use Rattle.std.specs.FinMap.{FinMap, get, remove, entries, len, find, get-remove, get-entries, len-remove, len-entries, empty_of_len, nat_cmp-IsAntisymmetric}
-use Rattle.std.proofs.lemmas.Bool.Decides.{nat_tests}
-use Rattle.pcache_base.specs.Totals.{total, share}
 use Rattle.pcache_base.proofs.Totals.{total-remove, total-empty}
+use Rattle.pcache_history.proofs.Words.{◌≡◌, ℕ, ◌+◌, ◌==◌, true, false, cond, None, Some, is_some, List, [], ◌∷◌, length, refl, ap, sym, subst, ◌∙◌, arith, nat_cmp, eq_by_cmp, is_eq, tied_itself, nat_tests, total, share}
 
 -- the two tests of numbers agree
 pub cmp_same : (q w : ℕ) → eq_by_cmp nat_cmp q w ≡ (w == q)

@@ -1,13 +1,7 @@
 -- A permit that is handed to a request changes only the lock that the request holds.
-use Rattle.std.proofs.Common.{◌≡◌, ℕ, ◌==◌, true, false, cond, Option, None, Some, List, refl}
-use Rattle.pcache_lock.specs.Permits.{Permit}
-use Rattle.pcache_lock.specs.declared.lock.permit.Locked.{Locked}
-use Rattle.pcache_lock.specs.declared.lock.permit.Locked.TheVariants.{Write}
-use Rattle.pcache_history.specs.declared.call.Act.{Act}
+use Rattle.pcache_history.specs.Ongoing.{IsOfOne}
+use Rattle.pcache_history.proofs.Words.{◌≡◌, ℕ, ◌==◌, true, false, cond, Option, None, Some, List, refl, Permit, Locked, Write, Act, Entry, IsOfWorldIn, Ongoing, ReplyKind, was_done, handed_by, permit_held, taken_over, taker_in}
 use Rattle.pcache_history.specs.declared.call.Act.TheVariants as C
-use Rattle.pcache_history.specs.declared.entry.Entry.{Entry}
-use Rattle.pcache_history.specs.Due.{IsOfWorldIn}
-use Rattle.pcache_history.specs.Ongoing.{Ongoing, ReplyKind, was_done, handed_by, permit_held, taken_over, taker_in, IsOfOne}
 
 -- a request that holds this
 abbrev pub holding_in : Option Locked → Ongoing → Ongoing

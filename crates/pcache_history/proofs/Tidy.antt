@@ -1,13 +1,6 @@
 -- A history stays tidy.
-use Rattle.std.proofs.Common.{◌≡◌, ℕ, ◌<◌, ◌≤◌, Bool, true, false, ◌||◌, ◌==◌, if◌then◌else◌, Some, List, [], ◌∷◌, ◌++◌, refl, ap, subst, ◌∙◌, arith}
-use Rattle.std.proofs.lemmas.Bool.{eq-eqb, ne_eqb, or_left, or_right}
-use Rattle.pcache_meta.specs.Meta.{Meta, numbered}
-use Rattle.pcache_evict.specs.declared.eviction.entry_key.CacheEntryKey.{CacheEntryKey}
-use Rattle.pcache_history.specs.declared.entry.Answer.{Answer}
-use Rattle.pcache_history.specs.declared.entry.Event.{Event}
-use Rattle.pcache_history.specs.declared.entry.Event.TheVariants.{Look, Ask, Access, Begin, Wrote, Finish, Dropped, Release, LetGo, Aged, Admit, Purge, Expire, Renew, Untrack, Read}
-use Rattle.pcache_history.specs.Events.{begun, begin_of, option_any, is_removed, has_ended, in_flight, body_of, is_told, is_of, was_stored, last_finished}
-use Rattle.pcache_history.specs.Kept.{IsTidy}
+use Rattle.pcache_history.specs.declared.entry.Event.TheVariants.{Read}
+use Rattle.pcache_history.proofs.Words.{◌≡◌, ℕ, ◌<◌, ◌≤◌, Bool, true, false, ◌||◌, ◌==◌, if◌then◌else◌, Some, List, [], ◌∷◌, ◌++◌, refl, ap, subst, ◌∙◌, arith, eq-eqb, ne_eqb, or_left, or_right, Meta, numbered, CacheEntryKey, Answer, Event, Look, Ask, Access, Begin, Wrote, Finish, Dropped, Release, LetGo, Aged, Admit, Purge, Expire, Renew, Untrack, begun, begin_of, option_any, is_removed, has_ended, in_flight, body_of, is_told, is_of, was_stored, last_finished, IsTidy}
 use Rattle.pcache_history.proofs.Steps.{flies, below, begun_of}
 
 pub tidy-none : IsTidy []

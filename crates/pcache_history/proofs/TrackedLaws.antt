@@ -1,17 +1,10 @@
 -- In a legal history evictions are fair, and what stands is tracked exactly.
-use Rattle.std.proofs.Common.{ℕ, ◌+◌, Option, None, Some, List, [], ◌∷◌, ◌++◌, sym, subst, ◌∙◌, reverse}
-use Rattle.std.specs.FinMap as map
-use Rattle.std.proofs.lemmas.Bool.{eqb-true}
-use Rattle.pcache_evict.specs.declared.eviction.entry_key.CacheEntryKey.{CacheEntryKey}
-use Rattle.pcache_evict.specs.Tracked.{Tracked, Limits, IsFair}
+use Rattle.pcache_evict.specs.Tracked.{IsFair}
 use Rattle.pcache_evict.proofs.Fair.{none-within}
-use Rattle.pcache_history.specs.declared.entry.Event.{Event}
-use Rattle.pcache_history.specs.declared.entry.Event.TheVariants as E
-use Rattle.pcache_history.specs.Due.{Owed, makes_of, makes, owes, IsNext, AreDue}
-use Rattle.pcache_history.specs.Events.{tracked}
 use Rattle.pcache_history.specs.Headline.{EvictsFairly, TracksExactly}
-use Rattle.pcache_history.specs.Ongoing.{Ongoing, row, request_of}
-use Rattle.pcache_history.specs.History.{events_of}
+use Rattle.pcache_history.proofs.Words.{ℕ, ◌+◌, Option, None, Some, List, [], ◌∷◌, ◌++◌, sym, subst, ◌∙◌, reverse, eqb-true, CacheEntryKey, Tracked, Limits, Event, Owed, makes_of, makes, owes, IsNext, AreDue, tracked, Ongoing, row, request_of, events_of}
+use Rattle.std.specs.FinMap as map
+use Rattle.pcache_history.specs.declared.entry.Event.TheVariants as E
 use Rattle.pcache_history.proofs.Exact.{names_only, standing-names}
 use Rattle.pcache_history.proofs.WriteLaws.{legal_kept}
 use Rattle.pcache_history.proofs.Runs.{turned}

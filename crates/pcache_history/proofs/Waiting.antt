@@ -1,14 +1,8 @@
 -- Which permits wait in a legal history.
-use Rattle.std.proofs.Common.{◌≡◌, ℕ, ◌==◌, Bool, true, false, if◌then◌else◌, Option, None, Some, List, [], ◌∷◌, ◌++◌, refl, ap, sym, subst, ◌∙◌, reverse, ◌↔◌}
-use Rattle.std.proofs.lemmas.Bool.{eqb-true}
-use Rattle.pcache_evict.specs.Tracked.{Tracked, Limits}
-use Rattle.pcache_history.specs.declared.entry.Entry.{Entry}
-use Rattle.pcache_history.specs.declared.entry.Event.{Event}
-use Rattle.pcache_history.specs.declared.entry.Event.TheVariants as E
 use Rattle.pcache_history.specs.Headline.{GivesThePermitExactly, OnePermitWaits}
-use Rattle.pcache_history.specs.History.{events_of}
-use Rattle.pcache_history.specs.Legal.{IsLegal}
 use Rattle.pcache_history.specs.Waiting.{Waiting, then_waiting, waiting_after, waiting_in, NoneWaits, Gets, IsGiven, AreGiven}
+use Rattle.pcache_history.proofs.Words.{◌≡◌, ℕ, ◌==◌, Bool, true, false, if◌then◌else◌, Option, None, Some, List, [], ◌∷◌, ◌++◌, refl, ap, sym, subst, ◌∙◌, reverse, ◌↔◌, eqb-true, Tracked, Limits, Entry, Event, events_of, IsLegal}
+use Rattle.pcache_history.specs.declared.entry.Event.TheVariants as E
 use Rattle.pcache_history.proofs.Runs.{turned}
 
 pub after-in : (events es : List Event) → waiting_after events (waiting_in es) ≡ waiting_in (reverse events ++ es)

@@ -1,25 +1,15 @@
 -- In a legal history the reply to a wait is decided by what the deeds before it say of its lock.
-use Rattle.std.proofs.Common.{◌≡◌, ℕ, ◌⊎◌, false, Option, None, Some, IsSome, IfSome, is_some, List, refl, ap, sym, subst, ◌∙◌, inl, inr}
-use Rattle.pcache_base.specs.declared.error.ErrorType.TheVariants.{OutOfMemory}
-use Rattle.pcache_base.specs.declared.poll.Poll.{Poll}
-use Rattle.pcache_base.specs.declared.poll.Poll.TheVariants.{Ready, Pending}
 use Rattle.pcache_lock.specs.Permits.{Reader, Watch}
 use Rattle.pcache_lock.specs.declared.lock.outcome.LockWaitOutcome.{LockWaitOutcome}
 use Rattle.pcache_lock.specs.declared.lock.permit.Locked.TheVariants.{Read}
 use Rattle.pcache_request.specs.LockUse.{read_in}
 use Rattle.pcache_request.specs.LockWaits.{unusable_in}
-use Rattle.pcache_history.specs.declared.call.Act.TheVariants as C
-use Rattle.pcache_history.specs.declared.call.Reply.{Reply}
-use Rattle.pcache_history.specs.declared.call.Reply.TheVariants as R
-use Rattle.pcache_history.specs.declared.entry.Event.{Event}
-use Rattle.pcache_history.specs.Deeds.{Deed, deeds_of}
-use Rattle.pcache_history.specs.Facts.{Facts}
 use Rattle.pcache_history.specs.Headline.{WaitsAreTrue}
-use Rattle.pcache_history.specs.Ongoing.{Ongoing, ongoing_put}
-use Rattle.pcache_history.specs.History.{events_of}
-use Rattle.pcache_history.specs.Legal.{Gives}
-use Rattle.pcache_history.specs.Rules.{FollowsRule, IsCopy, Replies, wait_reply, was_polled}
+use Rattle.pcache_history.specs.Rules.{wait_reply, was_polled}
 use Rattle.pcache_history.specs.Waits.{wait_of}
+use Rattle.pcache_history.proofs.Words.{◌≡◌, ℕ, ◌⊎◌, false, Option, None, Some, IsSome, IfSome, is_some, List, refl, ap, sym, subst, ◌∙◌, inl, inr, OutOfMemory, Poll, Ready, Pending, Reply, Event, Deed, deeds_of, Facts, Ongoing, ongoing_put, events_of, Gives, FollowsRule, IsCopy, Replies}
+use Rattle.pcache_history.specs.declared.call.Act.TheVariants as C
+use Rattle.pcache_history.specs.declared.call.Reply.TheVariants as R
 use Rattle.pcache_history.proofs.PutShape.{IsShaped, legal_shaped}
 
 -- a reply to a wait has no bytes, so its copy is equal

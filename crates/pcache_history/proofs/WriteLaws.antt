@@ -1,22 +1,10 @@
 -- What holds of every legal history.
-use Rattle.std.proofs.Common.{◌≡◌, ◌≢◌, ℕ, Bool, true, false, not, ◌==◌, if◌then◌else◌, Option, None, Some, is_some, List, [], ◌∷◌, ◌++◌, refl, ap, sym, subst, ◌∙◌, ◌↔◌, reverse, inl, inr}
-use Rattle.std.specs.Option.{option_map, option_and_then}
-use Rattle.std.proofs.lemmas.Bool.{eqb-true, eqb-false, eq-eqb, ne_eqb, and_parts, and_from, both_ways, not-true}
-use Rattle.pcache_base.specs.Key.{slot}
-use Rattle.pcache_meta.specs.Meta.{Meta}
-use Rattle.pcache_evict.specs.Tracked.{Tracked, Limits}
-use Rattle.pcache_store.specs.Store.{Stored}
+use Rattle.std.specs.Option.{option_map}
+use Rattle.pcache_history.specs.Due.{KeepsKey}
+use Rattle.pcache_history.specs.Headline.{FindsExactly, FinishesExactly, ReadsTheLast, IsWithinLimits}
+use Rattle.pcache_history.proofs.Words.{◌≡◌, ◌≢◌, ℕ, Bool, true, false, not, ◌==◌, if◌then◌else◌, Option, None, Some, is_some, List, [], ◌∷◌, ◌++◌, refl, ap, sym, subst, ◌∙◌, ◌↔◌, reverse, inl, inr, option_and_then, eqb-true, eqb-false, eq-eqb, ne_eqb, and_parts, and_from, both_ways, not-true, slot, Meta, Tracked, Limits, Stored, Entry, Event, begin_of, is_removed, body_of, last_finished, meta_kept, complete, is_open, Ongoing, row, request_of, kind_of_reply, events_of, makes_of, slot_of, AreDue, IsOfWorldIn, IsLegal, IsTidy, IsExact, IsBounded, HasUntouched}
 use Rattle.pcache_history.specs.declared.entry.Answer.TheVariants as A
-use Rattle.pcache_history.specs.declared.entry.Entry.{Entry}
-use Rattle.pcache_history.specs.declared.entry.Event.{Event}
 use Rattle.pcache_history.specs.declared.entry.Event.TheVariants as E
-use Rattle.pcache_history.specs.Events.{begin_of, is_removed, body_of, last_finished, meta_kept, complete, is_open}
-use Rattle.pcache_history.specs.Ongoing.{Ongoing, row, request_of, kind_of_reply}
-use Rattle.pcache_history.specs.History.{events_of}
-use Rattle.pcache_history.specs.Due.{makes_of, slot_of, AreDue, KeepsKey, IsOfWorldIn}
-use Rattle.pcache_history.specs.Legal.{IsLegal}
-use Rattle.pcache_history.specs.Kept.{IsTidy, IsExact, IsBounded}
-use Rattle.pcache_history.specs.Headline.{HasUntouched, FindsExactly, FinishesExactly, ReadsTheLast, IsWithinLimits}
 use Rattle.pcache_history.proofs.Steps.{unless_removed, body_with, survives}
 use Rattle.pcache_history.proofs.Tidy.{tidy-none}
 use Rattle.pcache_history.proofs.Exact.{exact-none}

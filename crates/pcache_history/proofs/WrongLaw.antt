@@ -1,21 +1,11 @@
 -- In a legal history a call has the reply WrongCall exactly when its condition fails.
-use Rattle.std.proofs.Common.{◌≡◌, ℕ, ◌↔◌, false, Option, None, Some, IsSome, List, refl, sym, subst, ◌∙◌, inl, inr}
-use Rattle.pcache_request.specs.Requests.{Request}
-use Rattle.pcache_history.specs.declared.call.Act.{Act}
+use Rattle.pcache_history.specs.Facts.{Says}
+use Rattle.pcache_history.specs.Headline.{IsWrongExactly}
+use Rattle.pcache_history.proofs.Words.{◌≡◌, ℕ, ◌↔◌, false, Option, None, Some, IsSome, List, refl, sym, subst, ◌∙◌, inl, inr, Request, Act, Reply, Entry, Event, Deed, deeds_of, Facts, request_in, IsEarly, Ongoing, request_of, events_of, FindsKind, MayBe, MayTake, FollowsRule, IsOther, IsCopy, Replies}
 use Rattle.pcache_history.specs.declared.call.Act.TheVariants as C
 use Rattle.pcache_history.specs.declared.call.FilesAct.TheVariants as F
 use Rattle.pcache_history.specs.declared.call.RequestAct.TheVariants as Q
-use Rattle.pcache_history.specs.declared.call.Reply.{Reply}
 use Rattle.pcache_history.specs.declared.call.Reply.TheVariants as R
-use Rattle.pcache_history.specs.declared.entry.Entry.{Entry}
-use Rattle.pcache_history.specs.declared.entry.Event.{Event}
-use Rattle.pcache_history.specs.Deeds.{Deed, deeds_of}
-use Rattle.pcache_history.specs.Facts.{Facts, Says, request_in}
-use Rattle.pcache_history.specs.Files.{IsEarly}
-use Rattle.pcache_history.specs.Headline.{IsWrongExactly}
-use Rattle.pcache_history.specs.Ongoing.{Ongoing, request_of}
-use Rattle.pcache_history.specs.History.{events_of}
-use Rattle.pcache_history.specs.Rules.{FindsKind, MayBe, MayTake, FollowsRule, IsOther, IsCopy, Replies}
 use Rattle.pcache_history.proofs.Copied.{other-copied, wrong-copied}
 
 -- facts that one history gives make the same conditions

@@ -4,6 +4,7 @@ use Rattle.std.specs.Prelude.{◌⊎◌}
 use Rattle.std.specs.FinMap as fin
 use Rattle.std.proofs.lemmas.List.Sums.{sum_by-cons}
 use Rattle.pcache_evict.specs.declared.eviction.entry_key.CacheEntryKey.{CacheEntryKey}
+use Rattle.pcache_evict.specs.declared.eviction.policy.EvictionPolicy.{EvictionPolicy}
 use Rattle.pcache_evict.specs.Tracked.{Limits}
 use Rattle.pcache_evict.specs.Recency.{Recency}
 use Rattle.pcache_evict.specs.Listed.{map_of}
@@ -40,8 +41,8 @@ ended limits size count q t out (rests q2 h) = h
 ended limits size count q t out (spares q2 newer t2 k v out2 over is used more) = ended limits size count _ t out2 more
 ended limits size count q t out (goes q2 newer t2 k v out2 over is idle more) = ended limits size count _ t out2 more
 
-pub queue_laws : (f : Seen → Seen) → ((v : Seen) → (f v).weight ≡ v.weight) → Lawful (queue_way f)
-queue_laws f weighs = record {
+pub queue_laws : (policy : EvictionPolicy) (f : Seen → Seen) → ((v : Seen) → (f v).weight ≡ v.weight) → Lawful (queue_way policy f)
+queue_laws policy f weighs = record {
   runs = runs;
   ended = ended;
   rests = λ limits size count q h. rests q (inl h);

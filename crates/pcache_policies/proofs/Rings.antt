@@ -387,6 +387,13 @@ far-ends limits size count old now new far (step.turns there a p is) = cc
 far-ends limits size count old now new far (step.clears k v there a used g p) = cc
 far-ends limits size count old now new far (step.chooses k v there a idle g p) = cc
 
+-- a step that was the last changes nothing
+pub step-last : (now new : Ring) → Steps now false new → new ≡ now
+step-last now new (step.ends over a p is) = is
+step-last now new (step.turns there a p is) = cc
+step-last now new (step.clears k v there a used g p) = cc
+step-last now new (step.chooses k v there a idle g p) = cc
+
 pub unfound : (o f : Option Seen) → o ≡ f → ((v : Seen) → o ≡ Some v → ⊥) → None ≡ f
 unfound None f e h = e
 unfound (Some v) f e h = absurd (h v refl)

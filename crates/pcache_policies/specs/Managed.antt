@@ -3,6 +3,7 @@
 use Rattle.std.specs.Prelude.{◌≡◌, ℕ, ◌+◌, ◌-◌, ◌^◌, ◌⊎◌, Bool, Option, None, Some, List, [], ◌∷◌, ◌++◌, length, min}
 use Rattle.std.specs.FinMap as fin
 use Rattle.pcache_evict.specs.declared.eviction.entry_key.CacheEntryKey.{CacheEntryKey}
+use Rattle.pcache_evict.specs.declared.eviction.policy.EvictionPolicy.{EvictionPolicy}
 use Rattle.pcache_evict.specs.Tracked.{Limits, Evicted, limits_of, raised}
 use Rattle.pcache_evict.specs.Recency.{Recency, weight}
 use Rattle.pcache_evict.specs.Listed.{map_of}
@@ -11,12 +12,13 @@ use Rattle.pcache_policies.specs.declared.queue.Seen.{Seen}
 use Rattle.pcache_policies.specs.Queue.{Queue, IsOnce, plain, rest_of, reseen, seen_of}
 use Rattle.pcache_policies.specs.Leaving.{HasRoom, Coming, Run}
 
--- the way of a queue: all entries of an order, the order without any, and how a manager shows it
+-- the way of a queue: the name of its policy, all entries of an order, the order without any, and how a manager shows it
 -- how room is made for so many entries of this weight together, and which entries go
 -- whether the order remembers a key, and where a new entry comes in, its key remembered or not
 -- what a use makes of an entry of which this is known, and a use that gives it this weight
 -- the order with this record of an entry, and the order without an entry
 pub record Way (Order : Type 0) : Type 1 where
+  pub policy : EvictionPolicy
   pub whole : Order → Queue
   pub none : Order
   pub shown : Order → Shown
@@ -74,9 +76,9 @@ pub record Managed (O : Type 0) : Type 0 where
   pub limits : Limits
   pub evicted : Evicted
 
--- a new manager with these limits
+-- a new manager with these limits, which goes by the policy of the way
 abbrev pub empty_manager : {O : Type 0} → Way O → ℕ → Option ℕ → Managed O
-empty_manager w limit watermark = record { order = w.none; limits = limits_of limit watermark; evicted = record { weight = 0; count = 0 } }
+empty_manager w limit watermark = record { order = w.none; limits = limits_of w.policy limit watermark; evicted = record { weight = 0; count = 0 } }
 
 -- the totals after entries of this weight went
 abbrev pub IsCounted : {O : Type 0} → Way O → Managed O → ℕ → Managed O → List CacheEntryKey → Type 0

@@ -2,6 +2,8 @@
 -- chance (Corbató, A paging experiment with the Multics system, 1968); in FIFO a use changes nothing.
 use Rattle.std.specs.Prelude.{◌≡◌, ◌≢◌, ℕ, ◌⊎◌, false, List, [], ◌∷◌, ◌++◌}
 use Rattle.pcache_evict.specs.declared.eviction.entry_key.CacheEntryKey.{CacheEntryKey}
+use Rattle.pcache_evict.specs.declared.eviction.policy.EvictionPolicy.{EvictionPolicy}
+use Rattle.pcache_evict.specs.declared.eviction.policy.EvictionPolicy.TheVariants as named
 use Rattle.pcache_evict.specs.Tracked.{Limits}
 use Rattle.pcache_evict.specs.Policy.{Policy, Shown}
 use Rattle.pcache_policies.specs.declared.queue.Seen.{Seen}
@@ -27,9 +29,10 @@ abbrev pub one_queue_shown : Queue → Shown
 one_queue_shown q = queue_shown q ∷ []
 
 -- a queue whose entries have this record after a use, which leaves them where they are; one that is admitted again gets its weight,
--- which is a use
-abbrev pub queue_way : (Seen → Seen) → Way Queue
-queue_way after_use = record {
+-- which is a use. The policy has this name
+abbrev pub queue_way : EvictionPolicy → (Seen → Seen) → Way Queue
+queue_way policy after_use = record {
+  policy = policy;
   whole = λ q. q;
   none = [];
   shown = one_queue_shown;
@@ -42,16 +45,19 @@ queue_way after_use = record {
   rest_in = rest_of;
 }
 
-abbrev pub queue_policy : (Seen → Seen) → Policy Queue
-queue_policy after_use = policy_of (queue_way after_use)
-
 -- FIFO: a use changes nothing, so that no bit is ever set, and the oldest entry goes
+abbrev pub fifo_way : Way Queue
+fifo_way = queue_way named.Fifo (λ v. v)
+
 abbrev pub fifo : Policy Queue
-fifo = queue_policy (λ v. v)
+fifo = policy_of fifo_way
 
 -- CLOCK: a use sets the bit
 abbrev pub set_bit : Seen → Seen
 set_bit v = used v.weight
 
+abbrev pub clock_way : Way Queue
+clock_way = queue_way named.Clock set_bit
+
 abbrev pub clock : Policy Queue
-clock = queue_policy set_bit
+clock = policy_of clock_way

@@ -3,6 +3,7 @@
 use Rattle.std.specs.Prelude.{◌≡◌, ℕ, ◌-◌, ◌*◌, ◌/◌, ◌<◌, ◌≤◌, ◌⊎◌, ◌==◌, Bool, false, not, List, [], ◌∷◌, ◌++◌, length, take, if◌then◌else◌, map}
 use Rattle.std.specs.List.{list_any, filter}
 use Rattle.pcache_evict.specs.declared.eviction.entry_key.CacheEntryKey.{CacheEntryKey}
+use Rattle.pcache_evict.specs.declared.eviction.policy.EvictionPolicy.TheVariants as named
 use Rattle.pcache_evict.specs.Entry.{entry_eq}
 use Rattle.pcache_evict.specs.Tracked.{Limits}
 use Rattle.pcache_evict.specs.Recency.{Recency, weight}
@@ -95,6 +96,7 @@ fifos_shown f = queue_shown f.small ∷ queue_shown f.main ∷ ghosts_shown f.gh
 -- gets its weight in place, which is a use
 abbrev pub s3_fifo_way : Way Fifos
 s3_fifo_way = record {
+  policy = named.S3Fifo;
   whole = whole;
   none = fifos [] [] [];
   shown = fifos_shown;

@@ -2,6 +2,7 @@
 -- Yue, Vigfusson, Rashmi, NSDI 2024).
 use Rattle.std.specs.Prelude.{◌≡◌, ◌≢◌, ℕ, ◌⊎◌, ◌==◌, false, List, [], ◌∷◌, ◌++◌, if◌then◌else◌}
 use Rattle.pcache_evict.specs.declared.eviction.entry_key.CacheEntryKey.{CacheEntryKey}
+use Rattle.pcache_evict.specs.declared.eviction.policy.EvictionPolicy.TheVariants as named
 use Rattle.pcache_evict.specs.Tracked.{Limits}
 use Rattle.pcache_evict.specs.Recency.{Recency}
 use Rattle.pcache_evict.specs.Policy.{Policy, Shown}
@@ -65,6 +66,7 @@ sieve_shown s = queue_shown s.ahead ∷ queue_shown s.passed ∷ []
 -- SIEVE as the way of a queue; an entry that is admitted again gets its weight in place, which is a use
 abbrev pub sieve_way : Way Sieve
 sieve_way = record {
+  policy = named.Sieve;
   whole = whole;
   none = sieve [] [];
   shown = sieve_shown;

@@ -2,6 +2,7 @@
 -- ghosts, which are the keys of entries that went from the first (Johnson, Shasha, VLDB 1994: A1in, Am and A1out).
 use Rattle.std.specs.Prelude.{◌≡◌, ℕ, ◌*◌, ◌/◌, ◌<◌, ◌≤◌, ◌⊎◌, Bool, is_some, List, [], ◌∷◌, ◌++◌, length, take, if◌then◌else◌}
 use Rattle.pcache_evict.specs.declared.eviction.entry_key.CacheEntryKey.{CacheEntryKey}
+use Rattle.pcache_evict.specs.declared.eviction.policy.EvictionPolicy.TheVariants as named
 use Rattle.pcache_evict.specs.Tracked.{Limits}
 use Rattle.pcache_evict.specs.Recency.{Recency, weight}
 use Rattle.pcache_evict.specs.Policy.{Policy, Shown}
@@ -72,6 +73,7 @@ two_queues_shown q = queue_shown q.main ∷ queue_shown q.incoming ∷ ghosts_sh
 -- weight, which is a use
 abbrev pub two_queues_way : Way TwoQueues
 two_queues_way = record {
+  policy = named.TwoQueues;
   whole = whole;
   none = queues [] [] [];
   shown = two_queues_shown;

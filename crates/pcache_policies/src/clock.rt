@@ -11,7 +11,10 @@ pub struct Noticed;
 
 impl Uses for Noticed {
     ghost use Rattle.std.specs.Prelude.{refl};
+    ghost use Rattle.pcache_evict.specs.declared.eviction.policy.EvictionPolicy.TheVariants.{Clock};
     ghost use Rattle.pcache_policies.specs.OneQueue.{set_bit};
+
+    ghost policy = { Clock };
 
     ghost used = { set_bit };
 

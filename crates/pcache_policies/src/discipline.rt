@@ -104,8 +104,8 @@ pub trait Discipline<S>: Drop {
         watermark: Option<usize>,
     ) -> Result<Vec<CacheEntryKey>>
         requires { count < 2 ^ 63 }
-        ensures room { IfOk result (λ out. way.MakesRoom (limits_of limit watermark) size count
-            (order self.old) (going (leaving self.new)) (left self.new)) }
+        ensures room { IfOk result (λ out. way.MakesRoom (limits_of way.policy limit watermark)
+            size count (order self.old) (going (leaving self.new)) (left self.new)) }
         ensures out { IfOk result (λ out.
             (out.items ≡ []) × (length (leaving self.new) + 1 ≤ vec_capacity out)) }
         ensures heavy { IfOk result (λ out. weight (entries_in way (order self.old))
@@ -117,9 +117,11 @@ pub trait Discipline<S>: Drop {
     /// Whether one more entry of this weight fits beside those that were not chosen.
     fn has_room(&self, size: usize, limit: usize, watermark: Option<usize>) -> bool
         ensures room { result ≡ true
-            → HasRoom (limits_of limit watermark) size 1 (entries_in way (left self.now)) }
+            → HasRoom (limits_of way.policy limit watermark) size 1
+            (entries_in way (left self.now)) }
         ensures none { result ≡ false
-            → ¬ HasRoom (limits_of limit watermark) size 1 (entries_in way (left self.now)) };
+            → ¬ HasRoom (limits_of way.policy limit watermark) size 1
+            (entries_in way (left self.now)) };
 
     /// Adds a new entry, as one whose key was remembered or not.
     fn enter(&mut self, item: CacheEntryKey, size: usize, known: bool) -> Result<()>

@@ -11,6 +11,9 @@ pub struct Unnoticed;
 
 impl Uses for Unnoticed {
     ghost use Rattle.std.specs.Prelude.{refl};
+    ghost use Rattle.pcache_evict.specs.declared.eviction.policy.EvictionPolicy.TheVariants.{Fifo};
+
+    ghost policy = { Fifo };
 
     ghost used = { λ v. v };
 

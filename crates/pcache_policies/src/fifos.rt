@@ -2,6 +2,7 @@
 ghost use Rattle.std.specs.Prelude.{◌≡◌, ◌≢◌, ◌+◌, ◌≤◌, ◌<◌, ◌^◌, Some, None, ◌∷◌, [], true, false, length, OnOk, OnErr, IfOk, IfErr};
 ghost use Rattle.std.specs.Vec.{vec_capacity};
 ghost use Rattle.pcache_base.specs.declared.error.ErrorType.TheVariants.{OutOfMemory};
+ghost use Rattle.pcache_evict.specs.declared.eviction.policy.EvictionPolicy.TheVariants.{S3Fifo};
 ghost use Rattle.pcache_evict.specs.Tracked.{limits_of};
 ghost use Rattle.pcache_policies.specs.Queue.{IsOnce, seen_of};
 ghost use Rattle.pcache_policies.specs.Ring.{ring, all, chosen, SameEntries};
@@ -164,7 +165,7 @@ impl<S: BuildHasher + Copy + Drop> Fifos<S> {
         requires none { self.old.ring.leaving ≡ [] }
         requires few { count < 2 ^ 63 }
         ensures ok { OnOk result
-            (Chooses (limits_of limit watermark) size count self.old self.new) }
+            (Chooses (limits_of S3Fifo limit watermark) size count self.old self.new) }
         ensures same { SameEntries self.old.ring self.new.ring }
         ensures kind { IfErr result (λ e. e ≡ OutOfMemory) }
     {

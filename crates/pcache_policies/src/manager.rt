@@ -34,13 +34,14 @@ pub struct Manager<Q: Discipline<S>, S = Seed> {
 }
 
 impl<Q: Discipline<S>, S> Model for Manager<Q, S> {
+    ghost use Rattle.pcache_evict.specs.Tracked.{limits_of};
     ghost use Rattle.pcache_policies.specs.Managed.{Managed};
 
     ghost Value = { Managed Q.Order };
 
     ghost view = { λ a. record {
       order = Q.order a.queue;
-      limits = record { weight = a.limit; watermark = a.watermark };
+      limits = limits_of Q.way.policy a.limit a.watermark;
       evicted = record { weight = a.evicted.weight; count = a.evicted.count };
     } };
 }

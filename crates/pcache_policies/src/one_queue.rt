@@ -15,7 +15,11 @@ use std::marker::PhantomData;
 
 /// What a use of an entry makes of it.
 pub trait Uses: Drop {
+    ghost use Rattle.pcache_evict.specs.declared.eviction.policy.EvictionPolicy.{EvictionPolicy};
     ghost use Rattle.pcache_policies.specs.declared.queue.Seen.{Seen};
+
+    /// The name of the policy.
+    ghost policy: { EvictionPolicy };
 
     /// What is known of an entry after a use.
     ghost used: { Seen → Seen };
@@ -46,7 +50,7 @@ impl<U: Uses, S: BuildHasher + Copy + Drop> Discipline<S> for Turns<U, S> {
 
     type Order = Queue<S>;
 
-    ghost way = { queue_way U.used };
+    ghost way = { queue_way U.policy U.used };
 
     ghost order = { λ t. in_turn (shown t.ring) };
 

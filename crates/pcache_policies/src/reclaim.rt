@@ -2,6 +2,7 @@
 ghost use Rattle.std.specs.Prelude.{◌≡◌, ◌≢◌, ◌+◌, ◌≤◌, ◌<◌, ◌^◌, None, [], true, false, length, OnOk, OnErr, IfOk, IfErr};
 ghost use Rattle.std.specs.Vec.{vec_capacity};
 ghost use Rattle.pcache_base.specs.declared.error.ErrorType.TheVariants.{OutOfMemory};
+ghost use Rattle.pcache_evict.specs.declared.eviction.policy.EvictionPolicy.TheVariants.{TwoQueues};
 ghost use Rattle.pcache_evict.specs.Tracked.{limits_of};
 ghost use Rattle.pcache_policies.specs.Queue.{IsOnce, seen_of};
 ghost use Rattle.pcache_policies.specs.Ring.{ring, all, chosen, SameEntries};
@@ -174,7 +175,7 @@ impl<S: BuildHasher + Copy + Drop> Queues<S> {
         requires none { self.old.ring.leaving ≡ [] }
         requires few { count < 2 ^ 63 }
         ensures ok { OnOk result
-            (Chooses (limits_of limit watermark) size count self.old self.new) }
+            (Chooses (limits_of TwoQueues limit watermark) size count self.old self.new) }
         ensures same { SameEntries self.old.ring self.new.ring }
         ensures kind { IfErr result (λ e. e ≡ OutOfMemory) }
     {

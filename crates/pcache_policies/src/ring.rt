@@ -4,6 +4,7 @@ ghost use Rattle.std.specs.Vec.{vec_capacity};
 ghost use Rattle.pcache_base.specs.declared.error.ErrorType.TheVariants.{OutOfMemory};
 ghost use Rattle.lru.specs.LruCache.{last_entry};
 ghost use Rattle.pcache_evict.specs.declared.eviction.entry_key.CacheEntryKey.{CacheEntryKey};
+ghost use Rattle.pcache_evict.specs.declared.eviction.policy.EvictionPolicy.{EvictionPolicy};
 ghost use Rattle.pcache_evict.specs.Tracked.{limits_of};
 ghost use Rattle.pcache_evict.specs.Recency.{weight};
 ghost use Rattle.pcache_policies.specs.declared.queue.Seen.{Seen};
@@ -138,7 +139,7 @@ impl<S: BuildHasher + Copy + Drop> Ring<S> {
     }
 
     /// Whether the limits hold for the entries that were not chosen, with `count` more of this
-    /// total weight.
+    /// total weight. The ring is that of several policies, and looks at none.
     pub(crate) fn has_room(
         &self,
         size: usize,
@@ -147,10 +148,10 @@ impl<S: BuildHasher + Copy + Drop> Ring<S> {
         watermark: Option<usize>,
     ) -> bool
         requires { count < 2 ^ 63 }
-        ensures room { result ≡ true
-            → HasRoom (limits_of limit watermark) size count (entries (left_of self.now)) }
-        ensures none { result ≡ false
-            → ¬ HasRoom (limits_of limit watermark) size count (entries (left_of self.now)) }
+        ensures room { (policy : EvictionPolicy) → result ≡ true
+            → HasRoom (limits_of policy limit watermark) size count (entries (left_of self.now)) }
+        ensures none { (policy : EvictionPolicy) → result ≡ false
+            → ¬ HasRoom (limits_of policy limit watermark) size count (entries (left_of self.now)) }
     {
         let weight = size as u128 + self.ahead.weight() + self.passed.weight();
         let items = count + (self.ahead.len() + self.passed.len());
@@ -194,8 +195,9 @@ impl<S: BuildHasher + Copy + Drop> Ring<S> {
     ) -> Result<()>
         requires none { self.old.leaving ≡ [] }
         requires few { count < 2 ^ 63 }
-        ensures ok { OnOk result
-            (Chooses (limits_of limit watermark) size count self.old self.new) }
+        ensures ok { (policy : EvictionPolicy)
+            → OnOk result (Chooses (limits_of policy limit watermark) size count self.old
+            self.new) }
         ensures same { SameEntries self.old self.new }
         ensures kind { IfErr result (λ e. e ≡ OutOfMemory) }
     {
@@ -218,7 +220,8 @@ impl<S: BuildHasher + Copy + Drop> Ring<S> {
         watermark: Option<usize>,
     ) -> Result<Vec<CacheEntryKey>>
         requires { count < 2 ^ 63 }
-        ensures room { IfOk result (λ out. MakesRoom (limits_of limit watermark) size count
+        ensures room { (policy : EvictionPolicy) → IfOk result (λ out.
+            MakesRoom (limits_of policy limit watermark) size count
             (shown self.old) (chosen self.new) (left_of self.new)) }
         ensures out { IfOk result (λ out.
             (out.items ≡ []) × (length self.new.leaving + 1 ≤ vec_capacity out)) }

@@ -1,10 +1,8 @@
 -- Portions of a whole add up to it.
-use Rattle.std.proofs.Common.{◌≡◌, ℕ, ◌+◌, ◌*◌, ◌/◌, ◌%◌, ◌<◌, zero, suc, cond, nat_lt, map, ap, arith}
-use Rattle.std.specs.Prelude.{min, sum}
-use Rattle.std.specs.List.{range_with_len}
-use Rattle.std.proofs.lemmas.List.Sums.{sum_by-cons}
+use Rattle.std.proofs.Common.{◌/◌, ◌%◌, nat_lt}
+use Rattle.std.specs.Prelude.{min}
 use Rattle.std.proofs.Math.Nat.{mod-add-div}
-use Rattle.pcache_shared_cache.specs.Portions.{portion}
+use Rattle.pcache_shared_cache.proofs.Words.{◌≡◌, ℕ, ◌+◌, ◌*◌, ◌<◌, zero, suc, cond, map, ap, arith, sum, range_with_len, sum_by-cons, portion}
 
 rest : (i r : ℕ) → cond (nat_lt i r) 1 0 + min i r ≡ min (i + 1) r
 rest i r = grind arith

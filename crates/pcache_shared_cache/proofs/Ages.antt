@@ -1,30 +1,22 @@
 -- No call changes the age at which the permits of a table are too old.
-use Rattle.std.proofs.Common.{◌≡◌, ℕ, Bool, true, false, List, Option, None, Some, Result, Ok, Err, OnErr, OnOk, cond, refl, ◌∙◌, ap}
 use Rattle.std.specs.FinMap.{get}
-use Rattle.pcache_base.specs.Key.{Key, slot}
-use Rattle.pcache_base.specs.declared.error.ErrorType.{ErrorType}
-use Rattle.pcache_base.specs.declared.poll.Poll.{Poll}
-use Rattle.pcache_base.specs.declared.poll.Poll.TheVariants.{Pending, Ready}
-use Rattle.pcache_evict.specs.Tracked.{Limits, Tracked}
+use Rattle.pcache_base.specs.Key.{Key}
+use Rattle.pcache_base.specs.declared.poll.Poll.TheVariants.{Ready}
 use Rattle.pcache_lock.proofs.PastWaits.{age_dropped, age_polled, age_read, age_released, age_unread}
 use Rattle.pcache_lock.specs.Locks.{Locks, after_request, holder, let_go}
 use Rattle.pcache_lock.specs.Permits.{Permit}
 use Rattle.pcache_lock.specs.Waiting.{after_poll}
-use Rattle.pcache_lock.specs.declared.lock.outcome.LockWaitOutcome.{LockWaitOutcome}
 use Rattle.pcache_lock.specs.declared.lock.permit.Locked.{Locked}
 use Rattle.pcache_lock.specs.declared.lock.permit.Locked.TheVariants.{Read, Write}
-use Rattle.pcache_lock.specs.declared.lock.status.LockStatus.{LockStatus}
-use Rattle.pcache_lock.specs.declared.lock.status.LockStatus.TheVariants.{Done, TransientError}
-use Rattle.pcache_request.specs.LockUse.{published_by, table_handed}
-use Rattle.pcache_request.specs.LockWaits.{let_go_after, table_waited, wait_result}
-use Rattle.pcache_request.specs.Requests.{Request, asks_as_stale, asks_for_hit, let_go_by, settled, table_asked, table_found}
-use Rattle.pcache_request.specs.Variants.{is_unseen_for, leaves_variant, table_key_locked, table_looked_for, table_varied}
+use Rattle.pcache_lock.specs.declared.lock.status.LockStatus.TheVariants.{TransientError}
+use Rattle.pcache_request.specs.LockWaits.{let_go_after, wait_result}
+use Rattle.pcache_request.specs.Requests.{asks_as_stale, asks_for_hit, table_asked}
+use Rattle.pcache_request.specs.Variants.{leaves_variant}
 use Rattle.pcache_request.specs.WriteEnds.{Ends, EndsIdle}
-use Rattle.pcache_request.specs.declared.cache.finish.WriteEnd.{WriteEnd}
-use Rattle.pcache_request.specs.declared.cache.finish.WriteEnd.TheVariants as end
-use Rattle.pcache_request.specs.declared.phase.HitStatus.{HitStatus}
-use Rattle.pcache_store.specs.Store.{Guarantees, Store}
+use Rattle.pcache_store.specs.Store.{Guarantees}
 use Rattle.pcache_store.specs.declared.storage.MissFinishType.{MissFinishType}
+use Rattle.pcache_shared_cache.proofs.Words.{◌≡◌, ℕ, Bool, true, false, List, Option, None, Some, Result, Ok, Err, OnErr, OnOk, cond, refl, ◌∙◌, ap, slot, ErrorType, Poll, Pending, Limits, Tracked, LockWaitOutcome, LockStatus, Done, published_by, table_handed, table_waited, Request, let_go_by, settled, table_found, is_unseen_for, table_key_locked, table_looked_for, table_varied, WriteEnd, HitStatus, Store}
+use Rattle.pcache_request.specs.declared.cache.finish.WriteEnd.TheVariants as end
 
 -- the table t has the age of s
 abbrev pub HasAgeOf : Locks → Locks → Type 0

@@ -1,23 +1,12 @@
 -- A complete body that a look-up finds, read after the lock: the look-up was made when it was found.
-use Rattle.std.proofs.Common.{◌≡◌, inl, ℕ, Bool, true, false, List, Option, Some, None, Result, Ok, Err, cond, refl, sym, ap, subst, ◌∙◌}
-use Rattle.std.specs.Prelude.{IfSome}
-use Rattle.pcache_base.specs.declared.error.ErrorType.{ErrorType}
 use Rattle.pcache_base.specs.declared.error.ErrorType.TheVariants.{OutOfMemory}
-use Rattle.pcache_cache.specs.Parts.{Parts}
-use Rattle.pcache_cache.proofs.Growing.{grew_same}
-use Rattle.pcache_meta.specs.Meta.{Meta}
 use Rattle.pcache_request.specs.LockPasts.{key_locked_deeds}
-use Rattle.pcache_request.specs.Requests.{Request, found_for}
-use Rattle.pcache_request.specs.StorePasts.{hidden_past, searched_past}
-use Rattle.pcache_request.specs.Variants.{is_hidden, is_unseen, is_unseen_for, searched, table_key_locked, visible, with_key_lock, without_hidden}
-use Rattle.pcache_store.specs.Readers.{if_complete, needs_no_store, reader_of}
-use Rattle.pcache_store.specs.Notes.{joined_by, leave_noted, look_noted, noted}
+use Rattle.pcache_request.specs.StorePasts.{hidden_past}
+use Rattle.pcache_request.specs.Variants.{is_unseen, searched, visible, with_key_lock, without_hidden}
+use Rattle.pcache_store.specs.Notes.{joined_by, look_noted}
 use Rattle.pcache_store.specs.Past.{Note}
-use Rattle.pcache_store.specs.Store.{Part, Reader, Store, Whole, followed, followed_by, left}
-use Rattle.pcache_store.specs.declared.memory.hit.MemHitHandler.{MemHitHandler}
-use Rattle.pcache_shared_cache.specs.Calls.{LooksUp}
-use Rattle.pcache_shared_cache.specs.Seen.{Goes, Leads}
-use Rattle.pcache_shared_cache.specs.Shared.{Seated}
+use Rattle.pcache_store.specs.Store.{Part, Whole, followed, followed_by, left}
+use Rattle.pcache_shared_cache.proofs.Words.{◌≡◌, inl, ℕ, Bool, true, false, List, Option, Some, None, IsSome, Result, Ok, Err, cond, refl, sym, ap, subst, ◌∙◌, IfSome, ErrorType, LooksUp, Parts, grew_same, Meta, Request, found_for, searched_past, is_hidden, is_unseen_for, table_key_locked, if_complete, needs_no_store, reader_of, leave_noted, noted, Reader, Store, MemHitHandler, Goes, Leads, Seated}
 use Rattle.pcache_shared_cache.proofs.Logs.{goes_begins, begins_then}
 
 -- what was found is a complete body, and the look-up finds it
@@ -61,20 +50,44 @@ module _ (now : ℕ) (r : Request) (p : Parts) (m : Meta) (h : MemHitHandler) (f
     request = sym (ap (λ (b : Bool). cond b (with_key_lock p.locks r) r) seen);
     store = sym store;
     past = sym past;
-    locks = sym (ap (λ (b : Bool). cond b (table_key_locked now r p.locks) p.locks) seen);
+    table = sym (ap (λ (b : Bool). cond b (table_key_locked now r p.locks) p.locks) seen);
     deeds = sym (ap (λ (b : Bool). cond b (key_locked_deeds now p.locks r (Some p.deeds)) (Some p.deeds)) seen);
+    phase = refl;
+    uses = refl;
+    same_request = tt;
     left = tt;
-    same_locks = tt;
+    same_store = tt;
+    same_table = tt;
     same_deeds = tt;
     kind = tt;
+    numbers = tt;
+    something = tt;
     rest = refl;
   })
 
 -- its meta was not read for want of memory, and nothing was done
-pub read_not : (now : ℕ) (r : Request) (p q : Parts) (result : Result (Option (Meta × MemHitHandler)) ErrorType) (e : ErrorType) → result ≡ Err e → e ≡ OutOfMemory → q ≡ p → LooksUp result now r r p q
-read_not now r p q result e is why same =
+pub read_not : (now : ℕ) (r : Request) (p q : Parts) (result : Result (Option (Meta × MemHitHandler)) ErrorType) (e : ErrorType) → result ≡ Err e → e ≡ OutOfMemory → IsSome (found_for p.store r.key) → q ≡ p → LooksUp result now r r p q
+read_not now r p q result e is why there same =
     subst (λ (x : Result (Option (Meta × MemHitHandler)) ErrorType). LooksUp x now r r p q) (sym (is ∙ ap Err why))
-    (subst (λ (x : Parts). LooksUp (Err OutOfMemory) now r r p x) (sym same) (record { found = tt; request = tt; store = tt; past = tt; locks = tt; deeds = tt; left = inl (refl, refl); same_locks = refl; same_deeds = refl; kind = tt; rest = refl }))
+    (subst (λ (x : Parts). LooksUp (Err OutOfMemory) now r r p x) (sym same) (record {
+      found = tt;
+      request = tt;
+      store = tt;
+      past = tt;
+      table = tt;
+      deeds = tt;
+      phase = tt;
+      uses = tt;
+      same_request = refl;
+      left = inl (refl, refl);
+      same_store = λ _. refl;
+      same_table = refl;
+      same_deeds = refl;
+      kind = tt;
+      numbers = λ other. absurd (cc);
+      something = inl there;
+      rest = refl;
+    }))
 
 -- the part is as it was, and so nothing is forgotten
 pub leads_nowhere : (p q : Parts) → q ≡ p → Leads p q

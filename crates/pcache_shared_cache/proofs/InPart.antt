@@ -1,10 +1,7 @@
 -- What a call knows of a part that it has.
-use Rattle.std.proofs.Common.{◌≡◌, Bool, false, sym, subst, ap, ◌∙◌}
 use Rattle.std.specs.Prelude.{◌↔◌, IsTrue}
 use Rattle.std.proofs.lemmas.Bool.{both_ways}
-use Rattle.pcache_evict.specs.Tracked.{Limits}
-use Rattle.pcache_cache.specs.Parts.{Parts, IsKept}
-use Rattle.pcache_shared_cache.specs.Shared.{OfPart}
+use Rattle.pcache_shared_cache.proofs.Words.{◌≡◌, Bool, false, sym, subst, ap, ◌∙◌, Limits, Parts, IsKept, OfPart}
 
 module _ {P : Parts → Type 0} where
   -- v is the part as the lock lends it, p as the call sees it

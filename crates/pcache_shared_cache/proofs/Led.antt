@@ -1,42 +1,29 @@
 -- Each call led from the state that it found to the one that it left: the limits and the age of permits stay, and of the two pasts
 -- nothing is forgotten.
-use Rattle.std.proofs.Common.{◌≡◌, ⊎_elim, inl, inr, ℕ, Bool, true, List, Option, None, Some, Result, Ok, Err, OnErr, OnOk, ap, option_map, refl, sym, subst}
-use Rattle.pcache_base.specs.Key.{slot}
-use Rattle.pcache_base.specs.declared.error.ErrorType.{ErrorType}
-use Rattle.pcache_cache.proofs.Adding.{dropped_keeps, end_keeps, ends_request_keeps, found_keeps, handed_keeps, left_keeps, let_go_keeps, looked_keeps, published_keeps, renews_keeps, searched_keeps, settled_keeps, taken_keeps, varied_keeps, waited_keeps, writing_keeps, begun_keeps, written_keeps}
-use Rattle.pcache_cache.proofs.Growing.{GrewFrom, grew_by, grew_if, grew_not, grew_same, kept_by_deeds, kept_by_notes}
+use Rattle.pcache_cache.proofs.Adding.{end_keeps, ends_request_keeps, found_keeps, handed_keeps, left_keeps, let_go_keeps, looked_keeps, published_keeps, renews_keeps, searched_keeps, settled_keeps, taken_keeps, varied_keeps, waited_keeps, writing_keeps, begun_keeps, written_keeps}
+use Rattle.pcache_cache.proofs.Growing.{GrewFrom, grew_if, kept_by_deeds}
+use Rattle.pcache_cache.specs.Filling.{EndsWrite}
 use Rattle.pcache_cache.specs.Growing.{Grew}
+use Rattle.pcache_cache.specs.Looking.{LetsGo}
 use Rattle.pcache_cache.specs.Renewing.{stock}
-use Rattle.pcache_cache.specs.Parts.{Adds, MayEnd, Parts, tracked_at_end, written_past}
+use Rattle.pcache_cache.specs.Parts.{Adds, tracked_at_end, written_past}
 use Rattle.pcache_cache.specs.Weighing.{entered}
-use Rattle.pcache_lock.specs.declared.lock.outcome.LockWaitOutcome.{LockWaitOutcome}
 use Rattle.pcache_lock.specs.declared.lock.permit.WritePermit.{WritePermit}
-use Rattle.pcache_lock.specs.declared.lock.status.LockStatus.{LockStatus}
-use Rattle.pcache_lock.specs.declared.lock.status.LockStatus.TheVariants.{Done, GiveUp}
-use Rattle.pcache_base.specs.declared.poll.Poll.{Poll}
-use Rattle.pcache_base.specs.declared.reason.NoCacheReason.{NoCacheReason}
-use Rattle.pcache_meta.specs.Meta.{Meta}
+use Rattle.pcache_lock.specs.declared.lock.status.LockStatus.TheVariants.{GiveUp}
+use Rattle.pcache_meta.specs.Header.{Header}
 use Rattle.pcache_request.specs.LockPasts.{end_deeds, found_deeds, handed_deeds, let_go_deeds, looked_deeds, published_deeds, settled_deeds, varied_deeds, waited_deeds}
-use Rattle.pcache_request.specs.LockUse.{published_by, table_handed}
-use Rattle.pcache_request.specs.LockWaits.{table_waited}
 use Rattle.pcache_request.specs.Releasing.{status_for}
 use Rattle.pcache_request.specs.Renewals.{renewed_by}
-use Rattle.pcache_request.specs.Requests.{Request, let_go_by, table_found}
-use Rattle.pcache_request.specs.StorePasts.{begun_past, dropped_past, expired_past, left_past, purged_past, searched_past, taken_past, writing_past}
-use Rattle.pcache_request.specs.Variants.{table_looked_for, table_varied}
+use Rattle.pcache_request.specs.StorePasts.{begun_past, expired_past, left_past, purged_past, taken_past, writing_past}
 use Rattle.pcache_request.specs.WriteEnds.{EndsAs}
 use Rattle.pcache_request.specs.declared.cache.finish.FinishReport.{FinishReport}
-use Rattle.pcache_request.specs.declared.cache.finish.WriteEnd.{WriteEnd}
-use Rattle.pcache_request.specs.declared.cache.finish.WriteEnd.TheVariants as end
-use Rattle.pcache_request.specs.declared.phase.HitStatus.{HitStatus}
-use Rattle.pcache_store.specs.Notes.{expiry_noted, leave_noted, noted}
+use Rattle.pcache_request.specs.declared.cache.report.LockName.{LockName}
+use Rattle.pcache_request.specs.declared.cache.report.ReleasedLock.{ReleasedLock}
+use Rattle.pcache_store.specs.Notes.{expiry_noted}
 use Rattle.pcache_store.specs.Past.{Purged}
-use Rattle.pcache_store.specs.Readers.{in_memory}
-use Rattle.pcache_store.specs.Store.{Reader}
-use Rattle.pcache_store.specs.declared.memory.hit.MemHitHandler.{MemHitHandler}
+use Rattle.pcache_shared_cache.proofs.Words.{◌≡◌, ⊎_elim, inl, inr, ℕ, Bool, true, List, Option, None, Some, Result, Ok, Err, OnErr, OnOk, ap, option_map, refl, sym, subst, slot, ErrorType, dropped_keeps, grew_by, grew_not, grew_same, kept_by_notes, Disables, EndsRequest, BeginsWrite, Writes, Publishes, Releases, TakesPermit, Waits, EndsHit, LooksUp, TakesFound, Expires, Purges, Revalidates, ServesUncacheable, Varies, Parts, LockWaitOutcome, LockStatus, Done, Poll, NoCacheReason, Meta, published_by, table_handed, table_waited, Request, let_go_by, settled, table_found, dropped_past, searched_past, table_looked_for, table_varied, WriteEnd, HitStatus, leave_noted, noted, in_memory, Reader, MemHitHandler, Leads}
+use Rattle.pcache_request.specs.declared.cache.finish.WriteEnd.TheVariants as end
 use Rattle.pcache_shared_cache.proofs.Ages.{HasAgeOf, age_as, age_ended, age_found, age_handed, age_if, age_let_go, age_looked, age_published, age_varied, age_waited, settled_at}
-use Rattle.pcache_shared_cache.specs.Calls.{BeginsWrite, Disables, EndsHit, EndsRequest, EndsWriteOf, Expires, LetsGo, LooksUp, Publishes, Purges, Releases, Revalidates, TakesFound, TakesPermit, Varies, Waits, Writes}
-use Rattle.pcache_shared_cache.specs.Seen.{Leads}
 
 err_ap : {A X Y : Type 0} (f : X → Y) (result : Result A ErrorType) (x y : X) → OnErr result (x ≡ y) → OnErr result (f x ≡ f y)
 err_ap f (Ok a) x y e = tt
@@ -46,8 +33,8 @@ err_ap f (Err k) x y e = ap f e
 same_deeds : (p q : Parts) → q.deeds ≡ p.deeds → Grew p.deeds q.deeds
 same_deeds p q is = grew_same p.deeds q.deeds is
 
-pub purged : (result : Result Bool ErrorType) (r : Request) (p q : Parts) → Purges result r p q → Leads p q
-purged result r p q row = record {
+pub purged : {result : Result Bool ErrorType} {r s : Request} {p q : Parts} → Purges result r s p q → Leads p q
+purged {result} {r} {s} {p} {q} row = record {
   limits = ap (λ (x : Parts). x.limits) row.rest;
   weighing = ap (λ (x : Parts). x.weighing) row.rest;
   age = ap (λ (x : Parts). x.locks.age_timeout) row.rest;
@@ -55,8 +42,8 @@ purged result r p q row = record {
   deeds = grew_same p.deeds q.deeds (ap (λ (x : Parts). x.deeds) row.rest);
 }
 
-pub expired : (result : Result Bool ErrorType) (now : ℕ) (r : Request) (p q : Parts) → Expires result now r p q → Leads p q
-expired result now r p q row = record {
+pub expired : {result : Result Bool ErrorType} {now : ℕ} {r s : Request} {p q : Parts} → Expires result now r s p q → Leads p q
+expired {result} {now} {r} {s} {p} {q} row = record {
   limits = ap (λ (x : Parts). x.limits) row.rest;
   weighing = ap (λ (x : Parts). x.weighing) row.rest;
   age = ap (λ (x : Parts). x.locks.age_timeout) row.rest;
@@ -64,8 +51,8 @@ expired result now r p q row = record {
   deeds = grew_same p.deeds q.deeds (ap (λ (x : Parts). x.deeds) row.rest);
 }
 
-pub written : (result : Result Bool ErrorType) (bytes : List ℕ) (eof : Bool) (r : Request) (p q : Parts) → Writes result bytes eof r p q → Leads p q
-written result bytes eof r p q row = record {
+pub written : {result : Result Bool ErrorType} {bytes : List ℕ} {eof : Bool} {r s : Request} {p q : Parts} → Writes result bytes eof r s p q → Leads p q
+written {result} {bytes} {eof} {r} {s} {p} {q} row = record {
   limits = ap (λ (x : Parts). x.limits) row.rest;
   weighing = ap (λ (x : Parts). x.weighing) row.rest;
   age = ap (λ (x : Parts). x.locks.age_timeout) row.rest;
@@ -85,11 +72,11 @@ looked_table : (result : Result (Option (Meta × MemHitHandler)) ErrorType) (now
 looked_table (Ok f) now r s p q row = grew_by (looked_deeds p.store now p.locks r) p.deeds q.deeds (looked_keeps (kept_by_deeds p.deeds) p.store now p.locks r) row.deeds
 looked_table (Err e) now r s p q row = grew_same p.deeds q.deeds row.same_deeds
 
-pub looked : (result : Result (Option (Meta × MemHitHandler)) ErrorType) (now : ℕ) (r s : Request) (p q : Parts) → LooksUp result now r s p q → Leads p q
-looked result now r s p q row = record {
+pub looked : {result : Result (Option (Meta × MemHitHandler)) ErrorType} {now : ℕ} {r s : Request} {p q : Parts} → LooksUp result now r s p q → Leads p q
+looked {result} {now} {r} {s} {p} {q} row = record {
   limits = ap (λ (x : Parts). x.limits) row.rest;
   weighing = ap (λ (x : Parts). x.weighing) row.rest;
-  age = age_if result p.locks (table_looked_for p.store now r p.locks) q.locks row.locks (age_looked p.store now r p.locks) row.same_locks;
+  age = age_if result p.locks (table_looked_for p.store now r p.locks) q.locks row.table (age_looked p.store now r p.locks) row.same_table;
   past = looked_past result now r s p q row;
   deeds = looked_table result now r s p q row;
 }
@@ -99,17 +86,17 @@ grew_either : {A R : Type 0} (result : Result R ErrorType) (f h : Option (List A
 grew_either (Ok a) f h p q keeps keeps' ok err = grew_by f p q keeps ok
 grew_either (Err e) f h p q keeps keeps' ok err = grew_by h p q keeps' err
 
-pub taken : (result : Result (Unit {0}) ErrorType) (status : HitStatus) (m : Meta) (h : Reader) (now : ℕ) (r s : Request) (p q : Parts) → TakesFound result status m h now r s p q → Leads p q
-taken result status m h now r s p q row = record {
+pub taken : {result : Result (Unit {0}) ErrorType} {status : HitStatus} {m : Meta} {h : Reader} {now : ℕ} {r s : Request} {p q : Parts} → TakesFound result status m h now r s p q → Leads p q
+taken {result} {status} {m} {h} {now} {r} {s} {p} {q} row = record {
   limits = row.limits;
   weighing = row.weighing;
-  age = age_if result p.locks (table_found status now r p.locks) q.locks row.locks (age_found status now r p.locks) row.same_locks;
+  age = age_if result p.locks (table_found status now r p.locks) q.locks row.table (age_found status now r p.locks) row.same_table;
   past = grew_either result (taken_past status h r) (noted (leave_noted h)) p.past q.past (taken_keeps (kept_by_notes p.past) status h r) (kept_by_notes p.past (leave_noted h)) row.past row.left_past;
   deeds = grew_if result (found_deeds status now p.locks r) p.deeds q.deeds (found_keeps (kept_by_deeds p.deeds) status now p.locks r) row.deeds row.same_deeds;
 }
 
-pub let_go : (h : Reader) (p q : Parts) → LetsGo h p q → Leads p q
-let_go h p q row = record {
+pub let_go : {h : Reader} {p q : Parts} → LetsGo h p q → Leads p q
+let_go {h} {p} {q} row = record {
   limits = ap (λ (x : Parts). x.limits) row.rest;
   weighing = ap (λ (x : Parts). x.weighing) row.rest;
   age = ap (λ (x : Parts). x.locks.age_timeout) row.rest;
@@ -117,8 +104,8 @@ let_go h p q row = record {
   deeds = grew_same p.deeds q.deeds (ap (λ (x : Parts). x.deeds) row.rest);
 }
 
-pub hit_ended : (r : Request) (p q : Parts) → EndsHit r p q → Leads p q
-hit_ended r p q row = record {
+pub hit_ended : {result : Result (Unit {0}) ErrorType} {r s : Request} {p q : Parts} → EndsHit result r s p q → Leads p q
+hit_ended {result} {r} {s} {p} {q} row = record {
   limits = ap (λ (x : Parts). x.limits) row.rest;
   weighing = ap (λ (x : Parts). x.weighing) row.rest;
   age = ap (λ (x : Parts). x.locks.age_timeout) row.rest;
@@ -126,74 +113,81 @@ hit_ended r p q row = record {
   deeds = grew_same p.deeds q.deeds (ap (λ (x : Parts). x.deeds) row.rest);
 }
 
-pub request_ended : (r : Request) (p q : Parts) → EndsRequest r p q → Leads p q
-request_ended r p q row = record {
+pub request_ended : {result : Option LockName} {r : Request} {p q : Parts} → EndsRequest result r p q → Leads p q
+request_ended {result} {r} {p} {q} row = record {
   limits = ap (λ (x : Parts). x.limits) row.rest;
   weighing = ap (λ (x : Parts). x.weighing) row.rest;
-  age = age_as p.locks (let_go_by r.held p.locks) q.locks row.locks (age_let_go r.held p.locks);
+  age = age_as p.locks (let_go_by r.held p.locks) q.locks row.table (age_let_go r.held p.locks);
   past = grew_by (λ l. left_past r.reader (dropped_past r.write l)) p.past q.past (λ x is. left_keeps (kept_by_notes p.past) r.reader (dropped_past r.write x) (dropped_keeps (kept_by_notes p.past) r.write x is)) row.past;
   deeds = grew_by (let_go_deeds r.held) p.deeds q.deeds (let_go_keeps (kept_by_deeds p.deeds) r.held) row.deeds;
 }
 
-pub disabled : (reason : NoCacheReason) (r : Request) (p q : Parts) → Disables reason r p q → Leads p q
-disabled reason r p q row = record {
+pub disabled : {result : Option LockName} {reason : NoCacheReason} {r s : Request} {p q : Parts} → Disables result reason r s p q → Leads p q
+disabled {result} {reason} {r} {s} {p} {q} row = record {
   limits = ap (λ (x : Parts). x.limits) row.rest;
   weighing = ap (λ (x : Parts). x.weighing) row.rest;
-  age = settled_at (status_for (λ text. GiveUp) reason) r.held p.locks q.locks row.locks;
+  age = settled_at (status_for (λ text. GiveUp) reason) r.held p.locks q.locks row.table;
   past = grew_by (λ l. left_past r.reader (dropped_past r.write l)) p.past q.past (λ x is. left_keeps (kept_by_notes p.past) r.reader (dropped_past r.write x) (dropped_keeps (kept_by_notes p.past) r.write x is)) row.past;
   deeds = grew_by (settled_deeds (status_for (λ text. GiveUp) reason) r.held) p.deeds q.deeds (settled_keeps (kept_by_deeds p.deeds) (status_for (λ text. GiveUp) reason) r.held) row.deeds;
 }
 
-pub asked_on : (result : Result (Poll LockWaitOutcome) ErrorType) (now : ℕ) (r s : Request) (p q : Parts) → Waits result now r s p q → Leads p q
-asked_on result now r s p q row = record {
+pub asked_on : {result : Result (Poll LockWaitOutcome) ErrorType} {now : ℕ} {r s : Request} {p q : Parts} → Waits result now r s p q → Leads p q
+asked_on {result} {now} {r} {s} {p} {q} row = record {
   limits = ap (λ (x : Parts). x.limits) row.rest;
   weighing = ap (λ (x : Parts). x.weighing) row.rest;
-  age = age_if result p.locks (table_waited p.locks now r.held r) q.locks row.locks (age_waited p.locks now r.held r) (err_ap (λ (x : Parts). x.locks) result q p row.same);
+  age = age_if result p.locks (table_waited p.locks now r.held r) q.locks row.table (age_waited p.locks now r.held r) (err_ap (λ (x : Parts). x.locks) result q p row.same);
   past = grew_same p.past q.past (ap (λ (x : Parts). x.past) row.rest);
   deeds = grew_if result (waited_deeds p.locks now r.held r) p.deeds q.deeds (waited_keeps (kept_by_deeds p.deeds) p.locks now r.held r) row.deeds (err_ap (λ (x : Parts). x.deeds) result q p row.same);
 }
 
-pub released : (status : LockStatus) (r : Request) (p q : Parts) → Releases status r p q → Leads p q
-released status r p q row = record {
-  limits = ap (λ (x : Parts). x.limits) row.rest;
-  weighing = ap (λ (x : Parts). x.weighing) row.rest;
-  age = settled_at status r.held p.locks q.locks row.locks;
-  past = grew_same p.past q.past (ap (λ (x : Parts). x.past) row.rest);
-  deeds = grew_by (settled_deeds status r.held) p.deeds q.deeds (settled_keeps (kept_by_deeds p.deeds) status r.held) row.deeds;
+-- what is held of a lock is given back with this status, and nothing else is done
+settled_on : (status : LockStatus) (r : Request) (p q : Parts) → q.locks ≡ settled status r.held p.locks → Adds (settled_deeds status r.held) p.deeds q.deeds → q ≡ record p { locks = q.locks; deeds = q.deeds } → Leads p q
+settled_on status r p q table deeds rest = record {
+  limits = ap (λ (x : Parts). x.limits) rest;
+  weighing = ap (λ (x : Parts). x.weighing) rest;
+  age = settled_at status r.held p.locks q.locks table;
+  past = grew_same p.past q.past (ap (λ (x : Parts). x.past) rest);
+  deeds = grew_by (settled_deeds status r.held) p.deeds q.deeds (settled_keeps (kept_by_deeds p.deeds) status r.held) deeds;
 }
 
-pub permit_taken : (permit : WritePermit) (r : Request) (p q : Parts) → TakesPermit permit r p q → Leads p q
-permit_taken permit r p q row = record {
+pub released : {result : Option ReleasedLock} {reason : NoCacheReason} {r s : Request} {p q : Parts} → Releases result reason r s p q → Leads p q
+released {result} {reason} {r} {s} {p} {q} row = settled_on (status_for (λ text. GiveUp) reason) r p q row.table row.deeds row.rest
+
+pub served_on : {result : Option LockName} {h : Header} {reason : NoCacheReason} {r s : Request} {p q : Parts} → ServesUncacheable result h reason r s p q → Leads p q
+served_on {result} {h} {reason} {r} {s} {p} {q} row = settled_on (status_for (λ text. GiveUp) reason) r p q row.table row.deeds row.rest
+
+pub permit_taken : {result : Option LockName} {permit : WritePermit} {r s : Request} {p q : Parts} → TakesPermit result permit r s p q → Leads p q
+permit_taken {result} {permit} {r} {s} {p} {q} row = record {
   limits = ap (λ (x : Parts). x.limits) row.rest;
   weighing = ap (λ (x : Parts). x.weighing) row.rest;
-  age = age_as p.locks (table_handed permit r p.locks) q.locks row.locks (age_handed permit r p.locks);
+  age = age_as p.locks (table_handed permit r p.locks) q.locks row.table (age_handed permit r p.locks);
   past = grew_same p.past q.past (ap (λ (x : Parts). x.past) row.rest);
   deeds = grew_by (handed_deeds permit r) p.deeds q.deeds (handed_keeps (kept_by_deeds p.deeds) permit r) row.deeds;
 }
 
-pub published : {A : Type 0} (result : Result A ErrorType) (tokens : List ℕ) (r : Request) (p q : Parts) → Publishes result tokens r p q → Leads p q
-published result tokens r p q row = record {
+pub published : {result : Result (Option LockName) ErrorType} {tokens : List ℕ} {r : Request} {p q : Parts} → Publishes result tokens r p q → Leads p q
+published {result} {tokens} {r} {p} {q} row = record {
   limits = ap (λ (x : Parts). x.limits) row.rest;
   weighing = ap (λ (x : Parts). x.weighing) row.rest;
-  age = age_if result p.locks (published_by tokens r.held p.locks) q.locks row.locks (age_published tokens r.held p.locks) (err_ap (λ (x : Parts). x.locks) result q p row.same);
+  age = age_if result p.locks (published_by tokens r.held p.locks) q.locks row.table (age_published tokens r.held p.locks) (err_ap (λ (x : Parts). x.locks) result q p row.same);
   past = grew_same p.past q.past (ap (λ (x : Parts). x.past) row.rest);
   deeds = grew_if result (published_deeds tokens r.held) p.deeds q.deeds (published_keeps (kept_by_deeds p.deeds) tokens r.held) row.deeds (err_ap (λ (x : Parts). x.deeds) result q p row.same);
 }
 
-pub renewed_body : (result : Result Bool ErrorType) (m : Meta) (r : Request) (p q : Parts) → Revalidates result m r p q → Leads p q
-renewed_body result m r p q row = record {
+pub renewed_body : {result : Result Bool ErrorType} {m : Meta} {r s : Request} {p q : Parts} → Revalidates result m r s p q → Leads p q
+renewed_body {result} {m} {r} {s} {p} {q} row = record {
   limits = ap (λ (x : Parts). x.limits) row.rest;
   weighing = ap (λ (x : Parts). x.weighing) row.rest;
-  age = settled_at Done r.held p.locks q.locks row.locks;
+  age = settled_at Done r.held p.locks q.locks row.table;
   past = renews_keeps (kept_by_notes p.past) p.weighing p.limits (renewed_by m r.meta) r.key result (stock p) (stock q) row.renews (grew_not p.past);
   deeds = grew_by (settled_deeds Done r.held) p.deeds q.deeds (settled_keeps (kept_by_deeds p.deeds) Done r.held) row.deeds;
 }
 
-pub varied_on : (variance : Option (List ℕ)) (r : Request) (p q : Parts) → Varies variance r p q → Leads p q
-varied_on variance r p q row = record {
+pub varied_on : {result : Option LockName} {variance : Option (List ℕ)} {r s : Request} {p q : Parts} → Varies result variance r s p q → Leads p q
+varied_on {result} {variance} {r} {s} {p} {q} row = record {
   limits = ap (λ (x : Parts). x.limits) row.rest;
   weighing = ap (λ (x : Parts). x.weighing) row.rest;
-  age = age_as p.locks (table_varied variance r p.locks) q.locks row.locks (age_varied variance r p.locks);
+  age = age_as p.locks (table_varied variance r p.locks) q.locks row.table (age_varied variance r p.locks);
   past = grew_same p.past q.past (ap (λ (x : Parts). x.past) row.rest);
   deeds = grew_by (varied_deeds variance r) p.deeds q.deeds (varied_keeps (kept_by_deeds p.deeds) variance r) row.deeds;
 }
@@ -201,19 +195,19 @@ varied_on variance r p q row = record {
 begun_notes : (result : Result (Unit {0}) ErrorType) (r s : Request) (p q : Parts) → BeginsWrite result r s p q → Grew p.past q.past
 begun_notes (Ok a) r s p q row = grew_by (writing_past true p.store r) p.past q.past (writing_keeps (kept_by_notes p.past) true p.store r) row.past
 begun_notes (Err e) r s p q row = ⊎_elim (λ same. grew_as p.past q.past (Some p.past) same.2 (grew_not p.past))
-    (λ gone. grew_as p.past q.past (begun_past p.store r (Some p.past)) gone.2 (begun_keeps (kept_by_notes p.past) p.store r (Some p.past) (grew_not p.past))) row.failed
+    (λ gone. grew_as p.past q.past (begun_past p.store r (Some p.past)) gone.2 (begun_keeps (kept_by_notes p.past) p.store r (Some p.past) (grew_not p.past))) row.err
 
 begun_deeds : (result : Result (Unit {0}) ErrorType) (r s : Request) (p q : Parts) → BeginsWrite result r s p q → Grew p.deeds q.deeds
 begun_deeds (Ok a) r s p q row = grew_by (settled_deeds Done r.held) p.deeds q.deeds (settled_keeps (kept_by_deeds p.deeds) Done r.held) row.deeds
 begun_deeds (Err e) r s p q row = ⊎_elim (λ same. grew_as p.deeds q.deeds (Some p.deeds) same.4 (grew_not p.deeds))
-    (λ gone. grew_as p.deeds q.deeds (settled_deeds Done r.held (Some p.deeds)) gone.4 (settled_keeps (kept_by_deeds p.deeds) Done r.held (Some p.deeds) (grew_not p.deeds))) row.failed
+    (λ gone. grew_as p.deeds q.deeds (settled_deeds Done r.held (Some p.deeds)) gone.4 (settled_keeps (kept_by_deeds p.deeds) Done r.held (Some p.deeds) (grew_not p.deeds))) row.err
 
 begun_age : (result : Result (Unit {0}) ErrorType) (r s : Request) (p q : Parts) → BeginsWrite result r s p q → HasAgeOf p.locks q.locks
-begun_age (Ok a) r s p q row = settled_at Done r.held p.locks q.locks row.locks
-begun_age (Err e) r s p q row = ⊎_elim (λ same. age_as p.locks p.locks q.locks same.3 refl) (λ gone. settled_at Done r.held p.locks q.locks gone.3) row.failed
+begun_age (Ok a) r s p q row = settled_at Done r.held p.locks q.locks row.table
+begun_age (Err e) r s p q row = ⊎_elim (λ same. age_as p.locks p.locks q.locks same.3 refl) (λ gone. settled_at Done r.held p.locks q.locks gone.3) row.err
 
-pub begun : (result : Result (Unit {0}) ErrorType) (r s : Request) (p q : Parts) → BeginsWrite result r s p q → Leads p q
-begun result r s p q row = record {
+pub begun : {result : Result (Unit {0}) ErrorType} {r s : Request} {p q : Parts} → BeginsWrite result r s p q → Leads p q
+begun {result} {r} {s} {p} {q} row = record {
   limits = ap (λ (x : Parts). x.limits) row.rest;
   weighing = ap (λ (x : Parts). x.weighing) row.rest;
   age = begun_age result r s p q row;
@@ -228,13 +222,13 @@ ended_any (Ok (Some f)) is so = so (end.Stored f) is
 ended_any (Err e) (inl is) so = so (end.Dropped e) is
 ended_any (Err e) (inr is) so = so (end.Withdrawn e) is
 
-pub ended : (result : Result (Option FinishReport) ErrorType) (r : Request) (p q : Parts) → EndsWriteOf result r p q → MayEnd p.store r → Leads p q
-ended result r p q row may = record {
+pub ended : {result : Result (Option FinishReport) ErrorType} {r s : Request} {p q : Parts} → EndsWrite result r s p q → Leads p q
+ended {result} {r} {s} {p} {q} row = record {
   limits = row.limits;
   weighing = row.weighing;
-  age = ended_any result (row.ended may) (λ how is. age_ended in_memory r r.key r.write (entered p.weighing p.store r.write) p.limits how p.store q.store (tracked_at_end p r how) q.tracked p.locks q.locks is.0);
-  past = ended_any result (row.ended may) (λ how is. ends_request_keeps (kept_by_notes p.past) in_memory r.key r.write how (Some p.past) (Some q.past) is.1 (grew_not p.past));
-  deeds = ended_any result (row.ended may) (λ how is. grew_by (end_deeds r.write r.held how) p.deeds q.deeds (end_keeps (kept_by_deeds p.deeds) r.write r.held how) is.2);
+  age = ended_any result row.ended (λ how is. age_ended in_memory r r.key r.write (entered p.weighing p.store r.write) p.limits how p.store q.store (tracked_at_end p r how) q.tracked p.locks q.locks is.0);
+  past = ended_any result row.ended (λ how is. ends_request_keeps (kept_by_notes p.past) in_memory r.key r.write how (Some p.past) (Some q.past) is.1 (grew_not p.past));
+  deeds = ended_any result row.ended (λ how is. grew_by (end_deeds r.write r.held how) p.deeds q.deeds (end_keeps (kept_by_deeds p.deeds) r.write r.held how) is.2);
 }
 
 -- nothing changed

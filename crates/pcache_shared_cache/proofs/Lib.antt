@@ -7,6 +7,6 @@ pub mod Logs
 pub mod Parting
 pub mod Placing
 pub mod Pushed
-pub mod Rows
 pub mod Together
 pub mod Unlocked
+pub mod Words

@@ -1,10 +1,7 @@
 -- Logs that go on, and what was seen of them.
-use Rattle.std.proofs.Common.{◌≡◌, ◌<◌, inl, inr, ℕ, suc, zero, Option, Some, None, List, [], ◌∷◌, ◌++◌, append_assoc, length, slice_get, refl, sym, ap, subst, ◌∙◌, arith}
-use Rattle.std.specs.List.{All}
-use Rattle.std.specs.Prelude.{slice_index_or}
 use Rattle.std.proofs.lemmas.List.{append-nil}
-use Rattle.pcache_cache.specs.Parts.{Parts}
-use Rattle.pcache_shared_cache.specs.Seen.{Begins, Begun, EndsWith, Goes, Held, IsLog, IsSound, Leads, Looks, Moves, Sees, first_of, goes_on, limits_in}
+use Rattle.pcache_shared_cache.specs.Seen.{IsLog, Looks, Moves, Sees, goes_on}
+use Rattle.pcache_shared_cache.proofs.Words.{◌≡◌, ◌<◌, inl, inr, ℕ, suc, zero, Option, Some, None, List, [], ◌∷◌, ◌++◌, append_assoc, length, slice_get, refl, sym, ap, subst, ◌∙◌, arith, All, slice_index_or, Parts, Begins, Begun, EndsWith, Goes, Held, IsSound, Leads, first_of, limits_in}
 
 goes : (x : Parts) (l : List Parts) (p q : Parts) → goes_on x (l ++ p ∷ []) → Leads p q → IsSound q → goes_on x ((l ++ p ∷ []) ++ q ∷ [])
 goes x [] p q is leads sound = (is.0, ((leads, sound), tt))

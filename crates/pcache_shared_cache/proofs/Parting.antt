@@ -1,12 +1,8 @@
 -- The managers of all parts, handed out by place.
-use Rattle.std.proofs.Common.{◌≡◌, ◌∙◌, List, [], ◌∷◌, ◌++◌, map, refl, ap, sym, append_assoc, append-nil}
-use Rattle.std.specs.List.{All}
-use Rattle.std.proofs.lemmas.List.{map-append}
-use Rattle.std.proofs.lemmas.List.Elements.{All-push}
-use Rattle.pcache_cache.specs.Parts.{Parts}
-use Rattle.pcache_evict.specs.Tracked.{Evicted, Limits, Tracked}
-use Rattle.pcache_shared_cache.specs.Managed.{Managed, Portioned, managed, managed_in}
-use Rattle.pcache_shared_cache.specs.Shared.{OfPart, InParts}
+use Rattle.std.proofs.Common.{append-nil}
+use Rattle.pcache_shared_cache.specs.Managed.{managed}
+use Rattle.pcache_shared_cache.specs.Shared.{InParts}
+use Rattle.pcache_shared_cache.proofs.Words.{◌≡◌, ◌∙◌, List, [], ◌∷◌, ◌++◌, map, refl, ap, sym, append_assoc, All, map-append, All-push, Parts, Evicted, Limits, Tracked, Managed, Portioned, managed_in, OfPart}
 use Rattle.pcache_shared_cache.proofs.Together.{Kept}
 
 -- these are the managers of the first parts, as what they show says, and this is left

@@ -1,12 +1,8 @@
 -- The parts of a cache as they are made, each at its place and with the name that the mark has for it.
-use Rattle.std.proofs.Common.{◌≡◌, ◌⊎◌, ⊎_elim, inl, inr, ℕ, ◌+◌, zero, suc, ◌++◌, List, [], ◌∷◌, Option, None, Some, append_assoc, append-nil, length, map, slice_get, refl, sym, ap, subst, ◌∙◌}
-use Rattle.std.proofs.lemmas.List.{length-append, map-append}
-use Rattle.std.proofs.lemmas.Simd.{map-map}
-use Rattle.std.specs.Prelude.{IfOk, Result, Ok, Err}
-use Rattle.pcache_cache.specs.Parts.{Parts}
-use Rattle.pcache_evict.specs.Tracked.{Evicted, Limits, Tracked}
-use Rattle.pcache_shared_cache.specs.Managed.{Portioned, Unmade, managed_in, no_entries, opened, unmade_managed, unmade_name, unmade_portion}
-use Rattle.pcache_shared_cache.specs.Seen.{AreNamed, ArePlaced, Begun, IsNamed, begun_first, limits_in}
+use Rattle.std.proofs.Common.{◌⊎◌, append-nil}
+use Rattle.std.proofs.lemmas.List.{length-append}
+use Rattle.pcache_shared_cache.specs.Seen.{AreNamed, ArePlaced}
+use Rattle.pcache_shared_cache.proofs.Words.{◌≡◌, ⊎_elim, inl, inr, ℕ, ◌+◌, zero, suc, ◌++◌, List, [], ◌∷◌, Option, None, Some, append_assoc, length, map, slice_get, refl, sym, ap, subst, ◌∙◌, map-append, map-map, IfOk, Result, Ok, Err, Parts, Evicted, Limits, Tracked, Portioned, Unmade, managed_in, no_entries, opened, unmade_managed, unmade_name, unmade_portion, Begun, IsNamed, begun_first, limits_in}
 
 -- an element of a longer list is one of the list, or the last
 got : {A : Type 0} (xs : List A) (b p : A) (i : ℕ) → slice_get (xs ++ b ∷ []) i ≡ Some p → (slice_get xs i ≡ Some p) ⊎ ((length xs ≡ i) × (Some b ≡ Some p))

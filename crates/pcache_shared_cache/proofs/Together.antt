@@ -1,17 +1,10 @@
 -- All parts together.
-use Rattle.std.proofs.Common.{◌≡◌, ℕ, ◌+◌, ◌*◌, ◌-◌, ◌^◌, ◌<◌, ◌≤◌, suc, zero, List, [], ◌∷◌, ◌++◌, map, take, length, refl, ap, sym, ◌∙◌, arith}
-use Rattle.std.specs.Prelude.{IfOk, IfSome, Option, None, Some, Result, Ok, Err, slice_index_or, sum, sum_by}
-use Rattle.std.specs.List.{All, range_with_len}
-use Rattle.std.proofs.lemmas.List.{map-append, take_more}
-use Rattle.std.proofs.lemmas.List.Elements.{All-push}
-use Rattle.std.proofs.lemmas.Simd.{map-map}
-use Rattle.std.proofs.lemmas.List.Sums.{sum_by-append, sum_by-cons}
-use Rattle.pcache_evict.specs.Tracked.{Limits}
-use Rattle.pcache_cache.specs.Parts.{Parts, IsKept}
-use Rattle.pcache_store.specs.Totals.{slots, stored_bytes}
-use Rattle.pcache_shared_cache.specs.Portions.{added_watermark, portion, portion_at, portions, whole_watermark, whole_weight}
-use Rattle.pcache_shared_cache.specs.Seen.{Begun, begun_first, limits_in}
-use Rattle.pcache_shared_cache.specs.Shared.{OfPart}
+use Rattle.std.proofs.Common.{◌-◌, ◌^◌}
+use Rattle.std.proofs.lemmas.List.{take_more}
+use Rattle.std.proofs.lemmas.List.Sums.{sum_by-append}
+use Rattle.pcache_evict.specs.declared.eviction.policy.EvictionPolicy.{EvictionPolicy}
+use Rattle.pcache_shared_cache.specs.Portions.{added_watermark}
+use Rattle.pcache_shared_cache.proofs.Words.{◌≡◌, ℕ, ◌+◌, ◌*◌, ◌<◌, ◌≤◌, suc, zero, List, [], ◌∷◌, ◌++◌, map, take, length, refl, ap, sym, ◌∙◌, arith, IfOk, IfSome, Option, None, Some, Result, Ok, Err, slice_index_or, sum, sum_by, All, range_with_len, map-append, All-push, map-map, sum_by-cons, Limits, Parts, IsKept, slots, stored_bytes, portion, portion_at, portions, whole_watermark, whole_weight, Begun, begun_first, limits_in, OfPart}
 use Rattle.pcache_shared_cache.proofs.Adding.{add_up}
 
 abbrev pub Kept : Parts → Type 0
@@ -60,13 +53,13 @@ sums-same g f h same a (suc n) =
     let rest = sums-same g f h same (a + 1) n in
     omega (arith, left, right, first, rest)
 
-pub portions-whole : (n limit : ℕ) (watermark : Option ℕ) → 0 < n → whole_weight (portions n limit watermark) ≡ limit
-portions-whole n limit watermark some = sums-same (λ (l : Limits). l.weight) (portion_at n limit watermark) (portion limit n) (λ j. refl) 0 n ∙ add_up limit n some
+pub portions-whole : (policy : EvictionPolicy) (n limit : ℕ) (watermark : Option ℕ) → 0 < n → whole_weight (portions policy n limit watermark) ≡ limit
+portions-whole policy n limit watermark some = sums-same (λ (l : Limits). l.weight) (portion_at policy n limit watermark) (portion limit n) (λ j. refl) 0 n ∙ add_up limit n some
 
 -- what a call that may fail makes has the whole, if its parts have their portions
-pub ok-whole : {E : Type 0} (n limit : ℕ) (watermark : Option ℕ) (result : Result (List Parts) E) → 0 < n → IfOk result (λ c. limits_in c ≡ portions n limit watermark) → IfOk result (λ c. whole_weight (limits_in c) ≡ limit)
-ok-whole n limit watermark (Ok c) some is = ap whole_weight is ∙ portions-whole n limit watermark some
-ok-whole n limit watermark (Err e) some is = tt
+pub ok-whole : {E : Type 0} (policy : EvictionPolicy) (n limit : ℕ) (watermark : Option ℕ) (result : Result (List Parts) E) → 0 < n → IfOk result (λ c. limits_in c ≡ portions policy n limit watermark) → IfOk result (λ c. whole_weight (limits_in c) ≡ limit)
+ok-whole policy n limit watermark (Ok c) some is = ap whole_weight is ∙ portions-whole policy n limit watermark some
+ok-whole policy n limit watermark (Err e) some is = tt
 
 -- the numbers of bodies, if each part has a watermark
 pub within-count : (ps : List Parts) → All Kept ps → IfSome (whole_watermark (map (λ (p : Parts). p.limits) ps)) (λ most. sum_by (λ (p : Parts). slots p.store) ps ≤ most)

@@ -6,7 +6,8 @@ use Rattle.pcache_cache.specs.Growing.{Grew}
 use Rattle.pcache_cache.specs.Parts.{Parts, IsBounded, TracksExactly}
 use Rattle.pcache_cache.specs.Strays.{SumsToStored}
 use Rattle.pcache_cache.specs.declared.weighing.Weighing.TheVariants.{Entries}
-use Rattle.pcache_evict.specs.Tracked.{Limits}
+use Rattle.pcache_evict.specs.declared.eviction.policy.EvictionPolicy.TheVariants.{Own}
+use Rattle.pcache_evict.specs.Tracked.{Limits, limits_of}
 use Rattle.pcache_lock.specs.PastLaws.{AtMostOneWaits, GivesByPast, OneFetchAtATime}
 use Rattle.pcache_shared_cache.specs.Managed.{no_entries, opened}
 use Rattle.pcache_store.specs.PastLaws.{BodiesAreLast, BodiesGrow, Finds, Finishes, FoundIsOfItsWrite, NothingIsLost, PurgedIsGone, ReadsInOrder}
@@ -36,7 +37,7 @@ StartsWith log first = log ≡ first ∷ []
 
 -- the first state of a log; the log of a part has one
 abbrev pub first_of : List Parts → Parts
-first_of [] = opened 0 (no_entries (record { weight = 0; watermark = None }))
+first_of [] = opened 0 (no_entries (limits_of Own 0 None))
 first_of (p ∷ later) = p
 
 -- the limits of these states

@@ -1,12 +1,13 @@
 -- Encodings of what contracts see of a part and of its requests, which the values of models need (own).
 use denote.Builtin.{unit}
-use Rattle.std.specs.Prelude.{ℕ, List, Option, refl}
-use Rattle.std.specs.Coded.{Coded, code_by, coded×, coded_list, coded_ℕ, coded_option}
+use Rattle.std.specs.Prelude.{ℕ, List, refl}
+use Rattle.std.specs.Coded.{Coded, code_by, coded×, coded_list, coded_ℕ}
 use Rattle.std.specs.FinMap.{code}
 use Rattle.pcache_cache.specs.Parts.{Parts}
 use Rattle.pcache_cache.specs.PartsCode.{parts_code}
 use Rattle.pcache_cache.specs.contracts.request.CacheRequest as request_row
-use Rattle.pcache_evict.specs.Tracked.{Tracked}
+use Rattle.pcache_evict.specs.LimitsCode.{limits_code}
+use Rattle.pcache_evict.specs.Tracked.{Limits, Tracked}
 use Rattle.pcache_evict.specs.contracts.eviction.entry_key.CacheEntryKey as key_row
 use Rattle.pcache_request.specs.Requests.{Request}
 use Rattle.pcache_shared_cache.specs.Managed.{Managed}
@@ -28,8 +29,8 @@ firsts_code = coded_list parts_code
 
 abbrev pub managers_code : Coded (List Managed)
 managers_code =
-    coded_list (code_by (Tracked × ((ℕ × Option ℕ) × (ℕ × ℕ))) (coded× (code key_row.the_row.coded coded_ℕ) (coded× (coded× coded_ℕ (coded_option coded_ℕ)) (coded× coded_ℕ coded_ℕ)))
-    (λ m. (m.tracked, ((m.limits.weight, m.limits.watermark), (m.evicted.weight, m.evicted.count)))) (λ q. record { tracked = q.0; limits = record { weight = q.1.0.0; watermark = q.1.0.1 }; evicted = record { weight = q.1.1.0; count = q.1.1.1 } }) (λ _. refl))
+    coded_list (code_by (Tracked × (Limits × (ℕ × ℕ))) (coded× (code key_row.the_row.coded coded_ℕ) (coded× limits_code (coded× coded_ℕ coded_ℕ)))
+    (λ m. (m.tracked, (m.limits, (m.evicted.weight, m.evicted.count)))) (λ q. record { tracked = q.0; limits = q.1.0; evicted = record { weight = q.1.1.0; count = q.1.1.1 } }) (λ _. refl))
 
 abbrev request_code : Coded Request
 request_code = code_by ((request_row.the_row unit).Denot) ((request_row.the_row unit).coded) (λ r. record { cache = r; of = record {} }) (λ d. d.cache) (λ _. refl)

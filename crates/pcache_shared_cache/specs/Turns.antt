@@ -4,9 +4,10 @@ use Rattle.std.specs.Prelude.{◌≡◌, ◌⊎◌, ◌<◌, ℕ, zero, suc, Lis
 use Rattle.pcache_base.specs.declared.error.ErrorType.{ErrorType}
 use Rattle.pcache_base.specs.declared.poll.Poll.{Poll}
 use Rattle.pcache_base.specs.declared.poll.Poll.TheVariants.{Pending}
+use Rattle.pcache_cache.specs.Locking.{Waits}
+use Rattle.pcache_cache.specs.Looking.{Reads}
 use Rattle.pcache_cache.specs.Parts.{Parts}
 use Rattle.pcache_lock.specs.declared.lock.outcome.LockWaitOutcome.{LockWaitOutcome}
-use Rattle.pcache_shared_cache.specs.Calls.{Reads, Waits}
 use Rattle.pcache_shared_cache.specs.Seen.{Goes, Sees}
 use Rattle.pcache_shared_cache.specs.Shared.{Seated}
 

@@ -17,7 +17,8 @@ impl<M: EvictionManager, K: Mark, const N: usize> SharedCache<M, K, N> {
     ghost use Rattle.pcache_put.specs.State.{Filled, HasTaken, limit_of, write_in};
     ghost use Rattle.pcache_put.specs.Steps.{EndsAs, IsStageAfter, RepeatsResult, TellsResult};
     ghost use Rattle.pcache_shared_cache.specs.Seen.{Goes};
-    ghost use Rattle.pcache_shared_cache.specs.SharedPuts.{DropsLeft, EndsPutOf, TakesIn};
+    ghost use Rattle.pcache_cache.specs.Feeding.{DropsLeft, TakesIn};
+    ghost use Rattle.pcache_shared_cache.specs.SharedPuts.{EndsPutOf};
 
     /// `Cache::cache_put` in the put's part: takes in the next piece of the response. Answers why nothing is stored, once that is so.
     /// The piece is read, and the policy asked once the head has come, before the part is locked: it is free to call the cache.
@@ -52,7 +53,7 @@ impl<M: EvictionManager, K: Mark, const N: usize> SharedCache<M, K, N> {
         put: &mut SharedPut<C, K, N>,
     ) -> Result<PutOutcome>
         ensures goes { Goes self.now K.names put.old.place put.old.seen put.new.seen
-            (EndsPutOf result put.old.put put.new.put) }
+            (EndsPutOf result (C.says put.old.put.policy) put.old.put put.new.put) }
         ensures tells { (pieces : List Piece) (f : Option Filled)
             → HasTaken (C.says put.old.put.policy) put.old.put pieces f
             → EndsAs result (TellsResult

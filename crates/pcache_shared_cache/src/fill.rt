@@ -15,7 +15,8 @@ impl<M: EvictionManager, K: Mark, const N: usize> SharedCache<M, K, N> {
     ghost use Rattle.pcache_request.specs.Phases.{IsFilling};
     ghost use Rattle.pcache_request.specs.Requests.{MayWrite};
     ghost use Rattle.pcache_request.specs.Sizes.{exceeds_head};
-    ghost use Rattle.pcache_shared_cache.specs.Calls.{BeginsWrite, EndsWriteOf, Writes};
+    ghost use Rattle.pcache_cache.specs.Filling.{BeginsWrite, Writes};
+    ghost use Rattle.pcache_shared_cache.specs.Calls.{EndsWriteOf};
     ghost use Rattle.pcache_cache.specs.Weighing.{written_head};
     ghost use Rattle.pcache_shared_cache.specs.Seen.{Goes, Sees};
 
@@ -47,7 +48,7 @@ impl<M: EvictionManager, K: Mark, const N: usize> SharedCache<M, K, N> {
     ) -> Result<bool>
         requires { IsFilling request.old.cache.phase }
         ensures goes { Goes self.now K.names request.old.place request.old.seen request.new.seen
-            (Writes result bytes eof request.old.cache) }
+            (Writes result bytes eof request.old.cache request.new.cache) }
         ensures rest { request.new ≡ record request.old { seen = request.new.seen } }
         ensures kind { IfErr result (λ e. e ≡ OutOfMemory) }
     {
@@ -96,7 +97,7 @@ impl<M: EvictionManager, K: Mark, const N: usize> SharedCache<M, K, N> {
     ) -> Result<Option<FinishReport>>
         requires { IsFilling request.old.cache.phase }
         ensures goes { Goes self.now K.names request.old.place request.old.seen request.new.seen
-            (EndsWriteOf result request.old.cache) }
+            (EndsWriteOf result request.old.cache request.new.cache) }
         ensures ok { OnOk result (request.new.cache ≡ after_finish request.old.cache) }
         ensures err { OnErr result ((request.new.cache ≡ request.old.cache)
             ⊎ (request.new.cache ≡ after_finish request.old.cache)) }

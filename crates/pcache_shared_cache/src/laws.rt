@@ -2,6 +2,7 @@
 ghost use Rattle.std.specs.Prelude.{◌≡◌, ◌<◌, ◌≤◌, ℕ, All, IfSome, List, Option, map, sum, sum_by};
 ghost use Rattle.std.specs.List.{range_with_len};
 ghost use Rattle.pcache_cache.specs.Parts.{IsKept, Parts};
+ghost use Rattle.pcache_evict.specs.declared.eviction.policy.EvictionPolicy.{EvictionPolicy};
 ghost use Rattle.pcache_store.specs.Totals.{slots, stored_bytes};
 ghost use Rattle.pcache_shared_cache.specs.Portions.{portion, portions, whole_watermark, whole_weight};
 ghost use Rattle.pcache_shared_cache.specs.Seen.{IsLog, first_of};
@@ -11,9 +12,9 @@ pub fn portions_add_up()
     ensures parts { (whole n : ℕ)
         → 0 < n
         → sum (map (portion whole n) (range_with_len 0 n)) ≡ whole }
-    ensures limits { (n limit : ℕ) (watermark : Option ℕ)
+    ensures limits { (policy : EvictionPolicy) (n limit : ℕ) (watermark : Option ℕ)
         → 0 < n
-        → whole_weight (portions n limit watermark) ≡ limit }
+        → whole_weight (portions policy n limit watermark) ≡ limit }
 {}
 
 /// Parts that each keep their own limits together keep the whole limits, at any moment: the sum of the lengths of their

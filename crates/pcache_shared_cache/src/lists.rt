@@ -2,6 +2,7 @@
 ghost use Rattle.std.specs.Prelude.{◌≡◌, ◌<◌, IfErr, IfOk, length, map};
 ghost use Rattle.pcache_shared_cache.specs.Managed.{listed, no_entries, unmade_limits, unmade_portion};
 ghost use Rattle.pcache_base.specs.declared.error.ErrorType.TheVariants.{OutOfMemory};
+ghost use Rattle.pcache_evict.specs.declared.eviction.policy.EvictionPolicy.TheVariants.{Lru};
 ghost use Rattle.pcache_shared_cache.specs.Portions.{portion_at, portions};
 
 use crate::mark::Mark;
@@ -11,6 +12,7 @@ use crate::shared::SharedCache;
 use crate::split::{portion_of, portion_of_watermark};
 use pcache_base::error::Result;
 use pcache_base::seed::Seed;
+use pcache_evict::eviction::EvictionPolicy;
 use pcache_evict::eviction::simple_lru::Manager;
 use std::alloc::Global;
 use std::time::Duration;
@@ -20,6 +22,7 @@ impl<K: Mark, const N: usize> SharedCache<Manager, K, N> {
     ghost use Rattle.pcache_base.specs.declared.error.ErrorType.TheVariants.{OutOfMemory};
     ghost use Rattle.std.specs.Duration.{as_nanos};
     ghost use Rattle.pcache_shared_cache.specs.Managed.{no_entries, opened};
+    ghost use Rattle.pcache_evict.specs.declared.eviction.policy.EvictionPolicy.TheVariants.{Lru};
     ghost use Rattle.pcache_shared_cache.specs.Portions.{portions, whole_weight};
     ghost use Rattle.pcache_shared_cache.specs.Seen.{limits_in};
 
@@ -37,8 +40,9 @@ impl<K: Mark, const N: usize> SharedCache<Manager, K, N> {
         requires some { 0 < N }
         requires unnamed { (place : ℕ) → K.names place ≡ None }
         ensures begins { IfOk result (λ c. c
-            ≡ map (opened (as_nanos age_timeout)) (map no_entries (portions N limit watermark))) }
-        ensures limits { IfOk result (λ c. limits_in c ≡ portions N limit watermark) }
+            ≡ map (opened (as_nanos age_timeout))
+            (map no_entries (portions Lru N limit watermark))) }
+        ensures limits { IfOk result (λ c. limits_in c ≡ portions Lru N limit watermark) }
         ensures whole { IfOk result (λ c. whole_weight (limits_in c) ≡ limit) }
         ensures kind { IfErr result (λ e. e ≡ OutOfMemory) }
     {
@@ -59,9 +63,9 @@ pub fn new_lists(
 ) -> Result<Vec<NewPart<Manager>>>
     requires { 0 < parts }
     ensures limits { IfOk result (λ v.
-        map unmade_limits v.items ≡ portions parts limit watermark) }
+        map unmade_limits v.items ≡ portions Lru parts limit watermark) }
     ensures empty { IfOk result (λ v. map listed (map unmade_portion v.items)
-        ≡ map no_entries (portions parts limit watermark)) }
+        ≡ map no_entries (portions Lru parts limit watermark)) }
     ensures count { IfOk result (λ v. length v.items ≡ parts) }
     ensures kind { IfErr result (λ e. e ≡ OutOfMemory) }
 {
@@ -82,13 +86,13 @@ fn list_at(
     place: usize,
 ) -> Result<Portion<Manager>>
     requires { 0 < parts }
-    ensures limits { IfOk result (λ p. p.limits ≡ portion_at parts limit watermark place) }
+    ensures limits { IfOk result (λ p. p.limits ≡ portion_at Lru parts limit watermark place) }
     ensures empty { IfOk result (λ p.
-        listed p ≡ no_entries (portion_at parts limit watermark place)) }
+        listed p ≡ no_entries (portion_at Lru parts limit watermark place)) }
     ensures kind { IfErr result (λ e. e ≡ OutOfMemory) }
 {
     let limit = portion_of(limit, parts, place);
     let watermark = portion_of_watermark(watermark, parts, place);
     let list = Manager::new_with_watermark(alloc, seed, limit, watermark)?;
-    Ok(Portion::new(list, limit, watermark))
+    Ok(Portion::new(list, EvictionPolicy::Lru, limit, watermark))
 }

@@ -23,7 +23,7 @@ impl<M: EvictionManager, K: Mark, const N: usize> SharedCache<M, K, N> {
     ghost use Rattle.pcache_request.specs.Phases.{IsOn};
     ghost use Rattle.pcache_request.specs.Releasing.{MayRelease, status_for};
     ghost use Rattle.pcache_request.specs.Reports.{name_of, released_as};
-    ghost use Rattle.pcache_shared_cache.specs.Calls.{Publishes, Releases, TakesPermit, Waits};
+    ghost use Rattle.pcache_cache.specs.Locking.{Publishes, Releases, TakesPermit, Waits};
     ghost use Rattle.pcache_shared_cache.specs.Seen.{Begins, Goes};
     ghost use Rattle.pcache_shared_cache.specs.Turns.{AsksOfWait, InTurns};
 
@@ -85,7 +85,7 @@ impl<M: EvictionManager, K: Mark, const N: usize> SharedCache<M, K, N> {
     ) -> Option<ReleasedLock>
         requires { MayRelease reason request.old.cache.held }
         ensures goes { Goes self.now K.names request.old.place request.old.seen request.new.seen
-            (Releases (status_for (λ text. GiveUp) reason) request.old.cache) }
+            (Releases result reason request.old.cache request.new.cache) }
         ensures request { request.new.cache ≡ unheld request.old.cache }
         ensures place { request.new.place ≡ request.old.place }
         ensures released { result
@@ -109,7 +109,7 @@ impl<M: EvictionManager, K: Mark, const N: usize> SharedCache<M, K, N> {
         requires phase { IsOn request.old.cache.phase }
         requires place { permit.place ≡ request.old.place }
         ensures goes { Goes self.now K.names request.old.place request.old.seen request.new.seen
-            (TakesPermit permit.permit request.old.cache) }
+            (TakesPermit result permit.permit request.old.cache request.new.cache) }
         ensures follows { Begins (K.names request.old.place) permit.seen request.new.seen }
         ensures request { request.new.cache ≡ handed permit.permit request.old.cache }
         ensures stays { request.new.place ≡ request.old.place }

@@ -24,7 +24,9 @@ impl<M: EvictionManager, K: Mark, const N: usize> SharedCache<M, K, N> {
     ghost use Rattle.pcache_request.specs.Reports.{name_of};
     ghost use Rattle.pcache_request.specs.Requests.{HoldsNothing, asks_for_hit, length_by, whole_by, without_reader};
     ghost use Rattle.pcache_store.specs.Readers.{reader_of};
-    ghost use Rattle.pcache_shared_cache.specs.Calls.{Disables, EndsHit, EndsRequest, FindsBody, LetsGo, LooksUp, Reads, TakesFound};
+    ghost use Rattle.pcache_cache.specs.Ending.{Disables, EndsRequest};
+    ghost use Rattle.pcache_cache.specs.Looking.{EndsHit, LetsGo, LooksUp, Reads, TakesFound};
+    ghost use Rattle.pcache_shared_cache.specs.Calls.{FindsBody};
     ghost use Rattle.pcache_shared_cache.specs.Seen.{Begins, Goes, Sees};
     ghost use Rattle.pcache_shared_cache.specs.Turns.{InTurns, ReadsBody};
 
@@ -242,7 +244,7 @@ impl<M: EvictionManager, K: Mark, const N: usize> SharedCache<M, K, N> {
         requires { MayFinishHit request.old.cache.phase }
         ensures goes { reads_alone request.old.cache.reader ≡ false
             → Goes self.now K.names request.old.place request.old.seen request.new.seen
-            (EndsHit request.old.cache) }
+            (EndsHit result request.old.cache request.new.cache) }
         ensures alone { reads_alone request.old.cache.reader ≡ true
             → request.new.seen ≡ request.old.seen }
         ensures request { request.new.cache ≡ without_reader request.old.cache }
@@ -272,7 +274,7 @@ impl<M: EvictionManager, K: Mark, const N: usize> SharedCache<M, K, N> {
     ) -> Option<LockName>
         requires { MayDisable reason request.old.cache }
         ensures goes { Goes self.now K.names request.old.place request.old.seen request.new.seen
-            (Disables reason request.old.cache) }
+            (Disables result reason request.old.cache request.new.cache) }
         ensures request { request.new.cache ≡ disabled_for reason request.old.cache }
         ensures place { request.new.place ≡ request.old.place }
         ensures off { IsDisabled request.new.cache.phase }
@@ -291,7 +293,7 @@ impl<M: EvictionManager, K: Mark, const N: usize> SharedCache<M, K, N> {
     pub fn end<R: Wait>(&self, rt: &R, request: SharedRequest<K, N>) -> Ended<K>
         ensures ends { (MayEndAlone request.cache × (result.sight.log ≡ request.seen))
             ⊎ Goes self.now K.names request.place request.seen result.sight.log
-            (EndsRequest request.cache) }
+            (EndsRequest result.released request.cache) }
         ensures place { result.sight.place ≡ request.place }
         ensures released { result.released ≡ option_map name_of request.cache.held }
     {

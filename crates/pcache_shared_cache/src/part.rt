@@ -5,7 +5,7 @@ use crate::opening::NewPart;
 use crate::portion::Portion;
 use pcache_base::seed::Seed;
 use pcache_cache::{Cache, Weighing};
-use pcache_evict::eviction::EvictionManager;
+use pcache_evict::eviction::{EvictionManager, EvictionPolicy};
 use std::alloc::Global;
 use std::hint::spin_loop;
 use std::marker::Model;
@@ -52,11 +52,12 @@ impl<M: EvictionManager, K: Mark> Part<M, K> {
 
 // One part behind its lock, and its beginning. A contract sees the place of the part, and the state in which it began.
 //
-// Of the value that a lock lends only the type is known. Therefore the place and the limits are kept beside the lock too, and the
-// part is lent only if it has the same ones. It has them at the first try: `new` puts such a part under the lock, and no call
-// changes a manager's limits.
+// Of the value that a lock lends only the type is known. Therefore the place, the limits and the policy are kept beside the lock
+// too, and the part is lent only if it has the same ones. It has them at the first try: `new` puts such a part under the lock, and
+// no call changes a manager's limits or its policy.
 #[derive(Drop)]
 pub(crate) struct PartLock<M: EvictionManager, K: Mark> {
+    policy: EvictionPolicy,
     limit: usize,
     watermark: Option<usize>,
     beginning: Sight<K>,
@@ -75,7 +76,7 @@ impl<M: EvictionManager, K: Mark> Model for PartLock<M, K> {
 
     ghost view = { λ p. record { place = p.beginning.place; first = first_of p.beginning.log } };
 
-    ghost invariant = { λ p. StartsWith p.beginning.log (first_of p.beginning.log) × ((first_of p.beginning.log).limits ≡ limits_of p.limit p.watermark) };
+    ghost invariant = { λ p. StartsWith p.beginning.log (first_of p.beginning.log) × ((first_of p.beginning.log).limits ≡ limits_of p.policy p.limit p.watermark) };
 }
 
 impl<M: EvictionManager, K: Mark> PartLock<M, K> {
@@ -102,11 +103,13 @@ impl<M: EvictionManager, K: Mark> PartLock<M, K> {
             ≡ opened (as_nanos age_timeout) (managed_in M.tracked M.evicted new_part.portion) }
     {
         let (portion, keeper) = new_part.into_both();
+        let policy = portion.policy();
         let limit = portion.limit();
         let watermark = portion.watermark();
         let cache = Cache::with_weighing(alloc, seed, portion, age_timeout, Weighing::Entries);
         let mut log = PartLog::new(place, keeper, &cache);
         PartLock {
+            policy,
             limit,
             watermark,
             beginning: log.see(),
@@ -136,8 +139,7 @@ impl<M: EvictionManager, K: Mark> PartLock<M, K> {
             let part = self.take(rt);
             let portion = part.cache.manager();
             if part.log.place() == self.beginning.place()
-                && portion.limit() == self.limit
-                && portion.watermark() == self.watermark
+                && portion.has_limits(self.policy, self.limit, self.watermark)
             {
                 part.cache.is_kept();
                 return part;
@@ -157,12 +159,13 @@ impl<M: EvictionManager, K: Mark> PartLock<M, K> {
         self.part.lock(rt)
     }
 
-    // The part's manager. It has the limits that stand beside the lock (see the type), so that this does not wait.
+    // The part's manager. It has the limits and the policy that stand beside the lock (see the type), so that this does not wait.
     pub(crate) fn into_portion<R: Wait>(self, rt: &R) -> Portion<M>
         ensures { OfPart self.first.limits (λ p.
             managed_in M.tracked M.evicted result ≡ managed p) }
     {
         let PartLock {
+            policy,
             limit,
             watermark,
             beginning: _,
@@ -171,10 +174,10 @@ impl<M: EvictionManager, K: Mark> PartLock<M, K> {
         let cache = part.into_inner().into_cache();
         cache.is_kept();
         let portion = cache.into_manager();
-        if portion.limit() == limit && portion.watermark() == watermark {
+        if portion.has_limits(policy, limit, watermark) {
             return portion;
         }
-        // Never reached. As `lock`, it would not return with a part that has other limits.
+        // Never reached. As `lock`, it would not return with a part that has other limits or another policy.
         for _ in rt.forever() {}
         unreachable!()
     }

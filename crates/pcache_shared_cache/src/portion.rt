@@ -1,17 +1,18 @@
-//! An eviction manager with its limits as numbers.
-ghost use Rattle.std.specs.Prelude.{◌≡◌};
+//! An eviction manager with its limits as numbers, and the name of its policy.
+ghost use Rattle.std.specs.Prelude.{◌≡◌, ◌↔◌, IsTrue};
 ghost use Rattle.pcache_evict.specs.Tracked.{limits_of};
 
 use pcache_base::error::Result;
 use pcache_base::moment::Moment;
-use pcache_evict::eviction::{CacheEntryKey, EvictionManager};
+use pcache_evict::eviction::{CacheEntryKey, EvictionManager, EvictionPolicy};
 use std::marker::Model;
 
-/// An eviction manager, together with its limits as numbers, for which a manager itself has no
-/// getters.
+/// An eviction manager, together with its limits as numbers and the name of its policy, for which a
+/// manager itself has no getters.
 #[derive(Drop)]
 pub struct Portion<M: EvictionManager> {
     manager: M,
+    policy: EvictionPolicy,
     limit: usize,
     watermark: Option<usize>,
 }
@@ -23,22 +24,36 @@ impl<M: EvictionManager> Model for Portion<M> {
 
     ghost Value = { Portioned M };
 
-    ghost view = { λ p. record { manager = p.manager; limits = limits_of p.limit p.watermark } };
+    ghost view = { λ p. record { manager = p.manager; limits = limits_of p.policy p.limit p.watermark } };
 
-    ghost invariant = { λ p. M.limits p.manager ≡ limits_of p.limit p.watermark };
+    ghost invariant = { λ p. M.limits p.manager ≡ limits_of p.policy p.limit p.watermark };
 }
 
 impl<M: EvictionManager> Portion<M> {
-    /// A manager, together with its limits.
-    pub fn new(manager: M, limit: usize, watermark: Option<usize>) -> Portion<M>
-        requires { M.limits manager ≡ limits_of limit watermark }
-        ensures { result ≡ record { manager = manager; limits = limits_of limit watermark } }
+    /// A manager, together with its limits and the policy that it goes by.
+    pub fn new(
+        manager: M,
+        policy: EvictionPolicy,
+        limit: usize,
+        watermark: Option<usize>,
+    ) -> Portion<M>
+        requires { M.limits manager ≡ limits_of policy limit watermark }
+        ensures { result
+            ≡ record { manager = manager; limits = limits_of policy limit watermark } }
     {
         Portion {
             manager,
+            policy,
             limit,
             watermark,
         }
+    }
+
+    /// The policy that it goes by.
+    pub fn policy(&self) -> EvictionPolicy
+        ensures { result ≡ self.now.limits.policy }
+    {
+        self.policy
     }
 
     /// The limit on the sum of the weights of its entries.
@@ -55,6 +70,18 @@ impl<M: EvictionManager> Portion<M> {
         self.watermark
     }
 
+    // Whether it has these limits and goes by this policy.
+    pub(crate) fn has_limits(
+        &self,
+        policy: EvictionPolicy,
+        limit: usize,
+        watermark: Option<usize>,
+    ) -> bool
+        ensures { IsTrue result ↔ (self.now.limits ≡ limits_of policy limit watermark) }
+    {
+        self.policy == policy && self.limit == limit && self.watermark == watermark
+    }
+
     /// The manager itself, of which nothing else is left.
     pub fn into_manager(self) -> M
         ensures manager { result ≡ self.manager }
@@ -62,6 +89,7 @@ impl<M: EvictionManager> Portion<M> {
     {
         let Portion {
             manager,
+            policy: _,
             limit: _,
             watermark: _,
         } = self;

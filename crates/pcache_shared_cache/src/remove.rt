@@ -11,7 +11,7 @@ impl<M: EvictionManager, K: Mark, const N: usize> SharedCache<M, K, N> {
     ghost use Rattle.std.specs.Prelude.{◌≡◌, IfErr};
     ghost use Rattle.pcache_base.specs.declared.error.ErrorType.TheVariants.{OutOfMemory};
     ghost use Rattle.pcache_request.specs.Phases.{MayPurge, MaySpawnPurge};
-    ghost use Rattle.pcache_shared_cache.specs.Calls.{Expires, Purges};
+    ghost use Rattle.pcache_cache.specs.Removing.{Expires, Purges};
     ghost use Rattle.pcache_shared_cache.specs.Seen.{Goes};
 
     /// `Cache::purge`: removes what is stored for the key, and its entry from the manager. Returns whether anything was stored.
@@ -19,7 +19,7 @@ impl<M: EvictionManager, K: Mark, const N: usize> SharedCache<M, K, N> {
     pub fn purge<R: Wait>(&self, rt: &R, request: &mut SharedRequest<K, N>) -> Result<bool>
         requires { MayPurge request.old.cache.phase }
         ensures goes { Goes self.now K.names request.old.place request.old.seen request.new.seen
-            (Purges result request.old.cache) }
+            (Purges result request.old.cache request.new.cache) }
         ensures rest { request.new ≡ record request.old { seen = request.new.seen } }
         ensures kind { IfErr result (λ e. e ≡ OutOfMemory) }
     {
@@ -41,7 +41,7 @@ impl<M: EvictionManager, K: Mark, const N: usize> SharedCache<M, K, N> {
     ) -> Result<bool>
         requires { MaySpawnPurge request.old.cache.phase }
         ensures goes { Goes self.now K.names request.old.place request.old.seen request.new.seen
-            (Purges result request.old.cache) }
+            (Purges result request.old.cache request.new.cache) }
         ensures rest { request.new ≡ record request.old { seen = request.new.seen } }
         ensures kind { IfErr result (λ e. e ≡ OutOfMemory) }
     {
@@ -63,7 +63,7 @@ impl<M: EvictionManager, K: Mark, const N: usize> SharedCache<M, K, N> {
     ) -> Result<bool>
         requires { MayPurge request.old.cache.phase }
         ensures goes { Goes self.now K.names request.old.place request.old.seen request.new.seen
-            (Expires result now request.old.cache) }
+            (Expires result now request.old.cache request.new.cache) }
         ensures rest { request.new ≡ record request.old { seen = request.new.seen } }
         ensures kind { IfErr result (λ e. e ≡ OutOfMemory) }
     {

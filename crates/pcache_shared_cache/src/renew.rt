@@ -14,15 +14,14 @@ use std::sync::Wait;
 impl<M: EvictionManager, K: Mark, const N: usize> SharedCache<M, K, N> {
     ghost use Rattle.std.specs.Prelude.{◌≡◌, IfErr, option_map};
     ghost use Rattle.pcache_base.specs.declared.error.ErrorType.TheVariants.{OutOfMemory};
-    ghost use Rattle.pcache_lock.specs.declared.lock.status.LockStatus.TheVariants.{GiveUp};
     ghost use Rattle.pcache_meta.specs.Header.{shown};
-    ghost use Rattle.pcache_request.specs.Releasing.{MayRelease, status_for};
+    ghost use Rattle.pcache_request.specs.Releasing.{MayRelease};
     ghost use Rattle.pcache_request.specs.Renewals.{renewed};
     ghost use Rattle.pcache_request.specs.Reports.{name_of};
     ghost use Rattle.pcache_request.specs.Requests.{MayWrite};
     ghost use Rattle.pcache_request.specs.Stale.{MayRevalidate, uncacheable};
     ghost use Rattle.pcache_request.specs.Variants.{released_by_variance, varied};
-    ghost use Rattle.pcache_shared_cache.specs.Calls.{Releases, Revalidates, Varies};
+    ghost use Rattle.pcache_cache.specs.Revalidating.{Revalidates, ServesUncacheable, Varies};
     ghost use Rattle.pcache_shared_cache.specs.Seen.{Goes};
 
     /// `Cache::revalidate_cache_meta`: takes the meta of a response that says that the stale body is still valid.
@@ -35,7 +34,7 @@ impl<M: EvictionManager, K: Mark, const N: usize> SharedCache<M, K, N> {
     ) -> Result<bool>
         requires { MayRevalidate request.old.cache }
         ensures goes { Goes self.now K.names request.old.place request.old.seen request.new.seen
-            (Revalidates result meta request.old.cache) }
+            (Revalidates result meta request.old.cache request.new.cache) }
         ensures request { request.new.cache ≡ renewed meta request.old.cache }
         ensures place { request.new.place ≡ request.old.place }
         ensures kind { IfErr result (λ e. e ≡ OutOfMemory) }
@@ -61,7 +60,7 @@ impl<M: EvictionManager, K: Mark, const N: usize> SharedCache<M, K, N> {
         requires stale { MayRevalidate request.old.cache }
         requires reason { MayRelease reason request.old.cache.held }
         ensures goes { Goes self.now K.names request.old.place request.old.seen request.new.seen
-            (Releases (status_for (λ text. GiveUp) reason) request.old.cache) }
+            (ServesUncacheable result (shown header) reason request.old.cache request.new.cache) }
         ensures request { request.new.cache ≡ uncacheable (shown header) reason request.old.cache }
         ensures place { request.new.place ≡ request.old.place }
         ensures released { result ≡ option_map name_of request.old.cache.held }
@@ -84,7 +83,7 @@ impl<M: EvictionManager, K: Mark, const N: usize> SharedCache<M, K, N> {
     ) -> Option<LockName>
         requires { MayWrite request.old.cache }
         ensures goes { Goes self.now K.names request.old.place request.old.seen request.new.seen
-            (Varies variance request.old.cache) }
+            (Varies result variance request.old.cache request.new.cache) }
         ensures request { request.new.cache ≡ varied variance request.old.cache }
         ensures place { request.new.place ≡ request.old.place }
         ensures released { result ≡ released_by_variance variance request.old.cache }

@@ -1,15 +1,8 @@
 -- What each step makes of the views.
-use Rattle.std.proofs.Common.{map, ◌≡◌, ℕ, ◌+◌, ◌-◌, ◌<◌, List, [], ◌∷◌, ◌++◌, length, refl, sym, ap, ◌∙◌, subst, arith, length-append}
-use Rattle.std.specs.List.{All}
-use Rattle.std.proofs.lemmas.List.Elements.{All-nil, All-push, All-head, All-tail}
-use Rattle.pcache_history.specs.declared.entry.Entry.{Entry}
-use Rattle.pcache_shared_world.specs.declared.receipt.Receipt.{Receipt}
-use Rattle.pcache_shared_world.specs.Receipts.{IsOf, receipt_of}
-use Rattle.std.proofs.lemmas.List.{map-append}
-use mathlib.Core.Option.{some}
-use Rattle.atomic_table.specs.Table.{Me, Step}
-use Rattle.pcache_shared_world.specs.declared.view.View.{View}
-use Rattle.pcache_shared_world.specs.Views.{Rises, places, keeper, slip, added, Adds, both, relieved, slip_of, IsKeeper, IsSlip}
+use Rattle.std.proofs.lemmas.List.Elements.{All-head, All-tail}
+use Rattle.pcache_shared_world.specs.Receipts.{IsOf}
+use Rattle.pcache_shared_world.specs.Views.{Adds}
+use Rattle.pcache_shared_world.proofs.Words.{map, ◌≡◌, ℕ, ◌+◌, ◌-◌, ◌<◌, List, [], ◌∷◌, ◌++◌, length, refl, sym, ap, ◌∙◌, subst, arith, length-append, All, All-nil, All-push, Entry, Receipt, receipt_of, map-append, some, Me, Step, View, Rises, places, keeper, slip, added, both, relieved, slip_of, IsKeeper, IsSlip}
 
 module _ {E : Type 0} where
   pub moved_is : (was moved : Me E (View E)) → IsSlip was → moved ≡ (was.0, []) → moved ≡ (slip was.0.claims, [])

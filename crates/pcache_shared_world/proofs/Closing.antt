@@ -1,14 +1,10 @@
 -- What the last step gives, in terms of the history and the receipts.
-use Rattle.std.proofs.Common.{◌≡◌, ℕ, suc, ◌+◌, ◌-◌, ◌<◌, List, [], ◌∷◌, ◌++◌, map, length, refl, sym, ap, ◌∙◌, subst, arith, length-append, eq-eqb, ne_eqb, eqb}
-use Rattle.std.specs.Prelude.{slice_get}
-use Rattle.std.specs.List.{All}
-use Rattle.std.proofs.lemmas.List.Elements.{All-map, All-weaker}
+use Rattle.std.proofs.Common.{eq-eqb, ne_eqb, eqb}
+use Rattle.std.proofs.lemmas.List.Elements.{All-map}
 use mathlib.Core.Logic.{dite}
 use native.Mathlib.Decide.{dec_lt, ℕ_discrete}
-use Rattle.pcache_history.specs.declared.entry.Entry.{Entry}
-use Rattle.pcache_shared_world.specs.declared.receipt.Receipt.{Receipt}
-use Rattle.pcache_shared_world.specs.Views.{one_if, times, numbers, places, IsAt, Rises}
-use Rattle.pcache_shared_world.specs.Receipts.{receipt_of, IsIn, joined, indices_of, AreReceipts}
+use Rattle.pcache_shared_world.specs.Receipts.{IsIn}
+use Rattle.pcache_shared_world.proofs.Words.{◌≡◌, ℕ, suc, ◌+◌, ◌-◌, ◌<◌, List, [], ◌∷◌, ◌++◌, map, length, refl, sym, ap, ◌∙◌, subst, arith, length-append, slice_get, All, All-weaker, Entry, Receipt, one_if, times, numbers, places, IsAt, Rises, receipt_of, joined, indices_of, AreReceipts}
 
 pub joined_snoc : {V X : Type 0} (f : V → List X) (vs : List V) (v : V) → joined (map f (vs ++ v ∷ [])) ≡ joined (map f vs) ++ f v
 joined_snoc f [] v = nothing (f v)

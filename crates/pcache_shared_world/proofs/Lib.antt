@@ -4,3 +4,4 @@ pub mod Lists
 pub mod Moves
 pub mod Scripts
 pub mod Totals
+pub mod Words

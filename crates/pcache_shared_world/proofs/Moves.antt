@@ -1,14 +1,12 @@
 -- Each step keeps the rule.
-use Rattle.std.proofs.Common.{◌≡◌, ◌≢◌, ℕ, zero, suc, ◌+◌, ◌<◌, List, [], ◌∷◌, ◌++◌, length, set, Some, true, false, true≢false, refl, sym, ap, ◌∙◌, subst, ⊎_elim, arith}
-use Rattle.std.specs.Prelude.{slice_get, nat_eq}
-use Rattle.std.specs.List.{All}
-use Rattle.std.proofs.lemmas.List.Elements.{All-nil, All-append, All-push, All-weaker}
-use mathlib.Core.Option.{Option, some, some-ne-none, some-injective}
-use lib.ListN.{get_elem?}
-use Rattle.atomic_table.specs.Table.{Me, State, Step, keeps, Allows, Splits, Joins}
+use Rattle.std.proofs.Common.{◌≢◌, true, false, true≢false, ⊎_elim}
+use Rattle.std.specs.Prelude.{nat_eq}
+use Rattle.std.proofs.lemmas.List.Elements.{All-append}
+use mathlib.Core.Option.{Option}
+use Rattle.atomic_table.specs.Table.{State, keeps, Allows, Splits, Joins}
 use Rattle.atomic_table.proofs.Lists.{at_set, at_snoc, set_again}
-use Rattle.pcache_shared_world.specs.declared.view.View.{View}
-use Rattle.pcache_shared_world.specs.Views.{IsKeeper, IsSlip, slip_of, one_if, times, numbers, whole, places, keeper, slip, nobody, IsAt, Fits, Kept, added, Adds, Settles, both, relieved}
+use Rattle.pcache_shared_world.specs.Views.{nobody, Fits, Kept, Adds, Settles}
+use Rattle.pcache_shared_world.proofs.Words.{◌≡◌, ℕ, zero, suc, ◌+◌, ◌<◌, List, [], ◌∷◌, ◌++◌, length, set, Some, refl, sym, ap, ◌∙◌, subst, arith, slice_get, All, All-nil, All-push, All-weaker, some, some-ne-none, some-injective, get_elem?, Me, Step, View, IsKeeper, IsSlip, slip_of, one_if, times, numbers, whole, places, keeper, slip, IsAt, added, both, relieved}
 use Rattle.pcache_shared_world.proofs.Lists.{total_append, total_set, total_lone, get_front, get_last, get_below, times_append}
 
 off : false ≡ true → ⊥

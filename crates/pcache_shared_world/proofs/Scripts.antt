@@ -1,10 +1,7 @@
 -- What is known of a script that was run.
-use Rattle.std.proofs.Common.{◌≡◌, ℕ, zero, suc, ◌+◌, ◌<◌, List, [], ◌∷◌, Result, Ok, Err, OnErr, map, take, length, Vec, refl, sym, ap, ◌∙◌, subst, arith, length-append}
-use Rattle.std.specs.Prelude.{slice_index_or}
-use Rattle.std.proofs.lemmas.List.{append-nil}
-use Rattle.pcache_history.specs.declared.call.Call.{Call}
-use Rattle.pcache_shared_world.specs.declared.receipt.Receipt.{Receipt}
-use Rattle.pcache_shared_world.specs.Workers.{Runs, RunsWhole, EachRuns, HaveGrown, calls_of, script_at}
+use Rattle.std.proofs.Common.{Result, Ok, Err, OnErr, Vec}
+use Rattle.pcache_shared_world.specs.Workers.{RunsWhole, EachRuns, HaveGrown}
+use Rattle.pcache_shared_world.proofs.Words.{◌≡◌, ℕ, zero, suc, ◌+◌, ◌<◌, List, [], ◌∷◌, map, take, length, refl, sym, ap, ◌∙◌, subst, arith, length-append, slice_index_or, append-nil, Call, Receipt, Runs, calls_of, script_at}
 
 pub runs_none : (script : List Call) (before : List Receipt) → Runs script before before
 runs_none script before = ([], 0, sym (append-nil before), refl)

@@ -1,15 +1,14 @@
 -- The totals of evicted entries, as a history grows by one entry.
-use Rattle.std.proofs.Common.{◌≡◌, ◌∙◌, List, [], ◌∷◌, ◌++◌, reverse, refl, sym, ap, append_assoc}
+use Rattle.std.proofs.Common.{reverse, append_assoc}
 use Rattle.std.proofs.lemmas.List.{reverse-append}
 use Rattle.pcache_evict.specs.Tracked.{Evicted, Tracked}
 use Rattle.pcache_history.specs.Events.{evicted_by, evicts, track, tracked}
 use Rattle.pcache_history.specs.History.{events_of}
 use Rattle.pcache_history.specs.Log.{Adds, Log, events_in}
-use Rattle.pcache_history.specs.declared.call.Call.{Call}
 use Rattle.pcache_history.specs.declared.call.Reply.{Reply}
-use Rattle.pcache_history.specs.declared.entry.Entry.{Entry}
 use Rattle.pcache_history.specs.declared.entry.Event.{Event}
-use Rattle.pcache_shared_world.specs.Receipts.{evicted_after, evicted_of}
+use Rattle.pcache_shared_world.specs.Receipts.{evicted_of}
+use Rattle.pcache_shared_world.proofs.Words.{◌≡◌, ◌∙◌, List, [], ◌∷◌, ◌++◌, refl, sym, ap, Call, Entry, evicted_after}
 
 -- what was tracked after the older events, and then after the newer ones
 tracked-on : (m : Tracked) (xs ys : List Event) → tracked m (xs ++ ys) ≡ tracked (tracked m ys) xs

@@ -3,6 +3,8 @@ use Rattle.std.specs.Prelude.{ℕ, [], None, refl}
 use Rattle.std.specs.Coded.{Coded, code_by, coded×, coded_ℕ}
 use Rattle.std.specs.FinMap as map
 use Rattle.atomic_table.specs.Seated.{TableId, table_id_coded}
+use Rattle.pcache_evict.specs.declared.eviction.policy.EvictionPolicy.TheVariants.{Own}
+use Rattle.pcache_evict.specs.Tracked.{limits_of}
 use Rattle.pcache_history.specs.Log.{Log}
 use Rattle.pcache_history.specs.LogCode.{log_code}
 
@@ -17,7 +19,7 @@ abbrev pub unopened : Opened
 unopened =
     record {
       table = record { words = 0; slots = 0; views_name = 0; atom = 0; block = 0; offset = 0; slot_names = [] };
-      log = record { history = []; start = map.empty; limits = record { weight = 0; watermark = None }; evicted = record { weight = 0; count = 0 }; age = 0 };
+      log = record { history = []; start = map.empty; limits = limits_of Own 0 None; evicted = record { weight = 0; count = 0 }; age = 0 };
       shares = 0;
     }
 

@@ -1,16 +1,6 @@
 -- How many readers a write has, once a request was set or removed, and that a write which a request holds is in flight.
-use Rattle.std.proofs.Common.{◌≡◌, ℕ, ◌+◌, ◌≤◌, ◌==◌, if◌then◌else◌, true, false, Some, List, refl, ap, subst, ◌∙◌, arith}
-use Rattle.std.specs.Ordering.{nat_cmp}
-use Rattle.std.specs.Cmp.{nat_cmp_total}
-use Rattle.std.specs.FinMap.{FinMap, empty, get, insert, remove, nat_cmp-IsAntisymmetric}
-use Rattle.pcache_base.specs.Totals.{share}
-use Rattle.pcache_base.proofs.Totals.{total-insert, total-remove, total-empty}
 use Rattle.pcache_store.specs.Store.{Reader}
-use Rattle.pcache_history.specs.declared.entry.Event.{Event}
-use Rattle.pcache_history.specs.Events.{in_flight, option_any}
-use Rattle.pcache_history.specs.Ongoing.{Ongoing}
-use Rattle.pcache_world.specs.Sound.{follows, readers_in, readers, writers_in, writers, AreOngoing}
-use Rattle.pcache_history.proofs.Sums.{same-number}
+use Rattle.pcache_world.proofs.Words.{◌≡◌, ℕ, ◌+◌, ◌≤◌, ◌==◌, if◌then◌else◌, true, false, Some, List, refl, ap, subst, ◌∙◌, arith, nat_cmp, nat_cmp_total, FinMap, empty, get, insert, remove, nat_cmp-IsAntisymmetric, share, total-insert, total-remove, total-empty, Event, in_flight, option_any, Ongoing, follows, readers_in, readers, writers_in, writers, AreOngoing, same-number}
 
 pub readers-none : (w : ℕ) → readers empty w ≡ 0
 readers-none w = total-empty nat_cmp_total (readers_in w)

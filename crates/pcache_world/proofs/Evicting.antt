@@ -1,41 +1,16 @@
 -- How calls change the totals of all that the manager evicted.
-use Rattle.std.proofs.Common.{◌≡◌, ℕ, true, cond, Option, None, Some, List, [], ◌∷◌, ◌++◌, refl, ap, sym, subst, ◌∙◌, inl, inr}
-use Rattle.std.specs.FinMap.{get, insert}
-use Rattle.pcache_base.specs.declared.error.ErrorType.{ErrorType}
-use Rattle.pcache_base.specs.declared.error.ErrorType.TheVariants.{WriteRemoved}
-use Rattle.pcache_base.specs.Key.{Key}
-use Rattle.pcache_evict.specs.Tracked.{Tracked, Evicted, Limits, evicted_with}
-use Rattle.pcache_evict.specs.declared.eviction.entry_key.CacheEntryKey.{CacheEntryKey}
-use Rattle.pcache_response.specs.Progress.{Parsed}
-use Rattle.pcache_put.specs.State.{Stage, InHead, InBody, HasDeclined, IsOver, write_in}
-use Rattle.pcache_put.specs.Steps.{EndsPut, entry_reported, evicted_ended}
-use Rattle.pcache_put.specs.declared.report.PutEnd.{PutEnd}
-use Rattle.pcache_put.specs.declared.report.PutEnd.TheVariants as end
-use Rattle.pcache_request.specs.Phases.{IsFilling}
-use Rattle.pcache_request.specs.Requests.{Request, entry_of}
-use Rattle.pcache_request.specs.WriteEnds.{evicted_after, finishes_of}
-use Rattle.pcache_request.specs.declared.cache.finish.FinishReport.{FinishReport}
-use Rattle.pcache_request.specs.declared.cache.finish.WriteEnd.{WriteEnd}
-use Rattle.pcache_request.specs.declared.cache.finish.WriteEnd.TheVariants as writes
-use Rattle.pcache_store.specs.Finishes.{created}
-use Rattle.pcache_store.specs.Readers.{in_memory}
-use Rattle.pcache_store.specs.Store.{Store, written_size}
+use Rattle.pcache_evict.specs.Tracked.{evicted_with}
+use Rattle.pcache_put.specs.Steps.{evicted_ended}
+use Rattle.pcache_request.specs.Requests.{Request}
+use Rattle.pcache_request.specs.WriteEnds.{evicted_after}
 use Rattle.pcache_history.specs.declared.call.Act.{Act}
-use Rattle.pcache_history.specs.declared.call.Act.TheVariants as C
-use Rattle.pcache_history.specs.declared.call.RequestAct.{RequestAct}
-use Rattle.pcache_history.specs.declared.call.RequestAct.TheVariants as Q
-use Rattle.pcache_history.specs.declared.call.Reply.{Reply}
-use Rattle.pcache_history.specs.declared.entry.Event.{Event}
-use Rattle.pcache_history.specs.declared.entry.Event.TheVariants as E
-use Rattle.pcache_history.specs.Due.{IsOfWorld, IsOfWorldIn}
-use Rattle.pcache_history.specs.Events.{evicted_by}
-use Rattle.pcache_history.specs.Facts.{Facts}
-use Rattle.pcache_history.specs.Ongoing.{Ongoing}
-use Rattle.pcache_history.specs.Rules.{Replies, each}
-use Rattle.pcache_world.specs.Evicting.{AddsEvicted}
-use Rattle.pcache_world.specs.PutSteps.{end_noted}
-use Rattle.pcache_world.specs.Step.{refused_end}
 use Rattle.pcache_history.proofs.SettlesLaw.{IsNoEnd, evicts_no_more}
+use Rattle.pcache_world.proofs.Words.{◌≡◌, ℕ, true, cond, Option, None, Some, List, [], ◌∷◌, ◌++◌, refl, ap, sym, subst, ◌∙◌, inl, inr, get, insert, ErrorType, WriteRemoved, Key, Tracked, Evicted, Limits, CacheEntryKey, Parsed, Stage, InHead, InBody, HasDeclined, IsOver, write_in, EndsPut, entry_reported, PutEnd, IsFilling, entry_of, finishes_of, FinishReport, WriteEnd, created, in_memory, Store, written_size, RequestAct, Reply, Event, IsOfWorld, IsOfWorldIn, evicted_by, Facts, Ongoing, Replies, each, AddsEvicted, end_noted, refused_end}
+use Rattle.pcache_put.specs.declared.report.PutEnd.TheVariants as end
+use Rattle.pcache_request.specs.declared.cache.finish.WriteEnd.TheVariants as writes
+use Rattle.pcache_history.specs.declared.call.Act.TheVariants as C
+use Rattle.pcache_history.specs.declared.call.RequestAct.TheVariants as Q
+use Rattle.pcache_history.specs.declared.entry.Event.TheVariants as E
 use Rattle.pcache_world.proofs.MovesOf.{fill-on}
 use Rattle.pcache_world.proofs.PutFed.{none-some}
 

@@ -1,44 +1,20 @@
 -- A call on files in a sound world: no request and no put changes, and it makes no event.
-use Rattle.std.proofs.Common.{◌≡◌, ℕ, ◌==◌, Bool, true, false, ◌&&◌, cond, if◌then◌else◌, Option, None, Some, IsSome, is_none, option_map, List, [], ◌∷◌, ◌++◌, reverse, Result, Ok, Err, IfErr, OnOk, ◌⊎◌, refl, ap, sym, subst, ◌∙◌, inl, inr}
+use Rattle.std.proofs.Common.{option_map}
 use Rattle.std.specs.Prelude.{IsErrOf}
-use Rattle.std.proofs.lemmas.Bool.{both_ways}
-use Rattle.std.proofs.lemmas.List.{reverse-append}
-use Rattle.std.specs.Ordering.{nat_cmp}
-use Rattle.std.specs.FinMap.{FinMap, get}
-use Rattle.pcache_base.specs.declared.error.ErrorType.{ErrorType}
-use Rattle.pcache_base.specs.declared.error.ErrorType.TheVariants.{IncompleteHttpBody, InternalError, InvalidHttpHeader, Io, NumbersExhausted, OutOfMemory, ResponseTooLarge, WriteRemoved}
+use Rattle.pcache_base.specs.declared.error.ErrorType.TheVariants.{InternalError, InvalidHttpHeader, ResponseTooLarge}
 use Rattle.pcache_evict.specs.Recency.{Recency}
-use Rattle.pcache_evict.specs.Tracked.{Tracked, Limits}
-use Rattle.pcache_evict.specs.declared.eviction.entry_key.CacheEntryKey.{CacheEntryKey}
-use Rattle.pcache_lock.specs.Locks.{Locks}
 use Rattle.pcache_put.specs.Puts.{Says as PutSays}
 use Rattle.pcache_request.specs.Requests.{Request}
-use Rattle.pcache_store.specs.Store.{Store}
 use Rattle.pcache_history.specs.declared.call.Act.{Act}
-use Rattle.pcache_history.specs.declared.call.Act.TheVariants as C
-use Rattle.pcache_history.specs.declared.call.Call.{Call}
 use Rattle.pcache_history.specs.declared.call.FilesAct.{FilesAct}
-use Rattle.pcache_history.specs.declared.call.FilesAct.TheVariants as F
-use Rattle.pcache_history.specs.declared.call.Reply.{Reply}
-use Rattle.pcache_history.specs.declared.call.Reply.TheVariants as R
-use Rattle.pcache_history.specs.declared.entry.Entry.{Entry}
-use Rattle.pcache_history.specs.declared.entry.Event.{Event}
-use Rattle.pcache_history.specs.Deeds.{Deed, deeds_of}
-use Rattle.pcache_history.specs.Events.{tracked}
-use Rattle.pcache_history.specs.Facts.{Facts, Says, request_in}
-use Rattle.pcache_history.specs.Files.{IsEarly, files_in, is_load, only_loads}
-use Rattle.pcache_history.specs.Ongoing.{Ongoing, request_of}
-use Rattle.pcache_history.specs.History.{events_of}
-use Rattle.pcache_history.specs.Legal.{IsLegal}
-use Rattle.pcache_history.specs.Log.{started}
-use Rattle.pcache_history.specs.PutHistory.{WasAtStage, filled_of, pieces_of}
-use Rattle.pcache_history.specs.Rules.{IsCopy, IsFilesRefusal, IsFilesReply, Replies}
-use Rattle.pcache_world.specs.FilesCalls.{AnswersFiles, HasCause, HasNoFiles, HasSaved, IsLoaded, save_reply}
-use Rattle.pcache_world.specs.PartFacts.{facts_in}
-use Rattle.pcache_world.specs.PutsSound.{PutsSound, TakenIn}
-use Rattle.pcache_world.specs.Sound.{AreOpen, IsSound}
-use Rattle.pcache_world.specs.Untold.{untold}
+use Rattle.pcache_history.specs.Facts.{Says}
+use Rattle.pcache_history.specs.Rules.{IsFilesRefusal}
+use Rattle.pcache_world.specs.FilesCalls.{HasNoFiles, IsLoaded, save_reply}
 use Rattle.pcache_history.proofs.LoadsLaw.{answers-files, late-load, loads-silent, loads-start}
+use Rattle.pcache_world.proofs.Words.{◌≡◌, ℕ, ◌==◌, Bool, true, false, ◌&&◌, cond, if◌then◌else◌, Option, None, Some, IsSome, is_none, List, [], ◌∷◌, ◌++◌, reverse, Result, Ok, Err, IfErr, OnOk, ◌⊎◌, refl, ap, sym, subst, ◌∙◌, inl, inr, both_ways, reverse-append, nat_cmp, FinMap, get, ErrorType, IncompleteHttpBody, Io, NumbersExhausted, OutOfMemory, WriteRemoved, Tracked, Limits, CacheEntryKey, Locks, Store, Call, Reply, Entry, Event, Deed, deeds_of, tracked, Facts, request_in, IsEarly, files_in, is_load, only_loads, Ongoing, request_of, events_of, IsLegal, started, WasAtStage, filled_of, pieces_of, IsCopy, IsFilesReply, Replies, AnswersFiles, HasCause, HasSaved, facts_in, PutsSound, TakenIn, AreOpen, IsSound, untold}
+use Rattle.pcache_history.specs.declared.call.Act.TheVariants as C
+use Rattle.pcache_history.specs.declared.call.FilesAct.TheVariants as F
+use Rattle.pcache_history.specs.declared.call.Reply.TheVariants as R
 use Rattle.pcache_world.proofs.PutSound.{stood-in}
 use Rattle.pcache_world.proofs.SoundOf.{sound-of}
 use Rattle.pcache_world.proofs.TurnOf.{kept-key}

@@ -1,44 +1,22 @@
 -- A permit that one request hands to another leaves a sound world sound.
-use Rattle.std.proofs.Common.{◌≡◌, ◌≢◌, ℕ, ◌+◌, ◌^◌, ◌<◌, ◌==◌, Bool, true, false, cond, if◌then◌else◌, Option, None, Some, IsSome, List, [], ◌∷◌, ◌++◌, reverse, refl, ap, sym, subst, ◌∙◌, arith, inl, inr, length, option_map}
-use Rattle.std.specs.Ordering.{nat_cmp}
-use Rattle.std.specs.BTreeMap.{is_at}
-use Rattle.std.specs.Cmp.{nat_cmp_total}
-use Rattle.std.specs.FinMap.{FinMap, from_entries, get, remove, same_map, nat_cmp-IsAntisymmetric}
-use Rattle.std.proofs.lemmas.Bool.{eqb-true, eq-eqb, ne_eqb, both_ways}
-use Rattle.pcache_evict.specs.Tracked.{Tracked, Limits}
-use Rattle.pcache_lock.specs.Locks.{Locks}
-use Rattle.pcache_lock.specs.Permits.{Permit, Reader}
-use Rattle.pcache_lock.specs.declared.lock.permit.Locked.{Locked}
-use Rattle.pcache_lock.specs.declared.lock.permit.Locked.TheVariants.{Write, Read}
-use Rattle.pcache_lock.specs.declared.lock.status.LockStatus.TheVariants as status
-use Rattle.pcache_request.specs.LockUse.{gone_for, permit_in, table_handed, unheld}
-use Rattle.pcache_request.specs.Requests.{Request, let_go_by}
-use Rattle.pcache_store.specs.Store.{Store}
-use Rattle.pcache_history.specs.declared.call.Act.TheVariants as C
-use Rattle.pcache_history.specs.declared.call.Reply.{Reply}
-use Rattle.pcache_history.specs.declared.call.Reply.TheVariants as R
-use Rattle.pcache_history.specs.declared.entry.Entry.{Entry}
-use Rattle.pcache_history.specs.declared.entry.Event.{Event}
-use Rattle.pcache_history.specs.declared.entry.Event.TheVariants as E
+use Rattle.std.proofs.Common.{option_map}
+use Rattle.std.proofs.lemmas.Bool.{ne_eqb}
+use Rattle.pcache_lock.specs.Permits.{Reader}
+use Rattle.pcache_lock.specs.declared.lock.permit.Locked.TheVariants.{Read}
+use Rattle.pcache_request.specs.LockUse.{gone_for, permit_in, table_handed}
+use Rattle.pcache_request.specs.Requests.{Request}
 use Rattle.pcache_lock.specs.Deeds.{LetGo}
-use Rattle.pcache_lock.specs.PastWaits.{is_held}
-use Rattle.pcache_history.specs.Deeds.{Deed, Did, Handed, deeds_by, deeds_of, done, handed_on, held_in, shown, who_holds}
-use Rattle.pcache_history.specs.Due.{AreDue}
-use Rattle.pcache_history.specs.Facts.{Facts, request_in}
-use Rattle.pcache_world.specs.PartFacts.{facts_for, facts_in}
-use Rattle.pcache_world.specs.Handing.{HandsOver, open_at, table_given, taker_at}
-use Rattle.pcache_history.specs.Ongoing.{Ongoing, handed_by, on_request, permit_held, request_of, row, taker_in, turned_by}
-use Rattle.pcache_world.specs.Untold.{untold, untold_put, untold_lock, untold_request}
-use Rattle.pcache_history.specs.History.{events_of}
-use Rattle.pcache_history.specs.Legal.{Gives, IsLegal}
-use Rattle.pcache_world.specs.LockMoves.{each_deed}
-use Rattle.pcache_world.specs.LockTable.{Holds, IsTable, locks_read, read_locks}
-use Rattle.pcache_world.specs.Moved.{Did, Moves, reads_of}
-use Rattle.pcache_history.specs.Rules.{FindsKind, IsCopy, IsIdle, MayBe, MayTake, Replies, each, given_up, let_go_of, permit_of}
-use Rattle.pcache_world.specs.Sound.{AllHold, AreOpen, IsSound, readers}
-use Rattle.pcache_world.specs.Step.{Turn}
-use Rattle.pcache_history.specs.Taking.{Taking}
-use Rattle.pcache_history.specs.Waiting.{AreGiven, Waiting, waiting_in}
+use Rattle.pcache_history.specs.Deeds.{Did, handed_on}
+use Rattle.pcache_world.specs.Handing.{HandsOver, table_given}
+use Rattle.pcache_history.specs.Ongoing.{handed_by, permit_held}
+use Rattle.pcache_world.specs.Moved.{Did}
+use Rattle.pcache_history.specs.Rules.{MayTake, given_up, let_go_of}
+use Rattle.pcache_history.proofs.Taken.{handed-keeps}
+use Rattle.pcache_world.proofs.Words.{◌≡◌, ◌≢◌, ℕ, ◌+◌, ◌^◌, ◌<◌, ◌==◌, Bool, true, false, cond, if◌then◌else◌, Option, None, Some, IsSome, List, [], ◌∷◌, ◌++◌, reverse, refl, ap, sym, subst, ◌∙◌, arith, inl, inr, length, nat_cmp, is_at, nat_cmp_total, FinMap, from_entries, get, remove, same_map, nat_cmp-IsAntisymmetric, eqb-true, eq-eqb, both_ways, Tracked, Limits, Locks, Permit, Locked, Write, unheld, let_go_by, Store, Reply, Entry, Event, is_held, Deed, Handed, deeds_by, deeds_of, done, held_in, shown, who_holds, AreDue, Facts, request_in, facts_for, facts_in, open_at, taker_at, Ongoing, on_request, request_of, row, taker_in, turned_by, untold, untold_put, untold_lock, untold_request, events_of, Gives, IsLegal, each_deed, Holds, IsTable, locks_read, read_locks, Moves, reads_of, FindsKind, IsCopy, IsIdle, MayBe, Replies, each, permit_of, AllHold, AreOpen, IsSound, readers, Turn, Taking, AreGiven, Waiting, waiting_in, same-number}
+use Rattle.pcache_lock.specs.declared.lock.status.LockStatus.TheVariants as status
+use Rattle.pcache_history.specs.declared.call.Act.TheVariants as C
+use Rattle.pcache_history.specs.declared.call.Reply.TheVariants as R
+use Rattle.pcache_history.specs.declared.entry.Event.TheVariants as E
 use Rattle.pcache_world.proofs.LockKept.{go, held-by, holds-none, reversed-two}
 use Rattle.pcache_world.proofs.LockSteps.{let-go-deeds}
 use Rattle.pcache_world.proofs.LockTable as table
@@ -52,8 +30,6 @@ use Rattle.pcache_world.proofs.TurnOf.{wrong-turn}
 use Rattle.pcache_world.proofs.ReadLocks.{lock-counted, locks-few, locks-moved}
 use Rattle.pcache_world.proofs.SoundOf.{sound-of}
 use Rattle.pcache_world.proofs.States.{state-same}
-use Rattle.pcache_history.proofs.Sums.{same-number}
-use Rattle.pcache_history.proofs.Taken.{handed-keeps}
 use Rattle.pcache_world.proofs.Turned.{lookup-get, set-at}
 use Rattle.pcache_world.proofs.Uniform.{each-turn-keeps, facts-agree, legal-with, parts-move}
 use Rattle.pcache_world.proofs.Waiting.{let-go-by, locked-after}

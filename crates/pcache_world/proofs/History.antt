@@ -1,8 +1,6 @@
 -- A history with one more entry, read from its newest.
-use Rattle.std.proofs.Common.{List, [], ◌∷◌, ◌++◌, refl, subst}
-use Rattle.pcache_history.specs.declared.call.Call.{Call}
-use Rattle.pcache_history.specs.declared.call.Reply.{Reply}
-use Rattle.pcache_history.specs.Log.{Log, Adds, AddsAll}
+use Rattle.pcache_history.specs.Log.{Adds}
+use Rattle.pcache_world.proofs.Words.{List, [], ◌∷◌, ◌++◌, refl, subst, Call, Reply, Log, AddsAll}
 
 -- one more call
 pub adds-more : (old mid new : Log) (calls : List Call) (call : Call) (replies : List Reply) (reply : Reply) → AddsAll old calls replies mid → Adds mid call reply new → AddsAll old (calls ++ call ∷ []) (replies ++ reply ∷ []) new

@@ -1,20 +1,10 @@
 -- What each change of a request keeps: it stays one of a world, and has its key while it makes a write.
-use Rattle.std.proofs.Common.{◌≡◌, ℕ, Bool, true, false, cond, Option, None, Some, IsSome, List, [], ◌∷◌, refl, ap, sym, subst, ◌∙◌}
-use Rattle.pcache_base.specs.Key.{Key}
-use Rattle.pcache_meta.specs.Meta.{Meta}
-use Rattle.pcache_lock.specs.Locks.{Locks}
-use Rattle.pcache_predict.specs.declared.admission.Decision.{Decision}
-use Rattle.pcache_request.specs.Admissions.{decided, with_decision}
-use Rattle.pcache_request.specs.Phases.{MayLookUp, IsFilling, IsOn, IsDisabled}
-use Rattle.pcache_request.specs.Requests.{Request, asks_as_stale, asks_for_hit, with_lock, found_row}
-use Rattle.pcache_request.specs.declared.phase.CachePhase.{CachePhase}
-use Rattle.pcache_request.specs.declared.phase.CachePhase.TheVariants as phase
-use Rattle.pcache_request.specs.declared.phase.HitStatus.{HitStatus}
+use Rattle.pcache_request.specs.Requests.{Request}
 use Rattle.pcache_store.specs.Store.{Reader}
-use Rattle.pcache_history.specs.Due.{IsOfWorld, KeepsIn}
-use Rattle.pcache_history.specs.declared.entry.Event.{Event}
+use Rattle.pcache_history.specs.Ongoing.{asked}
+use Rattle.pcache_world.proofs.Words.{◌≡◌, ℕ, Bool, true, false, cond, Option, None, Some, IsSome, List, [], ◌∷◌, refl, ap, sym, subst, ◌∙◌, Key, Meta, Locks, Decision, decided, with_decision, MayLookUp, IsFilling, IsOn, IsDisabled, asks_as_stale, asks_for_hit, with_lock, found_row, CachePhase, HitStatus, IsOfWorld, KeepsIn, Event, with_given, with_sought}
+use Rattle.pcache_request.specs.declared.phase.CachePhase.TheVariants as phase
 use Rattle.pcache_history.specs.declared.entry.Event.TheVariants as E
-use Rattle.pcache_history.specs.Ongoing.{asked, with_given, with_sought}
 
 -- phases in which no write is made
 no-look : (p : CachePhase) → MayLookUp p → IsFilling p → ⊥

@@ -37,3 +37,4 @@ pub mod Untold
 pub mod Waited
 pub mod Waiting
 pub mod Worlds
+pub mod Words

@@ -1,33 +1,19 @@
 -- What a request's move makes of the lock table, and of the locks that requests hold, is what the deeds say.
-use Rattle.std.proofs.Common.{◌≡◌, ◌≢◌, ℕ, ◌+◌, ◌^◌, ◌<◌, ◌==◌, Bool, true, false, cond, if◌then◌else◌, Option, None, Some, is_some, List, [], ◌∷◌, ◌++◌, reverse, refl, ap, sym, subst, ◌∙◌, arith}
-use Rattle.std.specs.FinMap.{get}
-use Rattle.std.proofs.lemmas.Bool.{eqb-true, ne_eqb}
-use Rattle.pcache_base.specs.declared.fills.UnusableFill.{UnusableFill}
-use Rattle.pcache_base.specs.declared.poll.Poll.TheVariants.{Pending}
-use Rattle.pcache_lock.specs.declared.lock.outcome.PermitState.{PermitState}
+use Rattle.std.proofs.lemmas.Bool.{ne_eqb}
+use Rattle.pcache_lock.specs.declared.lock.permit.Locked.TheVariants.{Read}
+use Rattle.pcache_lock.specs.Statuses.{is_free}
+use Rattle.pcache_lock.specs.Deeds.{LetGo, Aged, asked}
+use Rattle.pcache_lock.specs.Permits.{Reader}
+use Rattle.pcache_lock.specs.Locks.{held_by, unless_free, changed}
+use Rattle.pcache_lock.specs.Waiting.{with_publication}
+use Rattle.pcache_history.specs.Deeds.{Did}
+use Rattle.pcache_world.specs.LockMoves.{held_moved}
+use Rattle.pcache_world.proofs.Words.{◌≡◌, ◌≢◌, ℕ, ◌+◌, ◌^◌, ◌<◌, ◌==◌, Bool, true, false, cond, if◌then◌else◌, Option, None, Some, is_some, List, [], ◌∷◌, ◌++◌, reverse, refl, ap, sym, subst, ◌∙◌, arith, get, eqb-true, UnusableFill, Pending, PermitState, Locked, Write, LockStatus, IsReason, Granted, Joined, Released, Published, is_held, Core, Permit, Watch, publications_at, readers_at, Locks, holder, lock_given, after_request, is_permit, number_of_lock, answer_at, is_old, watched, polled, published, reader_at, reader_polled, permit_state, told_or_pending, watch_at, publications_with, is_old_at, is_old_result, too_old_for, let_go_by, settled, Deed, Polled, done, who_holds, shown, shown_first, shown_more, publication, LockMove, rests, asks, settles, lets_go, publishes, polls, ages, each_deed, deeds_moved, table_moved, table_polled, MayMove, MovesLocks, IsTable, Holds, IsWatch, last_of, locks_read, permit_of, kept-if, same-number}
 use Rattle.pcache_lock.specs.declared.lock.outcome.PermitState.TheVariants as stage
-use Rattle.pcache_lock.specs.declared.lock.permit.Locked.{Locked}
-use Rattle.pcache_lock.specs.declared.lock.permit.Locked.TheVariants.{Write, Read}
-use Rattle.pcache_lock.specs.declared.lock.status.LockStatus.{LockStatus}
-use Rattle.pcache_lock.specs.Statuses.{IsReason, is_free}
-use Rattle.pcache_lock.specs.Deeds.{Granted, Joined, Released, LetGo, Aged, Published, asked}
-use Rattle.pcache_lock.specs.PastWaits.{is_held}
-use Rattle.pcache_lock.specs.Permits.{Core, Permit, Reader, Watch, publications_at, readers_at}
-use Rattle.pcache_lock.specs.Locks.{Locks, holder, held_by, unless_free, lock_given, after_request, changed, is_permit, number_of_lock}
-use Rattle.pcache_lock.specs.Waiting.{answer_at, is_old, watched, polled, published, reader_at, reader_polled, permit_state, told_or_pending, watch_at, publications_with, with_publication}
-use Rattle.pcache_lock.specs.Waits.{is_old_at}
-use Rattle.pcache_request.specs.LockWaits.{is_old_result, too_old_for}
-use Rattle.pcache_request.specs.Requests.{let_go_by, settled}
-use Rattle.pcache_history.specs.Deeds.{Deed, Did, Polled, done, who_holds, shown, shown_first, shown_more, publication}
-use Rattle.pcache_world.specs.LockMoves.{LockMove, rests, asks, settles, lets_go, publishes, polls, ages, each_deed, deeds_moved, table_moved, held_moved, table_polled, MayMove, MovesLocks}
-use Rattle.pcache_world.specs.LockTable.{IsTable, Holds, IsWatch, last_of, locks_read}
-use Rattle.pcache_history.specs.Rules.{permit_of}
 use Rattle.pcache_world.proofs.LockTable as table
 use Rattle.pcache_world.proofs.LockTable.{Follows, some-same, given-there, held-given, read-there, who-held}
-use Rattle.pcache_lock.proofs.Ends.{kept-if}
 use Rattle.pcache_world.proofs.LockWatch.{watch-polled, watch-published, watch-same}
 use Rattle.pcache_world.proofs.StateWrites.{get-set}
-use Rattle.pcache_history.proofs.Sums.{same-number}
 
 -- ---- two steps, and other counts
 

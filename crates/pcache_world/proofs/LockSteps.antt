@@ -1,34 +1,15 @@
 -- What the functions of calls do to the lock table and to the lock that their request holds, as one move.
-use Rattle.std.proofs.Common.{◌≡◌, ℕ, Bool, true, false, cond, if◌then◌else◌, Option, None, Some, List, [], ◌∷◌, ◌++◌, refl, ap, sym, subst, ◌∙◌, option_map, Result, Ok, Err}
+use Rattle.std.proofs.Common.{option_map}
 use Rattle.std.proofs.lemmas.List.{append_assoc}
-use Rattle.std.specs.List.{list_any}
-use Rattle.pcache_base.specs.Key.{Key, slot}
-use Rattle.pcache_base.specs.declared.error.ErrorType.{ErrorType}
-use Rattle.pcache_base.specs.declared.error.ErrorType.TheVariants.{WriteRemoved}
-use Rattle.pcache_evict.specs.declared.eviction.entry_key.CacheEntryKey.{CacheEntryKey}
-use Rattle.pcache_lock.specs.Locks.{Locks, holder, lock_given, is_permit, number_of_lock}
-use Rattle.pcache_lock.specs.Statuses.{IsReason}
-use Rattle.pcache_lock.specs.declared.lock.permit.Locked.{Locked}
-use Rattle.pcache_lock.specs.declared.lock.status.LockStatus.{LockStatus}
-use Rattle.pcache_lock.specs.declared.lock.status.LockStatus.TheVariants.{Done, TransientError}
-use Rattle.pcache_meta.specs.Meta.{Meta}
-use Rattle.pcache_request.specs.LockUse.{published_by}
-use Rattle.pcache_request.specs.Reports.{asked_with, asked_by_found, name_of}
-use Rattle.pcache_request.specs.Requests.{Request, asks_as_stale, asks_for_hit, counts_found, entry_of, found_row, let_go_by, settled, table_asked, table_found, with_lock}
-use Rattle.pcache_request.specs.Variants.{asked_for_key, table_key_locked, with_key_lock}
-use Rattle.pcache_request.specs.declared.cache.report.AskedLock.{AskedLock}
-use Rattle.pcache_request.specs.declared.phase.HitStatus.{HitStatus}
-use Rattle.pcache_store.specs.Store.{Reader, reader_weight, write_read}
-use Rattle.pcache_history.specs.declared.entry.Answer.{Answer}
-use Rattle.pcache_history.specs.declared.entry.Event.{Event}
+use Rattle.pcache_lock.specs.declared.lock.status.LockStatus.TheVariants.{Done}
+use Rattle.pcache_request.specs.Requests.{Request, table_asked}
+use Rattle.pcache_store.specs.Store.{Reader}
+use Rattle.pcache_lock.specs.Deeds.{LetGo}
+use Rattle.pcache_history.specs.Deeds.{Did, keeps}
+use Rattle.pcache_world.specs.Step.{permit_in}
+use Rattle.pcache_world.proofs.Words.{◌≡◌, ℕ, Bool, true, false, cond, if◌then◌else◌, Option, None, Some, List, [], ◌∷◌, ◌++◌, refl, ap, sym, subst, ◌∙◌, Result, Ok, Err, list_any, Key, slot, ErrorType, WriteRemoved, CacheEntryKey, Locks, holder, lock_given, is_permit, number_of_lock, IsReason, Locked, LockStatus, TransientError, Meta, published_by, asked_with, asked_by_found, name_of, asks_as_stale, asks_for_hit, counts_found, entry_of, found_row, let_go_by, settled, table_found, with_lock, asked_for_key, table_key_locked, with_key_lock, AskedLock, HitStatus, reader_weight, write_read, Answer, Event, Released, Deed, deed_of, deeds_by, published_on, MovesLocks, asks, each_deed, lets_go, publishes, rests, settles, accesses, drop_of, each, permit_of, asking, refused_end, renewing, untracking, AreOfNoLock, IsOfNoLock}
 use Rattle.pcache_history.specs.declared.entry.Event.TheVariants as E
 use Rattle.pcache_lock.specs.Deeds as deed
-use Rattle.pcache_lock.specs.Deeds.{Released, LetGo}
-use Rattle.pcache_history.specs.Deeds.{Deed, Did, deed_of, deeds_by, keeps, published_on}
-use Rattle.pcache_world.specs.LockMoves.{MovesLocks, asks, each_deed, lets_go, publishes, rests, settles}
-use Rattle.pcache_history.specs.Rules.{accesses, drop_of, each, permit_of}
-use Rattle.pcache_world.specs.Step.{asking, permit_in, refused_end, renewing, untracking}
-use Rattle.pcache_history.specs.Waiting.{AreOfNoLock, IsOfNoLock}
 use Rattle.pcache_world.proofs.Noted.{permit-named}
 
 -- ---- deeds of lists of events

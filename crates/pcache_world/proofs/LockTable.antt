@@ -1,30 +1,20 @@
 -- The lock table stays what the deeds say: one lemma for all deeds of the table, by its past.
-use Rattle.std.proofs.Common.{◌≡◌, ℕ, ◌+◌, ◌-◌, ◌^◌, ◌<◌, ◌≤◌, ◌==◌, Bool, true, false, ◌&&◌, cond, if◌then◌else◌, Option, None, Some, is_some, List, [], ◌∷◌, ◌++◌, length, length-append, refl, ap, sym, subst, ◌∙◌, arith, min}
-use Rattle.std.specs.Prelude.{nat_lt, slice_get, unwrap_or}
+use Rattle.std.proofs.Common.{min}
 use Rattle.std.specs.Option.{option_map}
-use Rattle.std.specs.Ordering.{nat_cmp}
-use Rattle.std.specs.FinMap.{get, get-empty}
-use Rattle.std.proofs.lemmas.Bool.{and_parts, eqb-true, ne_eqb}
-use Rattle.std.proofs.lemmas.Bool.Decides.{nat_tests}
-use Rattle.pcache_lock.specs.Deeds as table
-use Rattle.pcache_lock.specs.Deeds.{Granted, Joined, Released, LetGo, Aged, Left, Published, Made}
-use Rattle.pcache_lock.specs.declared.lock.permit.Locked.TheVariants.{Write, Read}
-use Rattle.pcache_lock.specs.declared.lock.status.LockStatus.{LockStatus}
-use Rattle.pcache_lock.specs.declared.lock.status.LockStatus.TheVariants as status
-use Rattle.pcache_lock.specs.Statuses.{IsReason}
-use Rattle.pcache_lock.specs.Permits.{Core, Permit, Reader, publications_at, readers_at}
-use Rattle.pcache_lock.specs.Locks.{Locks, after_request, holder, let_go, no_locks, released}
-use Rattle.pcache_lock.specs.Waiting.{after_poll, publications_with, published, says_nothing}
-use Rattle.pcache_lock.specs.Waits.{is_old_at}
+use Rattle.std.proofs.lemmas.Bool.{ne_eqb}
+use Rattle.pcache_lock.specs.Deeds.{LetGo, Aged, Left, Made}
+use Rattle.pcache_lock.specs.declared.lock.permit.Locked.TheVariants.{Read}
+use Rattle.pcache_lock.specs.Permits.{Reader}
 use Rattle.pcache_lock.specs.Past.{Does}
-use Rattle.pcache_lock.specs.PastWaits.{given_at, given_by, held_by, is_held, number_of, status_by, status_said}
+use Rattle.pcache_lock.specs.PastWaits.{given_by, held_by, number_of, status_by}
 use Rattle.pcache_lock.proofs.Calls.{any_tidy}
-use Rattle.pcache_lock.proofs.Ends.{kept-if}
-use Rattle.pcache_lock.proofs.Kept.{gives, next-then, next_by, publications-then, publications_by, readers-then, readers_by, there-before}
-use Rattle.pcache_lock.proofs.Past.{begins, grows}
-use Rattle.pcache_lock.proofs.PastWaits.{Knows, age-then, known-by, own_by, turned, turns}
-use Rattle.pcache_history.specs.Deeds.{Deed, Did, Handed, Polled, done, publication, publication_at, who_holds}
-use Rattle.pcache_world.specs.LockTable.{IsTable, SaysAs, last_of}
+use Rattle.pcache_lock.proofs.Kept.{gives, publications-then, publications_by, readers-then, readers_by, there-before}
+use Rattle.pcache_lock.proofs.PastWaits.{age-then, known-by, own_by, turned, turns}
+use Rattle.pcache_history.specs.Deeds.{Did, publication_at}
+use Rattle.pcache_world.specs.LockTable.{SaysAs}
+use Rattle.pcache_world.proofs.Words.{◌≡◌, ℕ, ◌+◌, ◌-◌, ◌^◌, ◌<◌, ◌≤◌, ◌==◌, Bool, true, false, ◌&&◌, cond, if◌then◌else◌, Option, None, Some, is_some, List, [], ◌∷◌, ◌++◌, length, length-append, refl, ap, sym, subst, ◌∙◌, arith, nat_lt, slice_get, unwrap_or, nat_cmp, get, get-empty, and_parts, eqb-true, nat_tests, Granted, Joined, Released, Published, Write, LockStatus, IsReason, Core, Permit, publications_at, readers_at, Locks, after_request, holder, let_go, no_locks, released, after_poll, publications_with, published, says_nothing, is_old_at, given_at, is_held, status_said, kept-if, next-then, next_by, begins, grows, Knows, Deed, Handed, Polled, done, publication, who_holds, IsTable, last_of}
+use Rattle.pcache_lock.specs.Deeds as table
+use Rattle.pcache_lock.specs.declared.lock.status.LockStatus.TheVariants as status
 
 -- ---- what deeds say
 

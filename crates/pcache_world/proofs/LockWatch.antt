@@ -1,35 +1,26 @@
 -- The result of a poll is what the deeds say, and a reader continues to agree with them.
-use Rattle.std.proofs.Common.{◌≡◌, ◌≢◌, ℕ, ◌+◌, ◌-◌, ◌<◌, ◌==◌, Bool, true, false, ◌&&◌, ◌||◌, cond, if◌then◌else◌, Option, None, Some, is_some, List, [], ◌∷◌, ◌++◌, length, drop, refl, ap, sym, subst, ◌∙◌, arith, length-append}
-use Rattle.std.specs.Prelude.{slice_get, unwrap_or}
 use Rattle.std.specs.Option.{option_or}
-use Rattle.std.specs.FinMap.{get}
 use Rattle.std.proofs.lemmas.List.{drop-append-le, drop_more}
 use Rattle.std.proofs.lemmas.Option.{unwrap_or-slice_get}
-use Rattle.std.proofs.lemmas.Bool.{and_parts, ne_eqb}
+use Rattle.std.proofs.lemmas.Bool.{ne_eqb}
 use Rattle.pcache_base.specs.Fills.{first_match}
-use Rattle.pcache_base.specs.declared.fills.UnusableFill.{UnusableFill}
 use Rattle.pcache_base.specs.declared.poll.Poll.TheVariants.{Ready}
-use Rattle.pcache_lock.specs.declared.lock.outcome.PermitState.{PermitState}
+use Rattle.pcache_lock.specs.declared.lock.permit.Locked.TheVariants.{Read}
+use Rattle.pcache_lock.specs.Statuses.{is_aged, is_pending, is_waiting}
+use Rattle.pcache_lock.specs.PastWaits.{is_late, stage_by, stage_said}
+use Rattle.pcache_lock.specs.Permits.{Reader}
+use Rattle.pcache_lock.specs.Waiting.{first_told, is_expired}
+use Rattle.pcache_lock.proofs.PastWaits.{stage-is}
+use Rattle.pcache_request.specs.LockWaits.{is_late as late_at}
+use Rattle.pcache_request.specs.Requests.{Request}
+use Rattle.pcache_history.specs.Deeds.{Did}
+use Rattle.pcache_history.specs.Waits.{poll_at, poll_of, told_of}
+use Rattle.pcache_world.specs.LockTable.{IsWatching}
+use Rattle.pcache_world.proofs.Words.{◌≡◌, ◌≢◌, ℕ, ◌+◌, ◌-◌, ◌<◌, ◌==◌, Bool, true, false, ◌&&◌, ◌||◌, cond, if◌then◌else◌, Option, None, Some, is_some, List, [], ◌∷◌, ◌++◌, length, drop, refl, ap, sym, subst, ◌∙◌, arith, length-append, slice_get, unwrap_or, get, and_parts, UnusableFill, PermitState, LockStatus, Published, Locks, given_at, is_held, status_said, Core, Watch, publications_at, answer_at, permit_state, polled, publications_with, says_nothing, status_seen, told_or_pending, watch_at, watched, Knows, result_by, wait_result, too_old_for, is_old_result, unusable_in, Deed, Polled, done, publication, shown, shown_first, shown_more, finds_too_old, wait_of, last_of, IsTable, IsWatch, Holds, untold_read_lock, untold_request, same-number}
 use Rattle.pcache_lock.specs.declared.lock.outcome.PermitState.TheVariants as stage
 use Rattle.pcache_lock.specs.declared.lock.outcome.WaitOutcome.TheVariants as W
-use Rattle.pcache_lock.specs.declared.lock.permit.Locked.TheVariants.{Read}
-use Rattle.pcache_lock.specs.declared.lock.status.LockStatus.{LockStatus}
 use Rattle.pcache_lock.specs.declared.lock.status.LockStatus.TheVariants as status
-use Rattle.pcache_lock.specs.Deeds.{Published}
-use Rattle.pcache_lock.specs.Statuses.{is_aged, is_pending, is_waiting}
-use Rattle.pcache_lock.specs.Locks.{Locks}
-use Rattle.pcache_lock.specs.PastWaits.{given_at, is_held, is_late, stage_by, stage_said, status_said}
-use Rattle.pcache_lock.specs.Permits.{Core, Reader, Watch, publications_at}
-use Rattle.pcache_lock.specs.Waiting.{answer_at, first_told, is_expired, permit_state, polled, publications_with, says_nothing, status_seen, told_or_pending, watch_at, watched}
-use Rattle.pcache_lock.proofs.PastWaits.{Knows, stage-is}
-use Rattle.pcache_request.specs.LockWaits.{result_by, is_late as late_at, wait_result, too_old_for, is_old_result, unusable_in}
-use Rattle.pcache_request.specs.Requests.{Request}
-use Rattle.pcache_history.specs.Deeds.{Deed, Did, Polled, done, publication, shown, shown_first, shown_more}
-use Rattle.pcache_history.specs.Waits.{finds_too_old, poll_at, poll_of, told_of, wait_of}
-use Rattle.pcache_world.specs.LockTable.{last_of, IsTable, IsWatching, IsWatch, Holds}
-use Rattle.pcache_world.specs.Untold.{untold_read_lock, untold_request}
 use Rattle.pcache_world.proofs.LockTable.{empty, knows-at, read-there}
-use Rattle.pcache_history.proofs.Sums.{same-number}
 
 -- ---- lists of publications
 

@@ -1,48 +1,26 @@
 -- What a look-up reports is what its rule requires, and its change of the request is its row.
-use Rattle.std.proofs.Common.{◌≡◌, ℕ, ◌&&◌, Bool, true, false, cond, Option, None, Some, IsSome, is_none, List, [], ◌∷◌, ◌++◌, refl, ap, sym, subst, ◌∙◌, inl, inr, ◌≤◌, ◌^◌, IsTrue, ◌⊎◌, option_map, Result, Ok, Err, IfOk, IfErr}
-use Rattle.pcache_base.specs.Key.{Key, slot}
-use Rattle.pcache_base.specs.declared.error.ErrorType.{ErrorType}
-use Rattle.pcache_lock.specs.Locks.{Locks, MayFailLock}
-use Rattle.pcache_lock.specs.declared.lock.status.LockStatus.TheVariants.{TransientError}
-use Rattle.pcache_meta.specs.Meta.{Meta}
-use Rattle.pcache_predict.specs.declared.admission.Decision.{Decision}
+use Rattle.std.proofs.Common.{IsTrue, option_map}
 use Rattle.pcache_predict.specs.declared.admission.Decision.TheVariants.{Defer, Ready}
-use Rattle.pcache_request.specs.Admissions.{Decides, asks_policy, decided, decision_taken, is_deferral, kept_if, looked_with, observes, store_looked_with, table_looked_with, with_decision}
+use Rattle.pcache_request.specs.Admissions.{Decides, asks_policy, kept_if, looked_with, observes, store_looked_with, table_looked_with}
 use Rattle.pcache_base.specs.declared.reason.NoCacheReason.TheVariants.{Deferred}
 use Rattle.pcache_request.specs.LookUps.{OnLooked, OnUnlocked, Tells, handed_on}
-use Rattle.pcache_request.specs.Phases.{IsDisabled, MayLookUp}
-use Rattle.pcache_request.specs.Releasing.{disabled_for, disabled_in, switched_off}
-use Rattle.pcache_request.specs.Requests.{Request, found_for, left_by, dropped_by, reader_in, settled}
-use Rattle.pcache_request.specs.Variants.{asked_for_key, asks_unseen, is_hidden, is_unseen, is_unseen_for, searched, seen_for, table_key_locked, table_looked_for, visible, with_key_lock, without_hidden}
+use Rattle.pcache_request.specs.Releasing.{switched_off}
+use Rattle.pcache_request.specs.Requests.{Request}
+use Rattle.pcache_request.specs.Variants.{asks_unseen, is_hidden, is_unseen_for, searched, seen_for, table_looked_for, without_hidden}
 use Rattle.pcache_request.specs.Witnesses.{HasHeard, passed_over}
-use Rattle.pcache_request.specs.declared.cache.report.AskedLock.{AskedLock}
-use Rattle.pcache_request.specs.declared.cache.report.LookUp.{LookUp}
+use Rattle.pcache_store.specs.Store.{Reader, find}
+use Rattle.pcache_history.specs.Ongoing.{asked, policy_in}
+use Rattle.pcache_history.specs.Rules.{look_reply}
+use Rattle.pcache_world.specs.Moved.{Act, Acts, Did}
+use Rattle.pcache_world.specs.Step.{asked_answer, asking_if, held_after_look, look_answer, permit_in}
+use Rattle.pcache_history.proofs.ReadsLaw.{asked-reader, decided-reader, decided-held}
+use Rattle.pcache_world.proofs.Words.{◌≡◌, ℕ, ◌&&◌, Bool, true, false, cond, Option, None, Some, IsSome, is_none, List, [], ◌∷◌, ◌++◌, refl, ap, sym, subst, ◌∙◌, inl, inr, ◌≤◌, ◌^◌, ◌⊎◌, Result, Ok, Err, IfOk, IfErr, Key, slot, ErrorType, Locks, MayFailLock, TransientError, Meta, Decision, decided, decision_taken, is_deferral, with_decision, IsDisabled, MayLookUp, disabled_for, disabled_in, found_for, left_by, dropped_by, reader_in, settled, asked_for_key, is_unseen, table_key_locked, visible, with_key_lock, AskedLock, LookUp, CachePhase, reader_of, Store, followed, left, MemHitHandler, Reply, Answer, Nothing, Event, deeds_by, KeepsIn, KeepsKey, Owed, Facts, Ongoing, after_look, carrying, decides, looked_by, pair_of, pair_reader, HandsOn, Looks, LooksOn, Misses, drop_of, each, Limits, At, Joins, Leaves, IsNextAt, MovesStore, after_event, after_join, after_leave, at_call, Moves, asking, noted_look, MovesLocks, facts_in, LookNote}
 use Rattle.pcache_request.specs.declared.cache.report.LookUp.TheVariants as look
-use Rattle.pcache_request.specs.declared.phase.CachePhase.{CachePhase}
 use Rattle.pcache_request.specs.declared.phase.CachePhase.TheVariants as phase
-use Rattle.pcache_store.specs.Readers.{reader_of}
-use Rattle.pcache_store.specs.Store.{Store, Reader, find, followed, left}
-use Rattle.pcache_store.specs.declared.memory.hit.MemHitHandler.{MemHitHandler}
-use Rattle.pcache_history.specs.declared.call.Reply.{Reply}
 use Rattle.pcache_history.specs.declared.call.Reply.TheVariants as R
-use Rattle.pcache_history.specs.declared.entry.Answer.{Answer}
-use Rattle.pcache_history.specs.declared.entry.Answer.TheVariants.{Nothing}
-use Rattle.pcache_history.specs.declared.entry.Event.{Event}
 use Rattle.pcache_history.specs.declared.entry.Event.TheVariants as E
-use Rattle.pcache_history.specs.Deeds.{deeds_by}
-use Rattle.pcache_history.specs.Due.{KeepsIn, KeepsKey, Owed}
-use Rattle.pcache_history.specs.Facts.{Facts}
-use Rattle.pcache_history.specs.Ongoing.{Ongoing, after_look, asked, carrying, decides, looked_by, pair_of, pair_reader, policy_in}
-use Rattle.pcache_history.specs.Rules.{HandsOn, Looks, LooksOn, Misses, drop_of, each, look_reply}
-use Rattle.pcache_evict.specs.Tracked.{Limits}
-use Rattle.pcache_world.specs.Moved.{Act, Acts, At, Did, Joins, Leaves, IsNextAt, MovesStore, after_event, after_join, after_leave, at_call, Moves}
-use Rattle.pcache_world.specs.Step.{asked_answer, asking, asking_if, held_after_look, look_answer, noted_look, permit_in}
 use Rattle.pcache_world.proofs.Keeps.{asked-write, keeps-decided, keeps-off}
 use Rattle.pcache_world.proofs.MovesOf.{AreQuiet, defers, hidden, noted, quiet-asking, unnoted}
-use Rattle.pcache_history.proofs.ReadsLaw.{asked-reader, decided-reader, decided-held}
-use Rattle.pcache_world.specs.LockMoves.{MovesLocks}
-use Rattle.pcache_world.specs.PartFacts.{facts_in}
-use Rattle.pcache_world.specs.declared.world.look.LookNote.{LookNote}
 use Rattle.pcache_world.proofs.LockSteps.{deferred-locks, look-noted, missed-locks}
 use Rattle.pcache_world.proofs.Noted.{key-asked, misses-asked, misses-refused, permit-named}
 

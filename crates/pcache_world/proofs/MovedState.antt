@@ -1,25 +1,13 @@
 -- Parts that change by events agree with the longer history.
-use Rattle.std.proofs.Common.{◌≡◌, ℕ, ◌+◌, true, false, not, ◌&&◌, if◌then◌else◌, Option, None, Some, is_some, List, [], ◌∷◌, ◌++◌, refl, ap, sym, subst, ◌∙◌, arith, inl, reverse}
-use Rattle.std.specs.FinMap.{FinMap, get, insert, remove}
-use Rattle.std.specs.Ordering.{nat_cmp}
 use Rattle.std.proofs.lemmas.Bool.{not-true, not-false}
-use Rattle.pcache_base.specs.Totals.{share}
-use Rattle.pcache_meta.specs.Meta.{Meta, numbered}
-use Rattle.pcache_evict.specs.declared.eviction.entry_key.CacheEntryKey.{CacheEntryKey}
-use Rattle.pcache_evict.specs.Tracked.{Tracked, Limits}
-use Rattle.pcache_request.specs.Finishing.{PurgesAll}
-use Rattle.pcache_store.specs.Purge.{entry_purged}
-use Rattle.pcache_store.specs.Store.{Store, Reader, Whole, Part, is_untouched}
-use Rattle.pcache_history.specs.declared.entry.Event.{Event}
-use Rattle.pcache_history.specs.declared.entry.Event.TheVariants as E
-use Rattle.pcache_history.specs.Due.{Owed, makes, owes, MaySettle, IsNext, AreDue}
-use Rattle.pcache_history.specs.Events.{begin_of, is_removed, has_ended, in_flight, track, tracked}
-use Rattle.pcache_history.specs.Ongoing.{Ongoing, pair_reader}
-use Rattle.pcache_world.specs.Moved.{Act, Did, Joins, Leaves, did, owing, At, after_event, after_join, after_leave, IsNextAt, IsThereFor, evicted_from, Acts, MovesBy, reads_of}
-use Rattle.pcache_world.specs.Sound.{follows, readers, readers_in, IsState}
-use Rattle.pcache_history.specs.Kept.{IsTidy}
-use Rattle.pcache_world.proofs.Counts.{readers-remove, readers-insert}
+use Rattle.pcache_store.specs.Store.{Reader}
+use Rattle.pcache_history.specs.Events.{track}
+use Rattle.pcache_world.specs.Moved.{Act, Did, did, owing, Acts}
 use Rattle.pcache_history.proofs.Runs.{turned}
+use Rattle.pcache_history.proofs.Tidy.{tidy-look, tidy-ask, tidy-access, tidy-release, tidy-let_go, tidy-aged, tidy-untrack, tidy-read, tidy-purge, tidy-expire, tidy-renew, tidy-admit, tidy-begin, tidy-wrote, tidy-refused, tidy-dropped, tidy-finish}
+use Rattle.pcache_world.proofs.Words.{◌≡◌, ℕ, ◌+◌, true, false, not, ◌&&◌, if◌then◌else◌, Option, None, Some, is_some, List, [], ◌∷◌, ◌++◌, refl, ap, sym, subst, ◌∙◌, arith, inl, reverse, FinMap, get, insert, remove, nat_cmp, share, Meta, numbered, CacheEntryKey, Tracked, Limits, PurgesAll, entry_purged, Store, Whole, Part, is_untouched, Event, Owed, makes, owes, MaySettle, IsNext, AreDue, begin_of, is_removed, has_ended, in_flight, tracked, Ongoing, pair_reader, Joins, Leaves, At, after_event, after_join, after_leave, IsNextAt, IsThereFor, evicted_from, MovesBy, reads_of, follows, readers, readers_in, IsState, IsTidy, same-number}
+use Rattle.pcache_history.specs.declared.entry.Event.TheVariants as E
+use Rattle.pcache_world.proofs.Counts.{readers-remove, readers-insert}
 use Rattle.pcache_world.proofs.States.{state-same, state-look, state-ask, state-access, state-release, state-let_go, state-aged, state-untrack, state-read}
 use Rattle.pcache_world.proofs.StateAnswers.{stands-is, finds-is, reads-is, size-is}
 use Rattle.pcache_world.proofs.StateExpires.{state-expire, state-renew}
@@ -27,8 +15,6 @@ use Rattle.pcache_world.proofs.StatePurges.{state-purge, state-admit}
 use Rattle.pcache_world.proofs.StateSlots.{state-begin, state-dropped, state-refused, state-finished}
 use Rattle.pcache_world.proofs.StateWrites.{begun-flying, state-left_by, state-followed, part_of, read_in}
 use Rattle.pcache_world.proofs.StateWrote.{state-wrote}
-use Rattle.pcache_history.proofs.Sums.{same-number}
-use Rattle.pcache_history.proofs.Tidy.{tidy-look, tidy-ask, tidy-access, tidy-release, tidy-let_go, tidy-aged, tidy-untrack, tidy-read, tidy-purge, tidy-expire, tidy-renew, tidy-admit, tidy-begin, tidy-wrote, tidy-refused, tidy-dropped, tidy-finish}
 
 -- the write that a request makes is in flight
 abbrev pub Flies : List Event → Option ℕ → Type 0

@@ -1,49 +1,25 @@
 -- Moves of the parts, put together: an event, a reader that comes or goes, and then the rest.
-use Rattle.pcache_store.specs.Readers.{in_memory}
-use Rattle.std.proofs.Common.{◌≡◌, ℕ, ◌+◌, ◌≤◌, ◌==◌, ◌&&◌, nat_lt, length, Bool, true, false, Option, None, Some, is_some, IsSome, IfSome, List, [], ◌∷◌, ◌++◌, cond, if◌then◌else◌, refl, ap, sym, subst, ◌∙◌, arith, inl, inr, ◌⊎◌, Result, Ok, Err, IfOk, OnOk, OnErr}
-use Rattle.std.specs.FinMap.{get, remove}
 use Rattle.std.specs.Option.{option_map}
-use Rattle.pcache_base.specs.Key.{Key, slot}
-use Rattle.pcache_base.specs.declared.error.ErrorType.{ErrorType}
-use Rattle.pcache_base.specs.declared.error.ErrorType.TheVariants.{OutOfMemory, WriteRemoved}
-use Rattle.pcache_base.specs.declared.poll.Poll.{Poll}
-use Rattle.pcache_meta.specs.Meta.{Meta, expired_at, in_place_of, numbered}
-use Rattle.pcache_evict.specs.Tracked.{Tracked, Limits, added}
-use Rattle.pcache_evict.specs.declared.eviction.entry_key.CacheEntryKey.{CacheEntryKey}
-use Rattle.pcache_lock.specs.Locks.{Locks}
-use Rattle.pcache_predict.specs.declared.admission.Decision.{Decision}
-use Rattle.pcache_request.specs.Finishing.{after_finish, Admits, PurgesAll}
-use Rattle.pcache_request.specs.Phases.{IsFilling, IsOn, is_treated_as_miss}
-use Rattle.pcache_request.specs.declared.phase.CachePhase.{CachePhase}
-use Rattle.pcache_request.specs.declared.phase.CachePhase.TheVariants as phase
-use Rattle.pcache_request.specs.declared.cache.report.AskedLock.{AskedLock}
-use Rattle.pcache_request.specs.Requests.{settled, Request, left_by, asks_as_stale, asks_for_hit, with_lock, locked_found, found_row, store_found, tracked_found, tracked_found_at, counts_found, entry_of, begun_for, followed_for, writing, reader_in, store_writing, dropped_by}
-use Rattle.pcache_request.specs.Renewals.{has_body, with_meta_of}
-use Rattle.pcache_request.specs.WriteEnds as write_ends
-use Rattle.pcache_request.specs.WriteEnds.{finishes_of}
-use Rattle.pcache_request.specs.declared.cache.finish.FinishReport.{FinishReport}
-use Rattle.pcache_request.specs.declared.cache.finish.WriteEnd.{WriteEnd}
-use Rattle.pcache_request.specs.declared.cache.finish.WriteEnd.TheVariants as end
-use Rattle.pcache_request.specs.declared.phase.HitStatus.{HitStatus}
-use Rattle.pcache_store.specs.Finishes.{created}
-use Rattle.pcache_store.specs.Purge.{entry_purged}
-use Rattle.pcache_store.specs.Refusals.{MayFailFinish}
-use Rattle.pcache_store.specs.Store as store
-use Rattle.pcache_store.specs.Store.{Store, Reader, Whole, Part, reader_after, reader_weight, end_or, is_forward, read_of, find, followed, left, begun, new_write, finished, dropped, purged, meta_changed, is_untouched, written_size, meta_set, write_read}
-use Rattle.pcache_history.specs.declared.entry.Answer.{Answer}
-use Rattle.pcache_history.specs.declared.entry.Event.{Event}
-use Rattle.pcache_history.specs.declared.entry.Event.TheVariants as E
-use Rattle.pcache_history.specs.Due.{IsOfWorld, slot_of}
-use Rattle.pcache_history.specs.Ongoing.{Ongoing, pair_of, sought_in, with_sought, pair_reader}
-use Rattle.pcache_world.specs.Moved.{Did, Joins, Leaves, At, after_event, after_join, after_leave, IsNextAt, IsThereFor, IsSame, MovesBy, Moves, MovesStore, reads_of, at_call, evicted_from}
-use Rattle.pcache_history.specs.Rules.{permit_of, accesses, each, drop_of, untrack_of}
-use Rattle.pcache_world.specs.Sound.{follows, readers_in}
-use Rattle.pcache_world.specs.Step.{asking, permit_in, renewing, store_ended, refused_end}
+use Rattle.pcache_meta.specs.Meta.{expired_at}
+use Rattle.pcache_evict.specs.Tracked.{added}
+use Rattle.pcache_request.specs.Finishing.{Admits}
+use Rattle.pcache_request.specs.Phases.{is_treated_as_miss}
+use Rattle.pcache_request.specs.Requests.{Request, tracked_found, tracked_found_at, store_writing}
+use Rattle.pcache_request.specs.Renewals.{with_meta_of}
+use Rattle.pcache_store.specs.Store.{Reader, end_or, is_forward, find, begun}
+use Rattle.pcache_history.specs.Ongoing.{sought_in}
+use Rattle.pcache_world.specs.Moved.{Did}
+use Rattle.pcache_world.specs.Step.{permit_in, store_ended}
 use Rattle.pcache_history.proofs.Exact.{names_only, entry_names}
+use Rattle.pcache_world.proofs.Words.{in_memory, ◌≡◌, ℕ, ◌+◌, ◌≤◌, ◌==◌, ◌&&◌, nat_lt, length, Bool, true, false, Option, None, Some, is_some, IsSome, IfSome, List, [], ◌∷◌, ◌++◌, cond, if◌then◌else◌, refl, ap, sym, subst, ◌∙◌, arith, inl, inr, ◌⊎◌, Result, Ok, Err, IfOk, OnOk, OnErr, get, remove, Key, slot, ErrorType, OutOfMemory, WriteRemoved, Poll, Meta, in_place_of, numbered, Tracked, Limits, CacheEntryKey, Locks, Decision, after_finish, PurgesAll, IsFilling, IsOn, CachePhase, AskedLock, settled, left_by, asks_as_stale, asks_for_hit, with_lock, locked_found, found_row, store_found, counts_found, entry_of, begun_for, followed_for, writing, reader_in, dropped_by, has_body, finishes_of, FinishReport, WriteEnd, HitStatus, created, entry_purged, MayFailFinish, Store, Whole, Part, reader_after, reader_weight, read_of, followed, left, new_write, finished, dropped, purged, meta_changed, is_untouched, written_size, meta_set, write_read, Answer, Event, IsOfWorld, slot_of, Ongoing, pair_of, with_sought, pair_reader, Joins, Leaves, At, after_event, after_join, after_leave, IsNextAt, IsThereFor, IsSame, MovesBy, Moves, MovesStore, reads_of, at_call, evicted_from, permit_of, accesses, each, drop_of, untrack_of, follows, readers_in, asking, renewing, refused_end, same-number}
+use Rattle.pcache_request.specs.declared.phase.CachePhase.TheVariants as phase
+use Rattle.pcache_request.specs.WriteEnds as write_ends
+use Rattle.pcache_request.specs.declared.cache.finish.WriteEnd.TheVariants as end
+use Rattle.pcache_store.specs.Store as store
+use Rattle.pcache_history.specs.declared.entry.Event.TheVariants as E
 use Rattle.pcache_world.proofs.StateAnswers.{found-kept}
 use Rattle.pcache_world.proofs.StateCalls.{begun-joins}
 use Rattle.pcache_world.proofs.StateWrites.{part_of, read_in, get-set, get-unset}
-use Rattle.pcache_history.proofs.Sums.{same-number}
 
 -- events of locks: they may come wherever nothing is owed, and leave the parts as they are
 abbrev pub IsQuiet : Event → Type 0

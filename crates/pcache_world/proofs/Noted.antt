@@ -1,44 +1,23 @@
 -- What a world notes of a look-up and of what it takes is what the request became.
-use Rattle.std.proofs.Common.{◌≡◌, ℕ, Bool, true, false, ◌&&◌, cond, if◌then◌else◌, Option, None, Some, inl, inr, is_some, List, [], ◌∷◌, ◌++◌, refl, ap, sym, subst, ◌∙◌, IfSome, IsTrue, option_map, Result, Ok, Err, IfOk, IfErr, OnErr}
-use Rattle.std.specs.FinMap as map
+use Rattle.std.proofs.Common.{IsTrue, option_map}
 use Rattle.pcache_base.specs.CompactKey.{compact_of}
-use Rattle.pcache_base.specs.Key.{Key, slot}
-use Rattle.pcache_meta.specs.Meta as metas
-use Rattle.pcache_meta.specs.Meta.{Meta, internal_changed}
-use Rattle.pcache_base.specs.declared.error.ErrorType.{ErrorType}
-use Rattle.pcache_base.specs.declared.error.ErrorType.TheVariants.{OutOfMemory, NumbersExhausted}
-use Rattle.pcache_lock.specs.Locks.{Locks, MayFailLock, lock_given, holder, is_permit, number_of_lock}
-use Rattle.pcache_lock.specs.declared.lock.permit.Locked.{Locked}
-use Rattle.pcache_lock.specs.declared.lock.status.LockStatus.{LockStatus}
-use Rattle.pcache_lock.specs.declared.lock.permit.Locked.TheVariants.{Write, Read}
-use Rattle.pcache_base.specs.declared.poll.Poll.{Poll}
-use Rattle.pcache_evict.specs.Tracked.{Tracked}
-use Rattle.pcache_evict.specs.declared.eviction.entry_key.CacheEntryKey.{CacheEntryKey}
-use Rattle.pcache_request.specs.declared.cache.finish.FinishReport.{FinishReport}
-use Rattle.pcache_request.specs.declared.cache.finish.WriteEnd.{WriteEnd}
+use Rattle.pcache_meta.specs.Meta.{internal_changed}
+use Rattle.pcache_lock.specs.declared.lock.permit.Locked.TheVariants.{Read}
 use Rattle.pcache_request.specs.declared.cache.finish.WriteEnd.TheVariants.{Stored}
 use Rattle.pcache_store.specs.Purge.{purge_outcome, purged_at, expire_outcome, expired_at, slot_outcome}
-use Rattle.pcache_store.specs.Store.{Store, Reader, Part, find, complete_body, reader_weight, read_of, reader_after, purged, meta_changed, Slot, number_of_body, write_read}
+use Rattle.pcache_store.specs.Store.{Reader, find}
 use Rattle.pcache_store.specs.declared.storage.PurgeOutcome.{PurgeOutcome}
 use Rattle.pcache_store.specs.declared.storage.PurgeOutcome.TheVariants.{NotFound, Expired}
-use Rattle.pcache_request.specs.declared.phase.HitStatus.{HitStatus}
-use Rattle.pcache_history.specs.declared.call.LockKind.{LockKind}
-use Rattle.pcache_history.specs.declared.call.Reply.{Reply}
+use Rattle.pcache_request.specs.Reports.{released_as, access_by_found, entry_stored, untracked, untracked_for}
+use Rattle.pcache_request.specs.Requests.{Request, is_removed_by, tracked_gone, tracked_gone_for}
+use Rattle.pcache_history.specs.Rules.{renew_of, update_reply}
+use Rattle.pcache_history.specs.Ongoing.{lock_of, asked}
+use Rattle.pcache_world.specs.Step.{renewal_reply, kind_asked, permit_in}
+use Rattle.pcache_world.proofs.Words.{◌≡◌, ℕ, Bool, true, false, ◌&&◌, cond, if◌then◌else◌, Option, None, Some, inl, inr, is_some, List, [], ◌∷◌, ◌++◌, refl, ap, sym, subst, ◌∙◌, IfSome, Result, Ok, Err, IfOk, IfErr, OnErr, Key, slot, Meta, ErrorType, OutOfMemory, NumbersExhausted, Locks, MayFailLock, lock_given, holder, is_permit, number_of_lock, Locked, LockStatus, Write, Poll, Tracked, CacheEntryKey, FinishReport, WriteEnd, Store, Part, complete_body, reader_weight, read_of, reader_after, purged, meta_changed, Slot, number_of_body, write_read, HitStatus, LockKind, Reply, Answer, Event, CachePhase, name_of, asked_with, asked_by_found, asked_for_key, with_key_lock, AskedLock, LockName, found_for, found_row, locked_found, phase_found, placed, with_lock, asks_for_hit, asks_as_stale, counts_found, entry_of, reader_in, writing, begun_for, followed_for, facts_in, there_for, complete_for, number_for, has_body, renewed_by, Misses, Renews, Takes, AsksIf, IsLockRefusal, each, accesses, permit_of, untrack_of, began, read_past, IsAnswered, renewing, asking, noting, permit_released, untracking}
+use Rattle.std.specs.FinMap as map
+use Rattle.pcache_meta.specs.Meta as metas
 use Rattle.pcache_history.specs.declared.call.Reply.TheVariants as R
-use Rattle.pcache_history.specs.declared.entry.Answer.{Answer}
-use Rattle.pcache_history.specs.declared.entry.Event.{Event}
 use Rattle.pcache_history.specs.declared.entry.Event.TheVariants as E
-use Rattle.pcache_request.specs.declared.phase.CachePhase.{CachePhase}
-use Rattle.pcache_request.specs.Reports.{name_of, released_as, asked_with, asked_by_found, access_by_found, entry_stored, untracked, untracked_for}
-use Rattle.pcache_request.specs.Variants.{asked_for_key, with_key_lock}
-use Rattle.pcache_request.specs.declared.cache.report.AskedLock.{AskedLock}
-use Rattle.pcache_request.specs.declared.cache.report.LockName.{LockName}
-use Rattle.pcache_request.specs.Requests.{Request, found_for, found_row, locked_found, phase_found, placed, with_lock, asks_for_hit, asks_as_stale, counts_found, entry_of, reader_in, writing, begun_for, followed_for, is_removed_by, tracked_gone, tracked_gone_for}
-use Rattle.pcache_world.specs.PartFacts.{facts_in, there_for, complete_for, number_for}
-use Rattle.pcache_request.specs.Renewals.{has_body, renewed_by}
-use Rattle.pcache_history.specs.Rules.{Misses, Renews, Takes, renew_of, update_reply, AsksIf, IsLockRefusal, each, accesses, permit_of, untrack_of}
-use Rattle.pcache_history.specs.Ongoing.{lock_of, asked, began, read_past}
-use Rattle.pcache_world.specs.Step.{IsAnswered, renewal_reply, renewing, asking, kind_asked, noting, permit_in, permit_released, untracking}
 use Rattle.pcache_world.proofs.StateAnswers.{found-answer, read-past}
 use Rattle.pcache_world.proofs.StateCalls.{begun-joins}
 

@@ -1,24 +1,9 @@
 -- What holds of the fields of a world's parts holds of the parts as one value: each lemma takes that they are the same.
-use Rattle.std.proofs.Common.{◌≡◌, ℕ, Option, Some, List, subst, sym}
-use Rattle.pcache_evict.specs.Tracked.{Tracked, Evicted}
-use Rattle.pcache_lock.specs.Locks.{Locks}
-use Rattle.pcache_lock.specs.declared.lock.permit.Locked.{Locked}
 use Rattle.pcache_put.specs.Puts.{Says}
-use Rattle.pcache_store.specs.Store.{Store}
 use Rattle.pcache_history.specs.declared.call.Act.{Act}
-use Rattle.pcache_history.specs.declared.call.Act.TheVariants as C
-use Rattle.pcache_history.specs.declared.call.Call.{Call}
-use Rattle.pcache_history.specs.declared.call.RequestAct.{RequestAct}
-use Rattle.pcache_history.specs.declared.call.Reply.{Reply}
-use Rattle.pcache_history.specs.declared.entry.Event.{Event}
-use Rattle.pcache_history.specs.Deeds.{Deed, deeds_in}
-use Rattle.pcache_history.specs.Events.{evicted_by}
-use Rattle.pcache_history.specs.Ongoing.{Ongoing, kind_of_reply}
 use Rattle.pcache_world.specs.Handing.{Acts}
-use Rattle.pcache_world.specs.LockMoves.{MovesLocks}
-use Rattle.pcache_world.specs.Moved.{Moves}
-use Rattle.pcache_world.specs.State.{State}
-use Rattle.pcache_world.specs.Step.{Answers, Turn}
+use Rattle.pcache_world.proofs.Words.{◌≡◌, ℕ, Option, Some, List, subst, sym, Tracked, Evicted, Locks, Locked, Store, Call, RequestAct, Reply, Event, Deed, deeds_in, evicted_by, Ongoing, kind_of_reply, MovesLocks, Moves, State, Answers, Turn}
+use Rattle.pcache_history.specs.declared.call.Act.TheVariants as C
 
 pub moves-over : (q q' : Option Ongoing) (events : List Event) {s : Store} {m : Tracked} {p p' : State} → p ≡ p' → Moves p.limits q p.store p.tracked events q' s m → Moves p'.limits q p'.store p'.tracked events q' s m
 moves-over q q' events {s} {m} is moves = subst (λ (p : State). Moves p.limits q p.store p.tracked events q' s m) is moves

@@ -1,12 +1,6 @@
 -- The open requests after one more entry.
-use Rattle.std.proofs.Common.{◌≡◌, ℕ, ◌==◌, true, false, cond, if◌then◌else◌, Option, None, Some, List, [], ◌∷◌, refl, ap, sym, ◌∙◌, option_map}
-use Rattle.std.specs.Ordering.{nat_cmp}
-use Rattle.std.specs.FinMap.{FinMap, empty, get, get-empty}
-use Rattle.std.proofs.lemmas.Bool.{eqb-true}
-use Rattle.pcache_history.specs.declared.entry.Entry.{Entry}
-use Rattle.pcache_history.specs.Ongoing.{Ongoing, kind_of_reply, row, request_of, taken_over}
-use Rattle.pcache_world.specs.Untold.{untold}
-use Rattle.pcache_world.specs.Sound.{AreOpen}
+use Rattle.std.proofs.Common.{option_map}
+use Rattle.pcache_world.proofs.Words.{◌≡◌, ℕ, ◌==◌, true, false, cond, if◌then◌else◌, Option, None, Some, List, [], ◌∷◌, refl, ap, sym, ◌∙◌, nat_cmp, FinMap, empty, get, get-empty, eqb-true, Entry, Ongoing, kind_of_reply, row, request_of, taken_over, untold, AreOpen}
 use Rattle.pcache_world.proofs.MovedState.{set_to}
 use Rattle.pcache_world.proofs.StateWrites.{get-set, get-unset}
 

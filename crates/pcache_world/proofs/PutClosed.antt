@@ -1,43 +1,21 @@
 -- What the end of a put does, by what its context promises.
-use Rattle.pcache_store.specs.Readers.{in_memory}
-use Rattle.std.proofs.Common.{◌≡◌, ℕ, ◌⊎◌, length, true, false, is_some, Option, None, Some, List, [], ◌∷◌, ◌++◌, refl, ap, sym, subst, ◌∙◌, inl, inr}
-use Rattle.pcache_base.specs.Key.{slot}
-use Rattle.pcache_base.specs.declared.error.ErrorType.{ErrorType}
-use Rattle.pcache_base.specs.declared.error.ErrorType.TheVariants as error
-use Rattle.pcache_base.specs.declared.error.ErrorType.TheVariants.{OutOfMemory, IncompleteHttpBody}
-use Rattle.pcache_evict.specs.Tracked.{Tracked, Limits}
-use Rattle.pcache_evict.specs.declared.eviction.entry_key.CacheEntryKey.{CacheEntryKey}
-use Rattle.pcache_lock.specs.Locks.{Locks, no_locks}
-use Rattle.pcache_response.specs.Counted.{Counted}
-use Rattle.pcache_put.specs.Puts.{Piece, Says, Outcome as Comes, IsResult}
-use Rattle.pcache_put.specs.State.{Stage, InHead, InBody, HasDeclined, IsOver, Filled, TakenBy, limit_of, entry_in, write_in}
-use Rattle.pcache_put.specs.Steps.{EndsEarly, EndsPut, TellsResult, entry_reported, stage_ended, write_end}
-use Rattle.pcache_put.specs.declared.report.PutEnd.{PutEnd}
-use Rattle.pcache_put.specs.declared.report.PutEnd.TheVariants as end
-use Rattle.pcache_request.specs.Finishing.{after_finish}
-use Rattle.pcache_request.specs.Requests.{Request, dropped_by, entry_of}
+use Rattle.pcache_put.specs.Puts.{Says, Outcome as Comes}
+use Rattle.pcache_put.specs.State.{entry_in}
+use Rattle.pcache_put.specs.Steps.{EndsEarly, TellsResult, stage_ended, write_end}
+use Rattle.pcache_request.specs.Requests.{Request}
 use Rattle.pcache_request.specs.WriteEnds.{EndsBody, EndsWrite as EndsIn, HoldsNoLock}
-use Rattle.pcache_request.specs.declared.cache.finish.WriteEnd.{WriteEnd}
-use Rattle.pcache_request.specs.declared.cache.finish.WriteEnd.TheVariants as writes
-use Rattle.pcache_request.specs.declared.cache.finish.FinishReport.{FinishReport}
-use Rattle.pcache_store.specs.Finishes.{created}
-use Rattle.pcache_store.specs.Refusals.{MayFailFinish}
-use Rattle.pcache_store.specs.Store.{Store, dropped}
-use Rattle.pcache_history.specs.declared.call.Reply.{Reply}
-use Rattle.pcache_history.specs.declared.call.Reply.TheVariants as R
-use Rattle.pcache_history.specs.declared.entry.Event.{Event}
-use Rattle.pcache_history.specs.declared.entry.Event.TheVariants as E
-use Rattle.pcache_history.specs.Due.{IsOfWorld, Owed, reader_for, slot_of}
-use Rattle.pcache_history.specs.Facts.{Facts}
-use Rattle.pcache_world.specs.PartFacts.{facts_in}
-use Rattle.pcache_history.specs.Ongoing.{Ongoing, ongoing_put}
-use Rattle.pcache_world.specs.Moved.{Act, Did, Joins, Leaves, Acts, At, IsNextAt, IsSame, Moves, after_event, after_join, after_leave, at_call}
+use Rattle.pcache_history.specs.Due.{reader_for}
+use Rattle.pcache_world.specs.Moved.{Act, Did, Acts}
 use Rattle.pcache_history.specs.PutHistory.{Tells}
-use Rattle.pcache_world.specs.PutSteps.{IsUnwritten, IsWritten, end_noted, end_reply}
-use Rattle.pcache_history.specs.Rules.{Closes, ClosesAt, EndsFilling}
-use Rattle.pcache_world.specs.Step.{refused_end}
-use Rattle.pcache_history.specs.Taking.{Taking, filling}
-use Rattle.pcache_history.specs.Waiting.{AreOfNoLock}
+use Rattle.pcache_world.specs.PutSteps.{IsUnwritten, IsWritten, end_reply}
+use Rattle.pcache_history.specs.Rules.{ClosesAt, EndsFilling}
+use Rattle.pcache_history.specs.Taking.{filling}
+use Rattle.pcache_world.proofs.Words.{in_memory, ◌≡◌, ℕ, ◌⊎◌, length, true, false, is_some, Option, None, Some, List, [], ◌∷◌, ◌++◌, refl, ap, sym, subst, ◌∙◌, inl, inr, slot, ErrorType, OutOfMemory, IncompleteHttpBody, Tracked, Limits, CacheEntryKey, Locks, no_locks, Counted, Piece, IsResult, Stage, InHead, InBody, HasDeclined, IsOver, Filled, TakenBy, limit_of, write_in, EndsPut, entry_reported, PutEnd, after_finish, dropped_by, entry_of, WriteEnd, FinishReport, created, MayFailFinish, Store, dropped, Reply, Event, IsOfWorld, Owed, slot_of, Facts, facts_in, Ongoing, ongoing_put, Joins, Leaves, At, IsNextAt, IsSame, Moves, after_event, after_join, after_leave, at_call, end_noted, Closes, refused_end, Taking, AreOfNoLock}
+use Rattle.pcache_base.specs.declared.error.ErrorType.TheVariants as error
+use Rattle.pcache_put.specs.declared.report.PutEnd.TheVariants as end
+use Rattle.pcache_request.specs.declared.cache.finish.WriteEnd.TheVariants as writes
+use Rattle.pcache_history.specs.declared.call.Reply.TheVariants as R
+use Rattle.pcache_history.specs.declared.entry.Event.TheVariants as E
 use Rattle.pcache_world.proofs.LockSteps.{quiet-refused}
 use Rattle.pcache_world.proofs.MovesOf.{does, finish-dropped, finish-stored, finish-withdrawn, stop, with_pair}
 use Rattle.pcache_world.proofs.PutFed.{none-some, not-failed}

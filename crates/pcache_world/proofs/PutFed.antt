@@ -1,42 +1,24 @@
 -- What a piece of a put does, by what its context promises.
-use Rattle.std.proofs.Common.{◌≡◌, ◌↔◌, ℕ, ◌≤◌, ◌^◌, ◌⊎◌, true, length, Option, None, Some, IfSome, List, [], ◌∷◌, ◌++◌, refl, ap, sym, subst, ◌∙◌, inl, inr, option_map}
-use Rattle.pcache_base.specs.Key.{Key, slot}
-use Rattle.pcache_base.specs.declared.error.ErrorType.{ErrorType}
-use Rattle.pcache_base.specs.declared.error.ErrorType.TheVariants as error
-use Rattle.pcache_base.specs.declared.reason.NoCacheReason.{NoCacheReason}
-use Rattle.pcache_evict.specs.Tracked.{Tracked, Limits}
-use Rattle.pcache_lock.specs.Locks.{Locks}
-use Rattle.pcache_meta.specs.Meta.{Meta}
+use Rattle.std.proofs.Common.{◌↔◌, option_map}
 use Rattle.pcache_response.specs.Parts.{left_behind}
-use Rattle.pcache_response.specs.Progress.{Parsed, AtBody, AtHead, HasFailed}
-use Rattle.pcache_response.specs.Counted.{Counted}
-use Rattle.pcache_put.specs.Puts.{Piece, Says, joined}
+use Rattle.pcache_response.specs.Progress.{AtBody, HasFailed}
+use Rattle.pcache_put.specs.Puts.{Says, joined}
 use Rattle.pcache_response.specs.Response.{Response, is_whole}
 use Rattle.pcache_response.proofs.Unique.{one_response}
-use Rattle.pcache_put.specs.State.{Accepted, BodyRead, Stage, InHead, InBody, HasDeclined, IsOver, Filled, TakenBy, limit_of, write_in}
+use Rattle.pcache_put.specs.State.{Accepted, BodyRead}
 use Rattle.pcache_put.specs.Steps.{ReturnsAgain, BeginsAtHead, EndsPiece, HasWholeBody, IfRefused, IsBegunBefore, MayFailPiece, filled_on, filled_wrote, is_done, stage_begun, store_after}
 use Rattle.pcache_put.proofs.Bodies.{done_whole}
 use Rattle.pcache_put.specs.declared.report.PieceEnd.{PieceEnd}
-use Rattle.pcache_put.specs.declared.report.PieceEnd.TheVariants as piece
 use Rattle.pcache_put.specs.declared.report.Written.{Written}
-use Rattle.pcache_request.specs.Requests.{dropped_by}
-use Rattle.pcache_store.specs.Store.{Store, is_told}
-use Rattle.std.specs.FinMap.{get}
+use Rattle.pcache_store.specs.Store.{is_told}
+use Rattle.pcache_history.specs.PutHistory.{SayEnds, filled_by}
+use Rattle.pcache_history.specs.Rules.{FeedsAt, IsFeedRefusal, piece_noted, wrote_noted}
+use Rattle.pcache_world.proofs.Words.{◌≡◌, ℕ, ◌≤◌, ◌^◌, ◌⊎◌, true, length, Option, None, Some, IfSome, List, [], ◌∷◌, ◌++◌, refl, ap, sym, subst, ◌∙◌, inl, inr, Key, slot, ErrorType, NoCacheReason, Tracked, Limits, Locks, Meta, Parsed, AtHead, Counted, Piece, Stage, InHead, InBody, HasDeclined, IsOver, Filled, TakenBy, limit_of, write_in, dropped_by, Store, get, Reply, Event, slot_of, Facts, facts_in, Ongoing, ongoing_put, untold, At, Moves, MovesBy, MovesStore, at_call, AreWhole, IgnoresAt, SayBegins, EndsWhole, PutTurn, Feeds, drop_of, Taking}
+use Rattle.pcache_base.specs.declared.error.ErrorType.TheVariants as error
+use Rattle.pcache_put.specs.declared.report.PieceEnd.TheVariants as piece
 use Rattle.pcache_history.specs.declared.call.Act.TheVariants as C
-use Rattle.pcache_history.specs.declared.call.Reply.{Reply}
 use Rattle.pcache_history.specs.declared.call.Reply.TheVariants as R
-use Rattle.pcache_history.specs.declared.entry.Event.{Event}
 use Rattle.pcache_history.specs.declared.entry.Event.TheVariants as E
-use Rattle.pcache_history.specs.Due.{slot_of}
-use Rattle.pcache_history.specs.Facts.{Facts}
-use Rattle.pcache_world.specs.PartFacts.{facts_in}
-use Rattle.pcache_history.specs.Ongoing.{Ongoing, ongoing_put}
-use Rattle.pcache_world.specs.Untold.{untold}
-use Rattle.pcache_world.specs.Moved.{At, Moves, MovesBy, MovesStore, at_call}
-use Rattle.pcache_history.specs.PutHistory.{AreWhole, IgnoresAt, SayBegins, SayEnds, filled_by}
-use Rattle.pcache_world.specs.PutsSound.{EndsWhole, PutTurn}
-use Rattle.pcache_history.specs.Rules.{Feeds, FeedsAt, IsFeedRefusal, drop_of, piece_noted, wrote_noted}
-use Rattle.pcache_history.specs.Taking.{Taking}
 use Rattle.pcache_world.proofs.MovesOf.{does, drops, stop}
 
 pub none-some : {A B : Type 0} (a : A) → ◌≡◌ {A = Option A} (Some a) None → B

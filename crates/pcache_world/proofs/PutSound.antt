@@ -1,40 +1,19 @@
 -- A step of a sound world keeps what it keeps of its puts.
-use Rattle.std.proofs.Common.{◌≡◌, ℕ, ◌==◌, ◌||◌, nat_lt, true, false, cond, if◌then◌else◌, Option, None, Some, IsSome, List, [], ◌∷◌, refl, ap, sym, subst, ◌∙◌, inl, inr, option_map, reverse}
-use Rattle.std.proofs.lemmas.Bool.{eqb-true}
-use Rattle.std.specs.BTreeMap.{is_at}
-use Rattle.std.specs.Map.{lookup}
-use Rattle.std.specs.Ordering.{nat_cmp}
-use Rattle.std.specs.FinMap.{FinMap, empty, from_entries, get, get-empty}
-use Rattle.pcache_response.specs.Counted.{Counted}
-use Rattle.pcache_base.specs.declared.error.ErrorType.TheVariants.{OutOfMemory}
-use Rattle.pcache_put.specs.Puts.{Piece, Says, IsResult}
-use Rattle.pcache_put.specs.State.{Stage, InBody, Filled, limit_of}
-use Rattle.pcache_evict.specs.Tracked.{Tracked, Limits}
-use Rattle.pcache_lock.specs.Locks.{Locks}
-use Rattle.pcache_meta.specs.Meta.{Meta}
-use Rattle.pcache_store.specs.Store.{Store, is_told as store-told}
-use Rattle.pcache_history.specs.Events.{begin_of, body_of, in_flight, is_told}
-use Rattle.pcache_history.specs.History.{events_of}
+use Rattle.std.proofs.Common.{option_map}
+use Rattle.pcache_put.specs.Puts.{Says}
+use Rattle.pcache_store.specs.Store.{is_told as store-told}
+use Rattle.pcache_history.specs.Events.{is_told}
 use Rattle.pcache_history.specs.declared.call.Act.{Act}
-use Rattle.pcache_history.specs.declared.call.Act.TheVariants as C
-use Rattle.pcache_history.specs.declared.call.Reply.{Reply}
-use Rattle.pcache_history.specs.declared.call.Reply.TheVariants as R
-use Rattle.pcache_history.specs.declared.entry.Entry.{Entry}
-use Rattle.pcache_history.specs.declared.entry.Event.{Event}
-use Rattle.pcache_request.specs.LockUse.{unheld}
-use Rattle.pcache_history.specs.Ongoing.{Ongoing, is_done, kind_of_reply, request_of, row, taken_over, turned_by}
-use Rattle.pcache_world.specs.Untold.{untold, uncounted, untold_put}
-use Rattle.pcache_history.specs.PutHistory.{AreWhole, BeginsBy, BeginsOf, SayBegins, ClosesBy, EndsBy, IgnoresAt, IgnoresBy, IgnoresIn, IgnoresOf, WasAtStage, Tells, TellsOf, filled_after, filled_of, pieces_of, pieces_on}
-use Rattle.pcache_world.specs.PutsSound.{EndedIn, EndsWhole, HasEnded, HasSome, PutTurn, PutsSound, TakenIn}
-use Rattle.pcache_history.specs.Rules.{IsCopy, IsIdle}
-use Rattle.pcache_world.specs.Sound.{AreOpen, IsSound, readers, record_of}
-use Rattle.pcache_world.specs.Step.{IsRow}
-use Rattle.pcache_history.specs.Taking.{Taking}
-use Rattle.pcache_history.proofs.Copied.{kind-copied, row-copied}
-use Rattle.pcache_world.proofs.MovedState.{set_to}
-use Rattle.pcache_world.proofs.Opened.{get-set_to}
+use Rattle.pcache_history.specs.Ongoing.{is_done}
+use Rattle.pcache_history.specs.PutHistory.{Tells, TellsOf}
+use Rattle.pcache_world.specs.PutsSound.{EndedIn, HasEnded}
 use Rattle.pcache_history.proofs.PutEnds.{told-whole}
 use Rattle.pcache_history.proofs.Taken.{taken_keeps}
+use Rattle.pcache_world.proofs.Words.{◌≡◌, ℕ, ◌==◌, ◌||◌, nat_lt, true, false, cond, if◌then◌else◌, Option, None, Some, IsSome, List, [], ◌∷◌, refl, ap, sym, subst, ◌∙◌, inl, inr, reverse, eqb-true, is_at, lookup, nat_cmp, FinMap, empty, from_entries, get, get-empty, Counted, OutOfMemory, Piece, IsResult, Stage, InBody, Filled, limit_of, Tracked, Limits, Locks, Meta, Store, begin_of, body_of, in_flight, events_of, Reply, Entry, Event, unheld, Ongoing, kind_of_reply, request_of, row, taken_over, turned_by, untold, uncounted, untold_put, AreWhole, BeginsBy, BeginsOf, SayBegins, ClosesBy, EndsBy, IgnoresAt, IgnoresBy, IgnoresIn, IgnoresOf, WasAtStage, filled_after, filled_of, pieces_of, pieces_on, EndsWhole, HasSome, PutTurn, PutsSound, TakenIn, IsCopy, IsIdle, AreOpen, IsSound, readers, record_of, IsRow, Taking, kind-copied, row-copied}
+use Rattle.pcache_history.specs.declared.call.Act.TheVariants as C
+use Rattle.pcache_history.specs.declared.call.Reply.TheVariants as R
+use Rattle.pcache_world.proofs.MovedState.{set_to}
+use Rattle.pcache_world.proofs.Opened.{get-set_to}
 use Rattle.pcache_world.proofs.Turned.{at-number, lookup-get}
 use Rattle.pcache_world.proofs.Untold.{row-at}
 

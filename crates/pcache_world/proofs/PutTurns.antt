@@ -1,32 +1,12 @@
 -- What the functions of puts' calls promise, as one turn, and what every call does to what a put has taken in.
-use Rattle.std.proofs.Common.{◌≡◌, ℕ, Bool, true, false, cond, Option, None, Some, IsSome, List, [], refl, ap, sym, subst, ◌∙◌, inl, inr, is_some}
-use Rattle.std.proofs.lemmas.Bool.{both_ways}
-use Rattle.pcache_base.specs.Key.{Key}
-use Rattle.pcache_evict.specs.Tracked.{Tracked, Limits}
-use Rattle.pcache_lock.specs.Locks.{Locks}
-use Rattle.pcache_put.specs.Puts.{Piece, Says}
-use Rattle.pcache_request.specs.declared.cache.lock_use.CacheOptionOverrides.{CacheOptionOverrides}
-use Rattle.pcache_put.specs.State.{Filled}
-use Rattle.pcache_store.specs.Store.{Store}
+use Rattle.pcache_put.specs.Puts.{Says}
 use Rattle.pcache_history.specs.declared.call.Act.{Act}
-use Rattle.pcache_history.specs.declared.call.Act.TheVariants as C
-use Rattle.pcache_history.specs.declared.call.Reply.{Reply}
-use Rattle.pcache_history.specs.declared.call.Reply.TheVariants as R
-use Rattle.pcache_history.specs.declared.entry.Event.{Event}
-use Rattle.pcache_history.specs.Deeds.{deeds_in, held_in, status_left}
-use Rattle.pcache_history.specs.Due.{KeepsKey, IsOfWorldIn}
-use Rattle.pcache_history.specs.Facts.{Facts, request_in}
-use Rattle.pcache_world.specs.PartFacts.{facts_in, no_facts}
-use Rattle.pcache_history.specs.Ongoing.{Ongoing, IsOngoingPut, was_wrong, ongoing_put, is_done, is_wrong, kind_of_reply, row}
-use Rattle.pcache_world.specs.Handing.{open_at}
-use Rattle.pcache_world.specs.Moved.{Moves, MovesRequest, MovesStore}
-use Rattle.pcache_history.specs.PutHistory.{BeginsBy, BeginsIn, BeginsOf, ClosesBy, EndsBy, IgnoresBy, IgnoresIn, IgnoresOf, filled_after, pieces_on}
-use Rattle.pcache_world.specs.PutsSound.{HasSome, PutTurn, TakenIn}
-use Rattle.pcache_history.specs.Rules.{Feeds, FindsKind, IsIdle, IsOfKind, IsOther, MayBe, Replies}
-use Rattle.pcache_world.specs.Step.{IsRow, IsRowed, Turn}
-use Rattle.pcache_history.specs.Taking.{Taking, new_put}
-use Rattle.pcache_history.specs.Waiting.{AreOfNoLock}
+use Rattle.pcache_history.specs.Ongoing.{IsOngoingPut, is_done}
+use Rattle.pcache_history.specs.PutHistory.{BeginsIn}
 use Rattle.pcache_history.proofs.PutShape.{wrong-filled, wrong-pieces}
+use Rattle.pcache_world.proofs.Words.{◌≡◌, ℕ, Bool, true, false, cond, Option, None, Some, IsSome, List, [], refl, ap, sym, subst, ◌∙◌, inl, inr, is_some, both_ways, Key, Tracked, Limits, Locks, Piece, CacheOptionOverrides, Filled, Store, Reply, Event, deeds_in, held_in, status_left, KeepsKey, IsOfWorldIn, Facts, request_in, facts_in, no_facts, Ongoing, was_wrong, ongoing_put, is_wrong, kind_of_reply, row, open_at, Moves, MovesRequest, MovesStore, BeginsBy, BeginsOf, ClosesBy, EndsBy, IgnoresBy, IgnoresIn, IgnoresOf, filled_after, pieces_on, HasSome, PutTurn, TakenIn, Feeds, FindsKind, IsIdle, IsOfKind, IsOther, MayBe, Replies, IsRow, IsRowed, Turn, Taking, new_put, AreOfNoLock}
+use Rattle.pcache_history.specs.declared.call.Act.TheVariants as C
+use Rattle.pcache_history.specs.declared.call.Reply.TheVariants as R
 use Rattle.pcache_world.proofs.LockSteps.{no_locks_move, quiet-deeds}
 use Rattle.pcache_world.proofs.TurnOf.{row-at}
 

@@ -1,18 +1,9 @@
 -- How many read locks the open requests of a world hold.
-use Rattle.std.proofs.Common.{◌≡◌, ℕ, ◌+◌, ◌<◌, ◌≤◌, ◌==◌, true, false, if◌then◌else◌, Option, None, Some, List, [], ◌∷◌, refl, ap, sym, ◌∙◌, arith, length}
-use Rattle.std.specs.Ordering.{nat_cmp}
-use Rattle.std.specs.Cmp.{nat_cmp_total}
-use Rattle.std.specs.FinMap.{FinMap, empty, from_entries, get, insert, remove, nat_cmp-IsAntisymmetric}
-use Rattle.pcache_base.specs.Totals.{share}
-use Rattle.pcache_base.proofs.Totals.{total-empty, total-insert, total-remove}
 use Rattle.pcache_lock.specs.Permits.{Reader}
-use Rattle.pcache_lock.specs.declared.lock.permit.Locked.{Locked}
-use Rattle.pcache_lock.specs.declared.lock.permit.Locked.TheVariants.{Write, Read}
-use Rattle.pcache_history.specs.Deeds.{held_in}
-use Rattle.pcache_history.specs.Ongoing.{Ongoing}
-use Rattle.pcache_world.specs.LockTable.{locks_read, locks_read_in, read_locks}
+use Rattle.pcache_lock.specs.declared.lock.permit.Locked.TheVariants.{Read}
+use Rattle.pcache_world.specs.LockTable.{locks_read_in}
+use Rattle.pcache_world.proofs.Words.{◌≡◌, ℕ, ◌+◌, ◌<◌, ◌≤◌, ◌==◌, true, false, if◌then◌else◌, Option, None, Some, List, [], ◌∷◌, refl, ap, sym, ◌∙◌, arith, length, nat_cmp, nat_cmp_total, FinMap, empty, from_entries, get, insert, remove, nat_cmp-IsAntisymmetric, share, total-empty, total-insert, total-remove, Locked, Write, held_in, Ongoing, locks_read, read_locks, same-number}
 use Rattle.pcache_world.proofs.MovedState.{set_to}
-use Rattle.pcache_history.proofs.Sums.{same-number}
 
 pub locks-none : (l : ℕ) → read_locks empty l ≡ 0
 locks-none l = total-empty nat_cmp_total (locks_read_in l)

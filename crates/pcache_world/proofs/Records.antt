@@ -1,19 +1,8 @@
 -- With no number open a world's store keeps no record of a write.
-use Rattle.std.proofs.Common.{◌≡◌, ℕ, Bool, false, true, ◌||◌, nat_lt, if◌then◌else◌, Option, None, Some, List, refl, ap, sym, ◌∙◌, option_map, arith}
-use Rattle.std.specs.Ordering.{nat_cmp}
-use Rattle.std.specs.Cmp.{nat_cmp_total}
-use Rattle.std.specs.FinMap.{FinMap, empty, get, get-empty, len, len-empty, same_map, nat_cmp-IsAntisymmetric}
-use Rattle.pcache_base.proofs.Totals.{total-empty}
-use Rattle.pcache_evict.specs.Tracked.{Tracked, Limits}
-use Rattle.pcache_lock.specs.Locks.{Locks}
-use Rattle.pcache_store.specs.Store.{Store, Written}
-use Rattle.pcache_history.specs.declared.entry.Entry.{Entry}
-use Rattle.pcache_history.specs.declared.entry.Event.{Event}
-use Rattle.pcache_history.specs.Events.{in_flight}
-use Rattle.pcache_history.specs.Ongoing.{Ongoing, request_of}
-use Rattle.pcache_history.specs.History.{events_of}
-use Rattle.pcache_world.specs.Sound.{IsSound, readers, record_of, writers, writers_in}
-use Rattle.pcache_world.specs.Untold.{untold}
+use Rattle.std.proofs.Common.{option_map}
+use Rattle.std.specs.FinMap.{len-empty}
+use Rattle.pcache_store.specs.Store.{Written}
+use Rattle.pcache_world.proofs.Words.{◌≡◌, ℕ, Bool, false, true, ◌||◌, nat_lt, if◌then◌else◌, Option, None, Some, List, refl, ap, sym, ◌∙◌, arith, nat_cmp, nat_cmp_total, FinMap, empty, get, get-empty, len, same_map, nat_cmp-IsAntisymmetric, total-empty, Tracked, Limits, Locks, Store, Entry, Event, in_flight, Ongoing, request_of, events_of, IsSound, readers, record_of, writers, writers_in, untold}
 use Rattle.pcache_world.proofs.Counts.{readers-none}
 
 untold-none : (q : Option Ongoing) → option_map untold q ≡ None → q ≡ None

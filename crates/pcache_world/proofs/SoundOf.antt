@@ -1,30 +1,10 @@
 -- A legal history, and parts that agree with it, make a sound world: the rest follows from these.
-use Rattle.std.proofs.Common.{◌≡◌, ℕ, ◌+◌, Bool, true, false, cond, ◌==◌, if◌then◌else◌, Option, None, Some, List, refl, ap, sym, ◌∙◌, arith, option_map}
-use Rattle.std.specs.Ordering.{nat_cmp, eq_by_cmp}
-use Rattle.std.specs.Cmp.{nat_cmp_total}
-use Rattle.std.specs.FinMap.{FinMap, get, remove, len, get-remove, nat_cmp-IsAntisymmetric}
-use Rattle.std.proofs.lemmas.Bool.{eq-eqb, ne_eqb, both_ways}
-use Rattle.pcache_base.specs.Totals.{total, share}
-use Rattle.pcache_base.proofs.Totals.{total-remove}
-use Rattle.pcache_evict.specs.Tracked.{Tracked, Limits}
-use Rattle.pcache_lock.specs.Locks.{Locks}
-use Rattle.pcache_store.specs.Store.{Store}
-use Rattle.pcache_history.specs.declared.entry.Entry.{Entry}
-use Rattle.pcache_history.specs.declared.entry.Event.{Event}
-use Rattle.pcache_history.specs.Events.{in_flight, tracked, option_any}
-use Rattle.pcache_history.specs.Deeds.{deeds_of}
-use Rattle.pcache_history.specs.Ongoing.{Ongoing, request_of}
-use Rattle.pcache_world.specs.Untold.{untold}
-use Rattle.pcache_history.specs.History.{events_of}
-use Rattle.pcache_history.specs.Due.{makes_of, slot_of}
-use Rattle.pcache_history.specs.Legal.{IsLegal}
-use Rattle.pcache_world.specs.LockTable.{IsTable, read_locks}
-use Rattle.pcache_world.specs.Sound.{AllHold, IsState, AreOpen, AreOngoing, IsSound, readers, writers_in}
-use Rattle.pcache_world.specs.TableWaiting.{IsLocked}
-use Rattle.pcache_world.proofs.Counts.{writes-one}
-use Rattle.pcache_history.proofs.Sums.{cmp_same, total-zero}
+use Rattle.std.proofs.Common.{option_map}
+use Rattle.std.proofs.lemmas.Bool.{ne_eqb}
 use Rattle.pcache_history.proofs.Due.{AreMade}
 use Rattle.pcache_history.proofs.WriteLaws.{legal_kept}
+use Rattle.pcache_world.proofs.Words.{◌≡◌, ℕ, ◌+◌, Bool, true, false, cond, ◌==◌, if◌then◌else◌, Option, None, Some, List, refl, ap, sym, ◌∙◌, arith, nat_cmp, eq_by_cmp, nat_cmp_total, FinMap, get, remove, len, get-remove, nat_cmp-IsAntisymmetric, eq-eqb, both_ways, total, share, total-remove, Tracked, Limits, Locks, Store, Entry, Event, in_flight, tracked, option_any, deeds_of, Ongoing, request_of, untold, events_of, makes_of, slot_of, IsLegal, IsTable, read_locks, AllHold, IsState, AreOpen, AreOngoing, IsSound, readers, writers_in, IsLocked, cmp_same, total-zero}
+use Rattle.pcache_world.proofs.Counts.{writes-one}
 
 -- Who holds a write.
 

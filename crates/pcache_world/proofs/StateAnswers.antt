@@ -1,28 +1,20 @@
 -- The results of a store are what the events say, if the store agrees with them.
-use Rattle.std.proofs.Common.{◌≡◌, ℕ, ◌+◌, ◌-◌, ◌<◌, ◌≤◌, ◌==◌, Bool, true, false, not, cond, ◌&&◌, T, if◌then◌else◌, Option, None, Some, is_some, is_none, List, [], ◌∷◌, length, drop, refl, ap, sym, subst, ◌∙◌, arith, inl, inr, length-drop, ltb-true, ne_eqb}
-use Rattle.std.specs.Prelude.{nat_lt, IsSome}
+use Rattle.std.proofs.Common.{T, length-drop, ltb-true, ne_eqb}
 use Rattle.std.specs.Option.{option_map}
-use Rattle.std.specs.Ordering.{nat_cmp, is_lt, is_eq}
+use Rattle.std.specs.Ordering.{is_lt, is_eq}
 use Rattle.std.specs.declared.cmp.Ordering.TheVariants.{Less, Equal, Greater}
-use Rattle.std.specs.Cmp.{nat_cmp_total, tied_itself}
-use Rattle.std.specs.FinMap.{FinMap, get, contains_key, len, entries, get-entries, entries_sorted, len-entries}
-use Rattle.std.specs.FinMap as map
+use Rattle.std.specs.Cmp.{tied_itself}
+use Rattle.std.specs.FinMap.{entries, get-entries, entries_sorted, len-entries}
 use Rattle.std.specs.FinMap.Entries.{is_sorted, below_all}
-use Rattle.std.proofs.lemmas.Bool.{and_parts}
-use Rattle.pcache_meta.specs.Meta.{Meta}
-use Rattle.pcache_base.specs.declared.poll.Poll.TheVariants.{Ready, Pending}
+use Rattle.pcache_base.specs.declared.poll.Poll.TheVariants.{Ready}
 use Rattle.pcache_table.specs.Numbers.{first_key, least}
-use Rattle.pcache_store.specs.Store.{Store, Slot, Stored, Written, Reader, Whole, Part, found_body, found_part, found_first, found_in, find, found_flying, find_write, followed, is_untouched_in, is_idle, is_untouched_on, is_untouched, read_part, read_of, offset_after, reader_after}
+use Rattle.pcache_store.specs.Store.{Stored, Written, Reader, found_body, found_part, found_first, found_in, find, is_untouched_on, read_part, offset_after}
+use Rattle.pcache_history.specs.History.{Finds, reads}
+use Rattle.pcache_world.proofs.Words.{◌≡◌, ℕ, ◌+◌, ◌-◌, ◌<◌, ◌≤◌, ◌==◌, Bool, true, false, not, cond, ◌&&◌, if◌then◌else◌, Option, None, Some, is_some, is_none, List, [], ◌∷◌, length, drop, refl, ap, sym, subst, ◌∙◌, arith, inl, inr, nat_lt, IsSome, nat_cmp, nat_cmp_total, FinMap, get, contains_key, len, and_parts, Meta, Pending, Store, Slot, Whole, Part, found_flying, find_write, followed, is_untouched_in, is_idle, is_untouched, read_of, reader_after, Answer, Event, begin_of, in_flight, is_of, is_open, is_removed, complete, pair_of, read_past, HasAny, follows, IsState, cmp_same, same-number}
+use Rattle.std.specs.FinMap as map
 use Rattle.pcache_store.specs.Store as store
-use Rattle.pcache_history.specs.declared.entry.Answer.{Answer}
 use Rattle.pcache_history.specs.declared.entry.Answer.TheVariants as A
-use Rattle.pcache_history.specs.declared.entry.Event.{Event}
 use Rattle.pcache_history.specs.Events as ev
-use Rattle.pcache_history.specs.Events.{begin_of, in_flight, is_of, is_open, is_removed, complete}
-use Rattle.pcache_history.specs.Ongoing.{pair_of, read_past}
-use Rattle.pcache_history.specs.History.{Finds, HasAny, reads}
-use Rattle.pcache_world.specs.Sound.{follows, IsState}
-use Rattle.pcache_history.proofs.Sums.{cmp_same, same-number}
 use Rattle.pcache_world.proofs.StateWrites.{kept_as, begun-flying, record-flying, record-read, part_of}
 
 -- ---- the least number

@@ -1,9 +1,6 @@
 -- The store right after a write began.
-use Rattle.std.proofs.Common.{◌≡◌, ℕ, cond, None, Some, ap, ◌∙◌}
-use Rattle.std.specs.FinMap.{get}
-use Rattle.pcache_meta.specs.Meta.{Meta, numbered}
-use Rattle.pcache_store.specs.Store.{Store, Part, begun, found_flying, find_write, new_write}
-use Rattle.pcache_history.proofs.Sums.{same-number}
+use Rattle.pcache_store.specs.Store.{begun}
+use Rattle.pcache_world.proofs.Words.{◌≡◌, ℕ, cond, None, Some, ap, ◌∙◌, get, Meta, numbered, Store, Part, found_flying, find_write, new_write, same-number}
 use Rattle.pcache_world.proofs.StateWrites.{get-set}
 
 -- the write that begins can be joined at once

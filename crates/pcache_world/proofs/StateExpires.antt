@@ -1,17 +1,9 @@
 -- The store after an expiry, and after a revalidation.
-use Rattle.std.proofs.Common.{◌≡◌, ℕ, ◌==◌, true, false, cond, if◌then◌else◌, Option, None, Some, List, ◌∷◌, refl, ap, sym, ◌∙◌}
 use Rattle.std.specs.Option.{option_map}
-use Rattle.std.specs.Ordering.{nat_cmp}
-use Rattle.std.specs.FinMap.{FinMap, get, contains_key}
-use Rattle.std.proofs.lemmas.Bool.{eqb-true}
-use Rattle.pcache_meta.specs.Meta.{Meta, expired_at, in_place_of}
-use Rattle.pcache_store.specs.Store.{Store, Slot, Stored, is_untouched_in, is_idle, complete_body, with_meta, meta_changed_in, meta_changed_on, meta_changed, meta_set}
-use Rattle.pcache_history.specs.declared.entry.Event.{Event}
-use Rattle.pcache_history.specs.declared.entry.Event.TheVariants.{Expire, Renew}
-use Rattle.pcache_history.specs.Events.{complete, is_open}
-use Rattle.pcache_world.specs.Sound.{IsState}
-use Rattle.pcache_history.specs.Kept.{IsTidy}
+use Rattle.pcache_meta.specs.Meta.{expired_at}
+use Rattle.pcache_store.specs.Store.{Stored, with_meta, meta_changed_in, meta_changed_on}
 use Rattle.pcache_history.proofs.Steps.{complete-expire, complete-renew, altered_body}
+use Rattle.pcache_world.proofs.Words.{◌≡◌, ℕ, ◌==◌, true, false, cond, if◌then◌else◌, Option, None, Some, List, ◌∷◌, refl, ap, sym, ◌∙◌, nat_cmp, FinMap, get, contains_key, eqb-true, Meta, in_place_of, Store, Slot, is_untouched_in, is_idle, complete_body, meta_changed, meta_set, Event, Expire, Renew, complete, is_open, IsState, IsTidy}
 use Rattle.pcache_world.proofs.StateSlots.{filled-at}
 use Rattle.pcache_world.proofs.StateWrites.{get-set}
 

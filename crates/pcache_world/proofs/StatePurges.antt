@@ -1,25 +1,13 @@
 -- The store after keys were removed: by a purge, and by an admission that evicts.
-use Rattle.std.proofs.Common.{◌≡◌, ℕ, ◌<◌, ◌==◌, nat_eq, Bool, true, false, not, cond, ◌&&◌, ◌||◌, if◌then◌else◌, Option, None, Some, is_some, List, [], ◌∷◌, refl, ap, sym, subst, ◌∙◌, arith, inl, inr}
-use Rattle.std.specs.List.{list_any}
-use Rattle.std.specs.Option.{option_and_then, option_eq}
-use Rattle.std.specs.Ordering.{nat_cmp}
-use Rattle.std.specs.FinMap.{FinMap, get, remove}
-use Rattle.std.proofs.lemmas.Bool.{eqb-true}
-use Rattle.std.proofs.lemmas.Bool.Decides.{nat_tests}
 use Rattle.std.proofs.Math.Bool.{or-false, or_assoc}
-use Rattle.pcache_meta.specs.Meta.{Meta}
 use Rattle.pcache_evict.specs.Entry.{id_of}
-use Rattle.pcache_evict.specs.declared.eviction.entry_key.CacheEntryKey.{CacheEntryKey}
-use Rattle.pcache_store.specs.Store.{Store, Slot, Stored, is_untouched_in, is_idle, complete_body, purged, body_without, slot_without, write_gone_on, write_purged}
-use Rattle.pcache_store.specs.Purge.{entry_purged, entry_purged_in}
-use Rattle.pcache_request.specs.Finishing.{PurgesAll, entry_slot}
-use Rattle.pcache_history.specs.declared.entry.Event.{Event}
-use Rattle.pcache_history.specs.declared.entry.Event.TheVariants.{Admit, Purge}
-use Rattle.pcache_history.specs.Events.{begun, begin_of, since, removes, is_number, goes_with, goes_with_any, option_any, in_flight, is_open, is_replaced, is_removed, last_finished, meta_kept, body_of, complete}
-use Rattle.pcache_world.specs.Sound.{record_of, IsState}
-use Rattle.pcache_history.specs.Kept.{IsTidy}
+use Rattle.pcache_store.specs.Store.{Stored, body_without, slot_without, write_gone_on, write_purged}
+use Rattle.pcache_store.specs.Purge.{entry_purged_in}
+use Rattle.pcache_request.specs.Finishing.{entry_slot}
+use Rattle.pcache_history.specs.Events.{begun, is_number, goes_with, goes_with_any, meta_kept}
 use Rattle.pcache_history.proofs.NumbersLaw.{complete-numbered}
 use Rattle.pcache_history.proofs.Steps.{complete-purge, complete-admit, unless_removed, whole}
+use Rattle.pcache_world.proofs.Words.{◌≡◌, ℕ, ◌<◌, ◌==◌, nat_eq, Bool, true, false, not, cond, ◌&&◌, ◌||◌, if◌then◌else◌, Option, None, Some, is_some, List, [], ◌∷◌, refl, ap, sym, subst, ◌∙◌, arith, inl, inr, list_any, option_and_then, option_eq, nat_cmp, FinMap, get, remove, eqb-true, nat_tests, Meta, CacheEntryKey, Store, Slot, is_untouched_in, is_idle, complete_body, purged, entry_purged, PurgesAll, Event, Admit, Purge, begin_of, since, removes, option_any, in_flight, is_open, is_replaced, is_removed, last_finished, body_of, complete, record_of, IsState, IsTidy}
 use Rattle.pcache_world.proofs.StateSlots.{tidied, tidied-body, tidied-untouched, tidied-filled, get-with_slot, gone-key, filled-at}
 use Rattle.pcache_world.proofs.StateWrites.{get-unset}
 

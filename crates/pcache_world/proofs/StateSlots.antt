@@ -1,20 +1,11 @@
 -- The slots of a store: after a write began or ended, and after removals.
-use Rattle.std.proofs.Common.{◌≡◌, ℕ, ◌+◌, ◌≤◌, ◌==◌, nat_eq, Bool, true, false, not, cond, ◌&&◌, ◌||◌, if◌then◌else◌, Option, None, Some, is_some, is_none, List, [], ◌∷◌, refl, ap, sym, subst, ◌∙◌, arith, inl, inr}
-use Rattle.std.specs.List.{list_any}
-use Rattle.std.specs.Option.{option_eq}
-use Rattle.std.specs.Ordering.{nat_cmp}
-use Rattle.std.specs.FinMap.{FinMap, get, insert, remove, contains_key, len, get-empty, empty_of_len}
-use Rattle.std.proofs.lemmas.Bool.{eqb-true, both_ways, and_parts, cases_lt, false_from_ne_true, and_right}
-use Rattle.pcache_meta.specs.Meta.{Meta, numbered}
-use Rattle.pcache_store.specs.Store.{Store, Slot, Stored, is_untouched_in, is_idle, complete_body, with_slot, slot_or_new, opened_in, opened, new_write, begun, closed, grounded, shut_on, shut, dropped_on, dropped, stored_on, finished_on, finished}
-use Rattle.pcache_history.specs.declared.entry.Event.{Event}
-use Rattle.pcache_history.specs.declared.entry.Event.TheVariants.{Begin, Finish, Dropped}
-use Rattle.pcache_history.specs.Events as ev
-use Rattle.pcache_history.specs.Events.{begin_of, since, removes, option_any, is_replaced, is_removed, last_finished, has_ended, in_flight, is_told, is_of, is_open, complete}
-use Rattle.pcache_world.specs.Sound.{record_of, IsState}
-use Rattle.pcache_history.specs.Kept.{IsTidy}
+use Rattle.std.specs.FinMap.{empty_of_len}
+use Rattle.std.proofs.lemmas.Bool.{cases_lt, false_from_ne_true, and_right}
+use Rattle.pcache_store.specs.Store.{Stored, with_slot, slot_or_new, opened_in, opened, begun, closed, grounded, shut_on, shut, dropped_on, stored_on, finished_on}
+use Rattle.pcache_history.specs.Events.{is_told}
 use Rattle.pcache_history.proofs.Steps.{complete-begin, complete-finish, not-stored, flies-removed}
-use Rattle.pcache_history.proofs.Sums.{same-number}
+use Rattle.pcache_world.proofs.Words.{◌≡◌, ℕ, ◌+◌, ◌≤◌, ◌==◌, nat_eq, Bool, true, false, not, cond, ◌&&◌, ◌||◌, if◌then◌else◌, Option, None, Some, is_some, is_none, List, [], ◌∷◌, refl, ap, sym, subst, ◌∙◌, arith, inl, inr, list_any, option_eq, nat_cmp, FinMap, get, insert, remove, contains_key, len, get-empty, eqb-true, both_ways, and_parts, Meta, numbered, Store, Slot, is_untouched_in, is_idle, complete_body, new_write, dropped, finished, Event, Begin, Finish, Dropped, begin_of, since, removes, option_any, is_replaced, is_removed, last_finished, has_ended, in_flight, is_of, is_open, complete, record_of, IsState, IsTidy, same-number}
+use Rattle.pcache_history.specs.Events as ev
 use Rattle.pcache_world.proofs.StateWrites.{get-set, get-unset, get-kept, changed-at, kept_as, recorded, begun-flying, record-flying}
 
 -- ---- slots that hold nothing

@@ -1,25 +1,19 @@
 -- What is stored by the events is what stands in the store.
-use Rattle.std.proofs.Common.{◌≡◌, ℕ, ◌==◌, ◌||◌, true, false, cond, if◌then◌else◌, Option, None, Some, List, [], ◌∷◌, refl, ap, sym, subst, ◌∙◌, arith, inl, inr, ◌⊎◌}
-use Rattle.std.specs.Option.{option_map, option_and_then}
+use Rattle.std.specs.Option.{option_map}
 use Rattle.std.specs.Bool.{IsTrue}
-use Rattle.std.specs.List.{list_any, AllByRecursion, IsDistinct, sum_by}
-use Rattle.std.specs.Ordering.{nat_cmp, eq_by_cmp}
-use Rattle.std.specs.Cmp.{nat_cmp_total, eq_by_cmp_equiv}
-use Rattle.std.specs.FinMap.{FinMap, get, remove, len, get-remove, nat_cmp-IsAntisymmetric}
-use Rattle.std.proofs.lemmas.Bool.{eqb-true, or_left, or_right}
+use Rattle.std.specs.List.{AllByRecursion, IsDistinct, sum_by}
+use Rattle.std.specs.Cmp.{eq_by_cmp_equiv}
+use Rattle.std.proofs.lemmas.Bool.{or_left}
 use Rattle.std.proofs.lemmas.List.Sums.{sum_by-cons}
 use Rattle.std.proofs.lemmas.Map.Keys.{IsDistinct-head, IsDistinct-tail}
-use Rattle.pcache_meta.specs.Meta.{Meta}
-use Rattle.pcache_base.specs.Totals.{total, share}
-use Rattle.pcache_base.proofs.Totals.{total-remove, get-remove_apart}
-use Rattle.pcache_store.specs.Store.{Store, Slot, Stored, complete_body}
-use Rattle.pcache_store.specs.Totals as totals
-use Rattle.pcache_history.specs.declared.entry.Event.{Event}
-use Rattle.pcache_history.specs.declared.entry.Event.TheVariants.{Look, Ask, Access, Begin, Wrote, Finish, Dropped, Release, LetGo, Aged, Admit, Purge, Expire, Renew, Untrack, Read}
-use Rattle.pcache_history.specs.Events.{begin_of, option_any, is_removed, last_finished, body_stored, complete, with_key, finished_keys, stored_size, stored, slots}
-use Rattle.pcache_world.specs.Sound.{IsState}
+use Rattle.pcache_base.proofs.Totals.{get-remove_apart}
+use Rattle.pcache_store.specs.Store.{Stored}
+use Rattle.pcache_history.specs.declared.entry.Event.TheVariants.{LetGo, Aged, Read}
+use Rattle.pcache_history.specs.Events.{body_stored, with_key, finished_keys, stored_size}
 use Rattle.pcache_history.proofs.Bound.{keys_distinct}
-use Rattle.pcache_history.proofs.Sums.{cmp_same, zero-remove, total-zero}
+use Rattle.pcache_history.proofs.Sums.{zero-remove}
+use Rattle.pcache_world.proofs.Words.{◌≡◌, ℕ, ◌==◌, ◌||◌, true, false, cond, if◌then◌else◌, Option, None, Some, List, [], ◌∷◌, refl, ap, sym, subst, ◌∙◌, arith, inl, inr, ◌⊎◌, option_and_then, list_any, nat_cmp, eq_by_cmp, nat_cmp_total, FinMap, get, remove, len, get-remove, nat_cmp-IsAntisymmetric, eqb-true, or_right, Meta, total, share, total-remove, Store, Slot, complete_body, Event, Look, Ask, Access, Begin, Wrote, Finish, Dropped, Release, Admit, Purge, Expire, Renew, Untrack, begin_of, option_any, is_removed, last_finished, complete, stored, slots, IsState, cmp_same, total-zero}
+use Rattle.pcache_store.specs.Totals as totals
 
 -- ---- a sum over keys, if the map's other keys add nothing
 

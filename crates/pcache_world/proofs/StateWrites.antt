@@ -1,21 +1,12 @@
 -- The records of writes: after one reader more or less, and after more bytes.
-use Rattle.std.proofs.Common.{◌≡◌, ℕ, ◌+◌, ◌-◌, ◌<◌, ◌==◌, Bool, true, false, cond, ◌||◌, if◌then◌else◌, Option, None, Some, is_some, List, refl, ap, sym, subst, ◌∙◌, arith, lt-ltb}
-use Rattle.std.specs.Prelude.{nat_lt}
+use Rattle.std.proofs.Common.{lt-ltb}
 use Rattle.std.specs.Option.{option_map}
-use Rattle.std.specs.Ordering.{nat_cmp}
-use Rattle.std.specs.Cmp.{nat_cmp_total}
-use Rattle.std.specs.FinMap.{FinMap, get, insert, remove, get-insert, get-remove}
-use Rattle.std.proofs.lemmas.Bool.{eqb-true, both_ways, or_right}
-use Rattle.pcache_meta.specs.Meta.{Meta}
-use Rattle.pcache_store.specs.Store.{Store, Written, Reader, Whole, Part, is_named, kept, followed_on, joined, followed_by, followed, left_on, left}
-use Rattle.pcache_request.specs.Requests.{left_by}
-use Rattle.pcache_history.specs.declared.entry.Event.{Event}
-use Rattle.pcache_history.specs.Events.{begin_of, in_flight, is_told, body_of}
-use Rattle.pcache_world.specs.Sound.{follows, record_of, IsState}
-use Rattle.pcache_history.specs.Ongoing.{pair_reader}
-use Rattle.pcache_world.proofs.States.{state-same}
+use Rattle.std.specs.FinMap.{get-insert}
+use Rattle.pcache_store.specs.Store.{Written, Reader, is_named, kept, followed_on, joined, followed_by, left_on}
+use Rattle.pcache_history.specs.Events.{is_told}
 use Rattle.pcache_history.proofs.Steps.{flies}
-use Rattle.pcache_history.proofs.Sums.{cmp_same, same-number}
+use Rattle.pcache_world.proofs.Words.{◌≡◌, ℕ, ◌+◌, ◌-◌, ◌<◌, ◌==◌, Bool, true, false, cond, ◌||◌, if◌then◌else◌, Option, None, Some, is_some, List, refl, ap, sym, subst, ◌∙◌, arith, nat_lt, nat_cmp, nat_cmp_total, FinMap, get, insert, remove, get-remove, eqb-true, both_ways, or_right, Meta, Store, Whole, Part, followed, left, left_by, Event, begin_of, in_flight, body_of, follows, record_of, IsState, pair_reader, cmp_same, same-number}
+use Rattle.pcache_world.proofs.States.{state-same}
 
 -- ---- one write set or removed
 

@@ -1,15 +1,8 @@
 -- The store after more bytes of a write.
-use Rattle.std.proofs.Common.{◌≡◌, ℕ, Bool, true, if◌then◌else◌, Some, List, ◌∷◌, ◌++◌, refl, sym, subst, ◌∙◌}
-use Rattle.std.specs.FinMap.{get}
-use Rattle.pcache_meta.specs.Meta.{Meta}
-use Rattle.pcache_store.specs.Store.{Store, wrote_on, wrote}
-use Rattle.pcache_history.specs.declared.entry.Event.{Event}
-use Rattle.pcache_history.specs.declared.entry.Event.TheVariants.{Wrote}
-use Rattle.pcache_history.specs.Events.{begin_of, body_of, is_told, in_flight}
-use Rattle.pcache_world.specs.Sound.{record_of, IsState}
-use Rattle.pcache_history.specs.Kept.{IsTidy}
+use Rattle.pcache_store.specs.Store.{wrote_on}
+use Rattle.pcache_history.specs.Events.{is_told}
 use Rattle.pcache_history.proofs.Steps.{complete-wrote}
-use Rattle.pcache_history.proofs.Sums.{same-number}
+use Rattle.pcache_world.proofs.Words.{◌≡◌, ℕ, Bool, true, if◌then◌else◌, Some, List, ◌∷◌, ◌++◌, refl, sym, subst, ◌∙◌, get, Meta, Store, wrote, Event, Wrote, begin_of, body_of, in_flight, record_of, IsState, IsTidy, same-number}
 use Rattle.pcache_world.proofs.StateWrites.{get-set, changed-at, kept_as, recorded, begun-flying, record-flying}
 
 module _ (es : List Event) (n : ℕ → ℕ) (s : Store) (w : ℕ) (bytes : List ℕ) (eof : Bool) (tidy : IsTidy es) (fly : in_flight w es ≡ true) (st : IsState es n s) where

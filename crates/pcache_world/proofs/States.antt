@@ -1,14 +1,7 @@
 -- The store that events speak of: at the start, and after events that leave it as it is.
-use Rattle.std.proofs.Common.{◌≡◌, ℕ, Bool, Option, None, Some, List, [], ◌∷◌, ap, sym, subst, ◌∙◌, arith}
-use Rattle.std.specs.Ordering.{nat_cmp}
+use Rattle.pcache_history.specs.declared.entry.Event.TheVariants.{LetGo, Aged, Read}
+use Rattle.pcache_world.proofs.Words.{◌≡◌, ℕ, Bool, Option, None, Some, List, [], ◌∷◌, ap, sym, subst, ◌∙◌, arith, nat_cmp, Poll, CacheEntryKey, Store, Slot, complete_body, is_untouched_in, Answer, Event, Look, Ask, Access, Release, Untrack, IsState}
 use Rattle.std.specs.FinMap as map
-use Rattle.pcache_base.specs.declared.poll.Poll.{Poll}
-use Rattle.pcache_evict.specs.declared.eviction.entry_key.CacheEntryKey.{CacheEntryKey}
-use Rattle.pcache_store.specs.Store.{Store, Slot, complete_body, is_untouched_in}
-use Rattle.pcache_history.specs.declared.entry.Answer.{Answer}
-use Rattle.pcache_history.specs.declared.entry.Event.{Event}
-use Rattle.pcache_history.specs.declared.entry.Event.TheVariants.{Look, Ask, Access, Release, LetGo, Aged, Untrack, Read}
-use Rattle.pcache_world.specs.Sound.{IsState}
 
 pub state-none : (s : Store) → s.slots ≡ map.empty → s.writes ≡ map.empty → s.next ≡ 0 → IsState [] (λ _. 0) s
 state-none s slots writes next =

@@ -1,35 +1,15 @@
 -- What the functions of calls promise, as one turn.
-use Rattle.std.proofs.Common.{◌≡◌, ℕ, true, false, cond, Option, None, Some, List, [], ◌++◌, refl, ap, sym, subst, ◌∙◌, arith, inl, inr, option_map}
-use Rattle.std.proofs.lemmas.Bool.Decides.{nat_tests}
-use Rattle.std.specs.Ordering.{nat_cmp}
-use Rattle.std.specs.BTreeMap.{is_at}
-use Rattle.pcache_evict.specs.Tracked.{Tracked, Limits}
-use Rattle.pcache_lock.specs.Locks.{Locks}
-use Rattle.pcache_lock.specs.declared.lock.permit.Locked.{Locked}
+use Rattle.std.proofs.Common.{option_map}
 use Rattle.pcache_lock.specs.declared.lock.status.LockStatus.TheVariants.{Done}
 use Rattle.pcache_put.specs.Puts.{Says}
-use Rattle.pcache_store.specs.Store.{Store}
-use Rattle.pcache_request.specs.declared.cache.lock_use.CacheOptionOverrides.{CacheOptionOverrides}
 use Rattle.pcache_history.specs.declared.call.Act.{Act}
-use Rattle.pcache_history.specs.declared.call.Call.{Call}
+use Rattle.pcache_history.specs.Ongoing.{change_of, is_done, opened}
+use Rattle.pcache_world.specs.Handing.{Acts}
+use Rattle.pcache_history.proofs.PutShape.{wrong-change}
+use Rattle.pcache_world.proofs.Words.{◌≡◌, ℕ, true, false, cond, Option, None, Some, List, [], ◌++◌, refl, ap, sym, subst, ◌∙◌, arith, inl, inr, nat_tests, nat_cmp, is_at, Tracked, Limits, Locks, Locked, Store, CacheOptionOverrides, Call, Reply, Event, deeds_by, deeds_in, held_in, said_by, IsOfWorld, KeepsKey, IsOfWorldIn, Facts, request_in, facts_in, no_facts, Ongoing, IsOfOne, kind_of_reply, row, was_wrong, untold, MovesLocks, Moves, MovesRequest, MovesStore, Replies, of_one, open_at, HasSome, PutTurn, IsMoved, IsRow, IsRowed, Turn}
 use Rattle.pcache_history.specs.declared.call.Act.TheVariants as C
 use Rattle.pcache_history.specs.declared.call.RequestAct.TheVariants as Q
-use Rattle.pcache_history.specs.declared.call.Reply.{Reply}
 use Rattle.pcache_history.specs.declared.call.Reply.TheVariants as R
-use Rattle.pcache_history.specs.declared.entry.Event.{Event}
-use Rattle.pcache_history.specs.Deeds.{deeds_by, deeds_in, held_in, said_by}
-use Rattle.pcache_history.specs.Due.{IsOfWorld, KeepsKey, IsOfWorldIn}
-use Rattle.pcache_history.specs.Facts.{Facts, request_in}
-use Rattle.pcache_world.specs.PartFacts.{facts_in, no_facts}
-use Rattle.pcache_history.specs.Ongoing.{Ongoing, IsOfOne, change_of, is_done, opened, kind_of_reply, row, was_wrong}
-use Rattle.pcache_world.specs.Untold.{untold}
-use Rattle.pcache_world.specs.LockMoves.{MovesLocks}
-use Rattle.pcache_world.specs.Moved.{Moves, MovesRequest, MovesStore}
-use Rattle.pcache_history.specs.Rules.{Replies}
-use Rattle.pcache_world.specs.Handing.{Acts, of_one, open_at}
-use Rattle.pcache_world.specs.PutsSound.{HasSome, PutTurn}
-use Rattle.pcache_world.specs.Step.{IsMoved, IsRow, IsRowed, Turn}
-use Rattle.pcache_history.proofs.PutShape.{wrong-change}
 use Rattle.pcache_world.proofs.LockSteps.{no_locks_move}
 use Rattle.pcache_world.proofs.MovesOf.{idle}
 

@@ -1,26 +1,8 @@
 -- A step of a sound world leaves it sound.
-use Rattle.std.proofs.Common.{◌≡◌, ℕ, ◌+◌, ◌^◌, ◌<◌, ◌==◌, cond, Option, None, Some, List, [], ◌∷◌, ap, sym, subst, ◌∙◌, refl, arith, length, option_map}
-use Rattle.std.specs.BTreeMap.{is_at}
-use Rattle.std.specs.Cmp.{nat_cmp_total}
-use Rattle.std.specs.FinMap.{FinMap, get, find, from_entries, get-from_entries, same_map, nat_cmp-IsAntisymmetric}
-use Rattle.std.specs.Map.{lookup}
-use Rattle.std.specs.Ordering.{nat_cmp}
-use Rattle.std.proofs.lemmas.Bool.Decides.{nat_tests}
-use Rattle.pcache_evict.specs.Tracked.{Tracked, Limits}
-use Rattle.pcache_lock.specs.Locks.{Locks}
-use Rattle.pcache_store.specs.Store.{Store}
-use Rattle.pcache_history.specs.declared.call.Call.{Call}
-use Rattle.pcache_history.specs.declared.call.Reply.{Reply}
-use Rattle.pcache_history.specs.declared.entry.Entry.{Entry}
-use Rattle.pcache_history.specs.declared.entry.Event.{Event}
-use Rattle.pcache_history.specs.Ongoing.{Ongoing, IsOfOne}
-use Rattle.pcache_world.specs.Untold.{untold}
-use Rattle.pcache_world.specs.LockTable.{read_locks}
-use Rattle.pcache_history.specs.Rules.{IsCopy}
-use Rattle.pcache_world.specs.Sound.{IsSound}
-use Rattle.pcache_world.specs.Step.{Turn, IsMoved}
-use Rattle.pcache_history.specs.Due.{IsOfWorldIn}
+use Rattle.std.proofs.Common.{option_map}
+use Rattle.std.specs.FinMap.{find, get-from_entries}
 use Rattle.pcache_history.proofs.WriteLaws.{legal_world}
+use Rattle.pcache_world.proofs.Words.{◌≡◌, ℕ, ◌+◌, ◌^◌, ◌<◌, ◌==◌, cond, Option, None, Some, List, [], ◌∷◌, ap, sym, subst, ◌∙◌, refl, arith, length, is_at, nat_cmp_total, FinMap, get, from_entries, same_map, nat_cmp-IsAntisymmetric, lookup, nat_cmp, nat_tests, Tracked, Limits, Locks, Store, Call, Reply, Entry, Event, Ongoing, IsOfOne, untold, read_locks, IsCopy, IsSound, Turn, IsMoved, IsOfWorldIn}
 use Rattle.pcache_world.proofs.MovedState.{set_to}
 use Rattle.pcache_world.proofs.Opened.{get-set_to}
 use Rattle.pcache_world.proofs.ReadLocks.{locks-few}

@@ -1,42 +1,17 @@
 -- One call over a sound world, whatever call it is: its reply by the facts of the parts, and its effect on them by its events,
 -- keep the invariant of a world's parts, and its entry is one that the history gives.
-use Rattle.std.proofs.Common.{◌≡◌, ℕ, ◌+◌, ◌^◌, ◌<◌, ◌==◌, true, false, cond, Option, None, Some, is_some, List, [], ◌∷◌, ◌++◌, refl, ap, sym, subst, ◌∙◌, reverse, option_map}
-use Rattle.std.proofs.lemmas.Bool.{both_ways, eq-eqb, eqb-true}
-use Rattle.std.specs.Ordering.{nat_cmp}
-use Rattle.std.specs.FinMap.{FinMap, get, remove}
-use Rattle.pcache_base.specs.Key.{slot}
-use Rattle.pcache_evict.specs.Tracked.{Tracked, Limits}
-use Rattle.pcache_request.specs.Requests.{Request, found_for}
-use Rattle.pcache_lock.specs.Locks.{Locks}
-use Rattle.pcache_lock.specs.Permits as permits
-use Rattle.pcache_lock.specs.declared.lock.permit.Locked.{Locked}
-use Rattle.pcache_lock.specs.declared.lock.permit.Locked.TheVariants.{Write, Read}
-use Rattle.pcache_request.specs.LockWaits.{too_old_for, unusable_in, wait_result}
-use Rattle.pcache_store.specs.Store.{Store, number_of_body}
+use Rattle.std.proofs.Common.{option_map}
+use Rattle.pcache_request.specs.Requests.{Request}
+use Rattle.pcache_lock.specs.declared.lock.permit.Locked.TheVariants.{Read}
 use Rattle.pcache_history.specs.declared.call.Act.{Act}
+use Rattle.pcache_history.specs.Due.{MayCome}
+use Rattle.pcache_history.specs.Facts.{Says}
+use Rattle.pcache_world.specs.PartFacts.{given_by, told_of, untouched_for, size_for}
+use Rattle.pcache_history.proofs.Taken.{no_taker, not_taken}
+use Rattle.pcache_world.proofs.Words.{◌≡◌, ℕ, ◌+◌, ◌^◌, ◌<◌, ◌==◌, true, false, cond, Option, None, Some, is_some, List, [], ◌∷◌, ◌++◌, refl, ap, sym, subst, ◌∙◌, reverse, both_ways, eq-eqb, eqb-true, nat_cmp, FinMap, get, remove, slot, Tracked, Limits, found_for, Locks, Locked, Write, too_old_for, unusable_in, wait_result, Store, number_of_body, Call, Reply, Entry, Event, Deed, deeds_in, deeds_of, held_in, makes, makes_of, owes, AreDue, IsNext, KeepsKey, MaySettle, Owed, in_flight, tracked, Facts, request_in, IsEarly, facts_for, there_for, complete_for, number_for, Ongoing, kind_of_reply, request_of, row, taken_over, taker_in, IsOfOne, untold, untold_lock, untold_read_lock, untold_request, events_of, HasAny, Gives, IsLegal, Holds, IsTable, locks_read, read_locks, Moves, at_call, reads_of, IsCopy, Replies, readers, AllHold, IsSound, AreOngoing, Turn, finds_too_old, wait_of, kind-copied, row-copied}
+use Rattle.pcache_lock.specs.Permits as permits
 use Rattle.pcache_history.specs.declared.call.Act.TheVariants as C
-use Rattle.pcache_history.specs.declared.call.Call.{Call}
-use Rattle.pcache_history.specs.declared.call.Reply.{Reply}
-use Rattle.pcache_history.specs.declared.entry.Entry.{Entry}
-use Rattle.pcache_history.specs.declared.entry.Event.{Event}
 use Rattle.pcache_history.specs.declared.entry.Event.TheVariants as E
-use Rattle.pcache_history.specs.Deeds.{Deed, deeds_in, deeds_of, held_in}
-use Rattle.pcache_history.specs.Due.{makes, makes_of, owes, AreDue, IsNext, KeepsKey, MayCome, MaySettle, Owed}
-use Rattle.pcache_history.specs.Events.{in_flight, tracked}
-use Rattle.pcache_history.specs.Facts.{Facts, Says, request_in}
-use Rattle.pcache_history.specs.Files.{IsEarly}
-use Rattle.pcache_world.specs.PartFacts.{facts_for, there_for, complete_for, given_by, told_of, untouched_for, size_for, number_for}
-use Rattle.pcache_history.specs.Ongoing.{Ongoing, kind_of_reply, request_of, row, taken_over, taker_in, IsOfOne}
-use Rattle.pcache_world.specs.Untold.{untold, untold_lock, untold_read_lock, untold_request}
-use Rattle.pcache_history.specs.History.{events_of, HasAny}
-use Rattle.pcache_history.specs.Legal.{Gives, IsLegal}
-use Rattle.pcache_world.specs.LockTable.{Holds, IsTable, locks_read, read_locks}
-use Rattle.pcache_world.specs.Moved.{Moves, at_call, reads_of}
-use Rattle.pcache_history.specs.Rules.{IsCopy, Replies}
-use Rattle.pcache_world.specs.Sound.{readers, AllHold, IsSound, AreOngoing}
-use Rattle.pcache_world.specs.Step.{Turn}
-use Rattle.pcache_history.specs.Waits.{finds_too_old, wait_of}
-use Rattle.pcache_history.proofs.Copied.{kind-copied, row-copied}
 use Rattle.pcache_world.proofs.Counts.{reader-follows, write-flies}
 use Rattle.pcache_world.proofs.MovedState.{Flies, Done, set_to, readers-split, readers-set, moved-kept}
 use Rattle.pcache_world.proofs.LockKept.{age-kept, holds-kept, holds-none, others-hold, table-kept}
@@ -46,7 +21,6 @@ use Rattle.pcache_world.proofs.ReadLocks.{lock-counted, locks-moved}
 use Rattle.pcache_world.proofs.SoundOf.{sound-of}
 use Rattle.pcache_world.proofs.StateAnswers.{finds-is, any-is, reads-is, stands-is, told-is, size-is}
 use Rattle.pcache_world.proofs.States.{state-same}
-use Rattle.pcache_history.proofs.Taken.{no_taker, not_taken}
 use Rattle.pcache_world.proofs.Untold.{replies-untold, deeds-untold, keeps-untold, makes-untold, row-at}
 use Rattle.pcache_world.proofs.Waiting.{call-steps, given-after, locked-after}
 

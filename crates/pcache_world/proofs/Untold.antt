@@ -1,58 +1,29 @@
 -- No row, condition or clause of a call looks at what a read lock was told: of the lock that is held they look at its kind, at
 -- its number, and at the fills that it watches for since it was polled.
-use Rattle.std.proofs.Common.{◌≡◌, ℕ, ◌&&◌, ◌⊎◌, ◌++◌, Bool, true, false, not, cond, Option, None, Some, IsSome, List, [], ◌∷◌, refl, ap, sym, subst, ◌∙◌, inl, inr, option_map}
-use Rattle.std.specs.FinMap.{get}
-use Rattle.pcache_base.specs.Key.{Key, slot}
-use Rattle.pcache_base.specs.declared.error.ErrorType.{ErrorType}
-use Rattle.pcache_base.specs.declared.fills.UnusableFill.{UnusableFill}
-use Rattle.pcache_base.specs.declared.poll.Poll.{Poll}
-use Rattle.pcache_base.specs.declared.poll.Poll.TheVariants.{Ready, Pending}
-use Rattle.pcache_base.specs.declared.reason.NoCacheReason.{NoCacheReason}
-use Rattle.pcache_base.specs.declared.reason.NoCacheReason.TheVariants as reason
-use Rattle.pcache_lock.specs.Locks.{Locks}
-use Rattle.pcache_lock.specs.Permits as permits
-use Rattle.pcache_lock.specs.Permits.{Watch}
-use Rattle.pcache_lock.specs.Waiting.{answer_at, watched, polled, reader_at, reader_polled, permit_state, status_seen, told_or_pending, watch_at}
-use Rattle.pcache_lock.specs.declared.lock.outcome.LockWaitOutcome.{LockWaitOutcome}
-use Rattle.pcache_lock.specs.declared.lock.outcome.PermitState.{PermitState}
-use Rattle.pcache_lock.specs.declared.lock.outcome.PermitState.TheVariants as stage
+use Rattle.std.proofs.Common.{option_map}
+use Rattle.pcache_base.specs.declared.poll.Poll.TheVariants.{Ready}
 use Rattle.pcache_lock.specs.declared.lock.outcome.PermitState.TheVariants.{Over, Old}
-use Rattle.pcache_lock.specs.declared.lock.permit.Locked.{Locked}
-use Rattle.pcache_lock.specs.declared.lock.permit.Locked.TheVariants.{Write, Read}
-use Rattle.pcache_lock.specs.declared.lock.status.LockStatus.{LockStatus}
-use Rattle.pcache_meta.specs.Meta.{Meta}
-use Rattle.pcache_predict.specs.declared.admission.Decision.{Decision}
-use Rattle.pcache_request.specs.Admissions.{decided, is_deferral, with_decision}
-use Rattle.pcache_request.specs.LockWaits.{after_wait, result_by, is_late, since_of, unusable_in, wait_result, waited}
+use Rattle.pcache_lock.specs.declared.lock.permit.Locked.TheVariants.{Read}
+use Rattle.pcache_request.specs.LockWaits.{after_wait, is_late, since_of}
 use Rattle.pcache_request.specs.Phases.{is_fresh}
-use Rattle.pcache_request.specs.Releasing.{disabled_for, disabled_in}
-use Rattle.pcache_request.specs.Requests.{Request, asks_as_stale, phase_found, placed}
-use Rattle.pcache_request.specs.Variants.{is_unseen, leaves_variant, varied, visible}
-use Rattle.pcache_request.specs.declared.phase.CachePhase.{CachePhase}
-use Rattle.pcache_request.specs.declared.phase.CachePhase.TheVariants as phase
-use Rattle.pcache_request.specs.declared.phase.HitStatus.{HitStatus}
+use Rattle.pcache_request.specs.Requests.{Request}
+use Rattle.pcache_request.specs.Variants.{varied}
 use Rattle.pcache_store.specs.Store.{Reader}
 use Rattle.pcache_history.specs.declared.call.Act.{Act}
+use Rattle.pcache_history.specs.Ongoing.{opened, is_done, is_taken, asked, looks_for, placed_by, taken_by, shut_by, without_pair, fed, fed_in, ended, row_by}
+use Rattle.pcache_world.specs.Untold.{untold_watch}
+use Rattle.pcache_history.specs.Rules.{Does, Finishes, IsStarved, Waits}
+use Rattle.pcache_history.specs.Taking.{counted_none}
+use Rattle.pcache_history.specs.Watching.{fills_of, lock_watching, waited_on, waited_with}
+use Rattle.pcache_world.proofs.Words.{◌≡◌, ℕ, ◌&&◌, ◌⊎◌, ◌++◌, Bool, true, false, not, cond, Option, None, Some, IsSome, List, [], ◌∷◌, refl, ap, sym, subst, ◌∙◌, inl, inr, get, Key, slot, ErrorType, UnusableFill, Poll, Pending, NoCacheReason, Locks, Watch, answer_at, watched, polled, reader_at, reader_polled, permit_state, status_seen, told_or_pending, watch_at, LockWaitOutcome, PermitState, Locked, Write, LockStatus, Meta, Decision, decided, is_deferral, with_decision, result_by, unusable_in, wait_result, waited, disabled_for, disabled_in, asks_as_stale, phase_found, placed, is_unseen, leaves_variant, visible, CachePhase, HitStatus, LockKind, Reply, Answer, Event, deeds_by, deeds_in, held_in, moment_of, said_by, status_left, IsOfWorld, KeepsKey, makes_of, Facts, Ongoing, ReplyKind, was_done, was_waited, is_wrong, kind_of_reply, on_request, pair_of, with_given, carrying, decides, looked_by, turned_by, ongoing_put, began, has_read, waited_by, row, after_look, untold, uncounted, untold_put, untold_lock, untold_read_lock, untold_request, FollowsRule, AsksIf, Closes, Feeds, FindsKind, IsOfKind, Replies, HandsOn, IsLockRefusal, Looks, LooksOn, MayBe, Misses, Takes, accesses, IsRow, Taking, new_put, AtHead, Counted, InHead}
+use Rattle.pcache_base.specs.declared.reason.NoCacheReason.TheVariants as reason
+use Rattle.pcache_lock.specs.Permits as permits
+use Rattle.pcache_lock.specs.declared.lock.outcome.PermitState.TheVariants as stage
+use Rattle.pcache_request.specs.declared.phase.CachePhase.TheVariants as phase
 use Rattle.pcache_history.specs.declared.call.Act.TheVariants as C
 use Rattle.pcache_history.specs.declared.call.RequestAct.TheVariants as Q
-use Rattle.pcache_history.specs.declared.call.LockKind.{LockKind}
-use Rattle.pcache_history.specs.declared.call.Reply.{Reply}
 use Rattle.pcache_history.specs.declared.call.Reply.TheVariants as R
-use Rattle.pcache_history.specs.declared.entry.Answer.{Answer}
-use Rattle.pcache_history.specs.declared.entry.Event.{Event}
 use Rattle.pcache_history.specs.declared.entry.Event.TheVariants as E
-use Rattle.pcache_history.specs.Deeds.{deeds_by, deeds_in, held_in, moment_of, said_by, status_left}
-use Rattle.pcache_history.specs.Due.{IsOfWorld, KeepsKey, makes_of}
-use Rattle.pcache_history.specs.Facts.{Facts}
-use Rattle.pcache_history.specs.Ongoing.{Ongoing, ReplyKind, was_done, was_waited, opened, is_done, is_taken, is_wrong, kind_of_reply, on_request, pair_of, with_given, asked, carrying, decides, looked_by, looks_for, placed_by, taken_by, turned_by, shut_by, without_pair, fed, fed_in, ongoing_put, began, ended, has_read, waited_by, row, row_by, after_look}
-use Rattle.pcache_world.specs.Untold.{untold, uncounted, untold_put, untold_lock, untold_read_lock, untold_request, untold_watch}
-use Rattle.pcache_history.specs.Rules.{FollowsRule, AsksIf, Closes, Does, Feeds, FindsKind, IsOfKind, Replies, Finishes, HandsOn, IsLockRefusal, IsStarved, Looks, LooksOn, MayBe, Misses, Takes, Waits, accesses}
-use Rattle.pcache_world.specs.Step.{IsRow}
-use Rattle.pcache_history.specs.Taking.{Taking, counted_none, new_put}
-use Rattle.pcache_response.specs.Progress.{AtHead}
-use Rattle.pcache_response.specs.Counted.{Counted}
-use Rattle.pcache_put.specs.State.{InHead}
-use Rattle.pcache_history.specs.Watching.{fills_of, lock_watching, waited_on, waited_with}
 
 -- a request that holds this
 abbrev holding : Option Locked → Request → Request

@@ -1,35 +1,19 @@
 -- What a wait does to its request and to the lock table, as one move.
-use Rattle.std.proofs.Common.{◌≡◌, ℕ, Bool, true, false, if◌then◌else◌, Option, None, Some, is_some, IsSome, IfSome, IsOk, List, [], ◌∷◌, ◌++◌, refl, ap, sym, subst, ◌∙◌, option_map, Result, Err}
-use Rattle.std.specs.FinMap.{get}
-use Rattle.pcache_base.specs.declared.fills.UnusableFill.{UnusableFill}
-use Rattle.pcache_base.specs.declared.poll.Poll.{Poll}
-use Rattle.pcache_base.specs.declared.poll.Poll.TheVariants.{Ready, Pending}
-use Rattle.pcache_lock.specs.Locks.{Locks, reader_dropped}
-use Rattle.pcache_lock.specs.Permits.{Core, Reader, Watch}
-use Rattle.pcache_lock.specs.Waiting.{after_poll, answer_at, watched, polled, reader_polled, permit_state, table_at, watch_at}
-use Rattle.pcache_lock.specs.declared.lock.outcome.LockWaitOutcome.{LockWaitOutcome}
-use Rattle.pcache_lock.specs.declared.lock.outcome.PermitState.{PermitState}
-use Rattle.pcache_lock.specs.declared.lock.outcome.PermitState.TheVariants as stage
+use Rattle.std.proofs.Common.{IsOk, option_map}
+use Rattle.pcache_base.specs.declared.poll.Poll.TheVariants.{Ready}
+use Rattle.pcache_lock.specs.Locks.{reader_dropped}
+use Rattle.pcache_lock.specs.Permits.{Reader}
+use Rattle.pcache_lock.specs.Waiting.{table_at}
 use Rattle.pcache_lock.specs.declared.lock.outcome.WaitOutcome.{WaitOutcome}
-use Rattle.pcache_lock.specs.declared.lock.outcome.WaitOutcome.TheVariants as poll
-use Rattle.pcache_lock.specs.declared.lock.permit.Locked.{Locked}
-use Rattle.pcache_lock.specs.declared.lock.permit.Locked.TheVariants.{Write, Read}
-use Rattle.pcache_lock.specs.declared.lock.status.LockStatus.{LockStatus}
-use Rattle.pcache_request.specs.LockUse.{read_in}
-use Rattle.pcache_request.specs.LockWaits.{result_by, held_after, is_old_result, let_go_after, table_waited, too_old_for, unusable_in, wait_result, waited}
-use Rattle.pcache_request.specs.Reports.{name_of}
+use Rattle.pcache_lock.specs.declared.lock.permit.Locked.TheVariants.{Read}
+use Rattle.pcache_request.specs.LockWaits.{held_after, let_go_after, table_waited}
 use Rattle.pcache_request.specs.Requests.{Request}
-use Rattle.pcache_request.specs.declared.cache.report.LockName.{LockName}
+use Rattle.pcache_history.specs.Rules.{was_polled}
+use Rattle.pcache_world.proofs.Words.{◌≡◌, ℕ, Bool, true, false, if◌then◌else◌, Option, None, Some, is_some, IsSome, IfSome, List, [], ◌∷◌, ◌++◌, refl, ap, sym, subst, ◌∙◌, Result, Err, get, UnusableFill, Poll, Pending, Locks, Core, Watch, after_poll, answer_at, watched, polled, reader_polled, permit_state, watch_at, LockWaitOutcome, PermitState, Locked, Write, LockStatus, read_in, result_by, is_old_result, too_old_for, unusable_in, wait_result, waited, name_of, LockName, Reply, Event, deeds_in, KeepsIn, kind_of_reply, waited_by, was_waited, MovesLocks, ages, lets_go, polls, each, number_read, wait_reply, untold_request}
+use Rattle.pcache_lock.specs.declared.lock.outcome.PermitState.TheVariants as stage
+use Rattle.pcache_lock.specs.declared.lock.outcome.WaitOutcome.TheVariants as poll
 use Rattle.pcache_history.specs.declared.call.Act.TheVariants as C
-use Rattle.pcache_history.specs.declared.call.Reply.{Reply}
-use Rattle.pcache_history.specs.declared.entry.Event.{Event}
 use Rattle.pcache_history.specs.declared.entry.Event.TheVariants as E
-use Rattle.pcache_history.specs.Deeds.{deeds_in}
-use Rattle.pcache_history.specs.Due.{KeepsIn}
-use Rattle.pcache_history.specs.Ongoing.{kind_of_reply, waited_by, was_waited}
-use Rattle.pcache_world.specs.LockMoves.{MovesLocks, ages, lets_go, polls}
-use Rattle.pcache_history.specs.Rules.{each, number_read, wait_reply, was_polled}
-use Rattle.pcache_world.specs.Untold.{untold_request}
 use Rattle.pcache_world.proofs.MovesOf.{AreQuiet}
 use Rattle.pcache_world.proofs.Untold.{waited-untold}
 

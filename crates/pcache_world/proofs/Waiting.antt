@@ -1,49 +1,27 @@
 -- What calls make of the lock table is what their events say of it, and which locks a legal history gives.
-use Rattle.std.proofs.Common.{◌≡◌, ℕ, Bool, true, false, ◌||◌, cond, Option, None, Some, List, [], ◌∷◌, ◌++◌, refl, ap, sym, subst, ◌∙◌, reverse}
-use Rattle.std.specs.List.{list_any}
-use Rattle.std.specs.FinMap.{get, get-empty}
-use Rattle.std.specs.Ordering.{nat_cmp}
 use Rattle.std.proofs.lemmas.List.{append_assoc}
-use Rattle.pcache_base.specs.declared.fills.UnusableFill.{UnusableFill}
-use Rattle.pcache_base.specs.declared.poll.Poll.TheVariants.{Pending, Ready}
-use Rattle.pcache_lock.specs.Locks.{Locks, no_locks, holder, lock_given, after_request, released, let_go, is_permit, number_of_lock}
-use Rattle.pcache_lock.specs.Permits as permits
-use Rattle.pcache_lock.specs.Permits.{Core, Permit}
-use Rattle.pcache_lock.specs.Statuses.{IsReason}
-use Rattle.pcache_lock.specs.Waiting.{after_poll, answer_at, is_old, watched, polled, published, permit_state, told_or_pending, watch_at}
-use Rattle.pcache_lock.specs.Deeds as table
+use Rattle.pcache_base.specs.declared.poll.Poll.TheVariants.{Ready}
 use Rattle.pcache_lock.specs.Past.{Does}
 use Rattle.pcache_lock.specs.PastLaws.{is_unlocking, waits_after}
-use Rattle.pcache_lock.specs.Waits.{is_old_at, waiting_slot, waits_under}
-use Rattle.pcache_lock.proofs.Kept.{next-then, next_by}
-use Rattle.pcache_lock.proofs.Past.{begins, grows}
-use Rattle.pcache_lock.specs.declared.lock.outcome.PermitState.{PermitState}
-use Rattle.pcache_lock.specs.declared.lock.outcome.PermitState.TheVariants as stage
-use Rattle.pcache_lock.specs.declared.lock.permit.Locked.{Locked}
-use Rattle.pcache_lock.specs.declared.lock.permit.Locked.TheVariants.{Write, Read}
-use Rattle.pcache_lock.specs.declared.lock.status.LockStatus.{LockStatus}
-use Rattle.pcache_lock.specs.declared.lock.status.LockStatus.TheVariants.{GiveUp}
-use Rattle.pcache_base.specs.declared.reason.NoCacheReason.{NoCacheReason}
-use Rattle.pcache_base.specs.declared.reason.NoCacheReason.TheVariants as reason
+use Rattle.pcache_lock.specs.Waits.{waiting_slot, waits_under}
+use Rattle.pcache_lock.specs.declared.lock.permit.Locked.TheVariants.{Read}
 use Rattle.pcache_history.proofs.Waiting.{after-in}
 use Rattle.pcache_lock.proofs.Calls.{finds_the_waiting}
 use Rattle.pcache_lock.proofs.Ends.{waits_after_each_deed}
-use Rattle.pcache_request.specs.LockUse.{published_by}
-use Rattle.pcache_request.specs.LockWaits.{is_old_result, too_old_for}
-use Rattle.pcache_request.specs.Releasing.{status_for}
-use Rattle.pcache_request.specs.Requests.{let_go_by, settled}
 use Rattle.pcache_history.specs.declared.call.Act.{Act}
+use Rattle.pcache_history.specs.Deeds.{Did, handed_on}
+use Rattle.pcache_history.specs.Ongoing.{was_other, was_taken}
+use Rattle.pcache_history.specs.Waiting.{then_waiting, waiting_after, IsGiven}
+use Rattle.pcache_world.specs.TableWaiting.{waiting_of, IsReached, LocksMoved}
+use Rattle.pcache_world.proofs.Words.{◌≡◌, ℕ, Bool, true, false, ◌||◌, cond, Option, None, Some, List, [], ◌∷◌, ◌++◌, refl, ap, sym, subst, ◌∙◌, reverse, list_any, get, get-empty, nat_cmp, UnusableFill, Pending, Locks, no_locks, holder, lock_given, after_request, released, let_go, is_permit, number_of_lock, Core, Permit, IsReason, after_poll, answer_at, is_old, watched, polled, published, permit_state, told_or_pending, watch_at, is_old_at, next-then, next_by, begins, grows, PermitState, Locked, Write, LockStatus, GiveUp, NoCacheReason, published_by, is_old_result, too_old_for, status_for, let_go_by, settled, Event, Deed, deed_of, deeds_by, deeds_in, held_in, moment_of, published_on, said_by, status_left, Ongoing, ReplyKind, was_done, was_waited, was_wrong, LockMove, MayMove, MovesLocks, ages, asks, deeds_moved, each_deed, lets_go, polls, publishes, rests, settles, table_moved, table_polled, each, number_read, permit_of, Waiting, waiting_in, AreGiven, IsOfNoLock, AreOfNoLock, IsLocked}
+use Rattle.pcache_lock.specs.Permits as permits
+use Rattle.pcache_lock.specs.Deeds as table
+use Rattle.pcache_lock.specs.declared.lock.outcome.PermitState.TheVariants as stage
+use Rattle.pcache_base.specs.declared.reason.NoCacheReason.TheVariants as reason
 use Rattle.pcache_history.specs.declared.call.Act.TheVariants as C
 use Rattle.pcache_history.specs.declared.call.RequestAct.TheVariants as Q
-use Rattle.pcache_history.specs.declared.entry.Event.{Event}
 use Rattle.pcache_history.specs.declared.entry.Event.TheVariants as E
-use Rattle.pcache_history.specs.Deeds.{Deed, Did, deed_of, deeds_by, deeds_in, held_in, moment_of, published_on, said_by, status_left, handed_on}
-use Rattle.pcache_history.specs.Ongoing.{Ongoing, ReplyKind, was_done, was_other, was_taken, was_waited, was_wrong}
-use Rattle.pcache_world.specs.LockMoves.{LockMove, MayMove, MovesLocks, ages, asks, deeds_moved, each_deed, lets_go, polls, publishes, rests, settles, table_moved, table_polled}
-use Rattle.pcache_history.specs.Rules.{each, number_read, permit_of}
-use Rattle.pcache_history.specs.Waiting.{Waiting, then_waiting, waiting_after, waiting_in, IsGiven, AreGiven, IsOfNoLock, AreOfNoLock}
 use Rattle.pcache_world.proofs.LockTable.{flip}
-use Rattle.pcache_world.specs.TableWaiting.{waiting_of, IsReached, IsLocked, LocksMoved}
 
 -- a table with no lock is what no events say
 pub locked-none : (age : ℕ) (t : Locks) → t ≡ no_locks age → IsLocked [] t

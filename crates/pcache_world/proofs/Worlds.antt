@@ -1,32 +1,10 @@
 -- A world at its start, and after one more call.
-use Rattle.std.proofs.Common.{◌≡◌, ℕ, ◌<◌, ◌^◌, length, Option, None, Some, List, [], ◌∷◌, ◌++◌, refl, ap, sym, subst, ◌∙◌, inl, reverse, false, IsSome, option_map}
-use Rattle.std.proofs.lemmas.Bool.{both_ways}
-use Rattle.std.proofs.lemmas.List.{reverse-append}
-use Rattle.std.specs.Ordering.{nat_cmp}
-use Rattle.std.specs.FinMap.{FinMap, empty, from_entries, get-empty}
-use Rattle.pcache_evict.specs.Tracked.{Evicted, Tracked, Limits}
-use Rattle.pcache_evict.specs.declared.eviction.entry_key.CacheEntryKey.{CacheEntryKey}
-use Rattle.pcache_lock.specs.Locks.{Locks, no_locks}
-use Rattle.pcache_store.specs.Store.{Store}
+use Rattle.std.proofs.Common.{option_map}
 use Rattle.pcache_history.specs.declared.call.Act.{Act}
-use Rattle.pcache_history.specs.declared.call.Call.{Call}
-use Rattle.pcache_history.specs.declared.call.Act.TheVariants as C
-use Rattle.pcache_history.specs.declared.call.Reply.{Reply}
-use Rattle.pcache_history.specs.declared.entry.Entry.{Entry}
-use Rattle.pcache_history.specs.declared.entry.Event.{Event}
 use Rattle.pcache_put.specs.Puts.{Says}
-use Rattle.pcache_history.specs.Events.{evicted_by, tracked}
-use Rattle.pcache_history.specs.Facts.{request_in}
-use Rattle.pcache_history.specs.History.{events_of}
-use Rattle.pcache_world.specs.Evicting.{AddsEvicted}
-use Rattle.pcache_world.specs.PartFacts.{facts_for, facts_in}
-use Rattle.pcache_world.specs.Handing.{Acts, of_one, of_two, open_at, taker_at}
-use Rattle.pcache_history.specs.Ongoing.{Ongoing}
-use Rattle.pcache_world.specs.LockTable.{IsTable, read_locks}
-use Rattle.pcache_history.specs.Log.{started}
-use Rattle.pcache_history.specs.Rules.{IsCopy}
-use Rattle.pcache_world.specs.PutsSound.{HasSome, PutTurn, PutsSound}
-use Rattle.pcache_world.specs.Sound.{IsSound, readers}
+use Rattle.pcache_world.specs.Handing.{Acts}
+use Rattle.pcache_world.proofs.Words.{◌≡◌, ℕ, ◌<◌, ◌^◌, length, Option, None, Some, List, [], ◌∷◌, ◌++◌, refl, ap, sym, subst, ◌∙◌, inl, reverse, false, IsSome, both_ways, reverse-append, nat_cmp, FinMap, empty, from_entries, get-empty, Evicted, Tracked, Limits, CacheEntryKey, Locks, no_locks, Store, Call, Reply, Entry, Event, evicted_by, tracked, request_in, events_of, AddsEvicted, facts_for, facts_in, of_one, of_two, open_at, taker_at, Ongoing, IsTable, read_locks, started, IsCopy, HasSome, PutTurn, PutsSound, IsSound, readers}
+use Rattle.pcache_history.specs.declared.call.Act.TheVariants as C
 use Rattle.pcache_world.proofs.Counts.{readers-none}
 use Rattle.pcache_world.proofs.Evicting.{added}
 use Rattle.pcache_world.proofs.Handing.{give_age, give_sound, hands-by-map}

@@ -9,7 +9,7 @@ use pcache_base::moment::Moment;
 use pcache_base::poll::Poll;
 use pcache_base::seed::Seed;
 use pcache_evict::eviction::simple_lru::Manager;
-use pcache_evict::eviction::{CacheEntryKey, EvictionManager};
+use pcache_evict::eviction::{CacheEntryKey, EvictionManager, EvictionPolicy};
 use pcache_request::HitStatus;
 use pcache_shared_cache::{Portion, SharedCache};
 use std::alloc::Global;
@@ -161,7 +161,7 @@ fn portion_of(alloc: Global, gate: &Arc<Gate, Global>) -> Result<Portion<Gated<M
     let limit = ROOM + 4;
     let list = Manager::new(alloc, Seed::fixed(), limit)?;
     let gate = Arc::try_clone(gate)?;
-    Ok(Portion::new(Gated { list, gate }, limit, None))
+    Ok(Portion::new(Gated { list, gate }, EvictionPolicy::Lru, limit, None))
 }
 
 fn parts_of(alloc: Global, gate: &Arc<Gate, Global>) -> Result<Parts<Gated<Manager>>> {

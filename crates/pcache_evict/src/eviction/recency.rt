@@ -3,6 +3,8 @@ ghost use Rattle.std.specs.Prelude.{◌≡◌, ◌∷◌, ◌++◌, ◌+◌, ◌
 ghost use Rattle.std.specs.Vec.{vec_capacity};
 ghost use Rattle.pcache_base.specs.declared.error.ErrorType.TheVariants.{OutOfMemory};
 ghost use Rattle.lru.specs.LruCache.{lru_cache, put_entries};
+ghost use Rattle.pcache_evict.specs.declared.eviction.policy.EvictionPolicy.{EvictionPolicy};
+ghost use Rattle.pcache_evict.specs.declared.eviction.policy.EvictionPolicy.TheVariants.{Lru};
 ghost use Rattle.pcache_evict.specs.Entry.{entry_eq};
 ghost use Rattle.pcache_evict.specs.Tracked.{limits_of, raised};
 ghost use Rattle.pcache_evict.specs.Recency.{Recency, weight, weight_of, others, moved, incremented, loaded, loaded_all, IsWithinAsList, Evicts};
@@ -278,7 +280,7 @@ impl<S: BuildHasher + Copy + Drop> RecencyList<S> {
             → (l : Recency)
             → weight l ≤ weight self.now + size
             → length l ≤ length self.now + count
-            → IsWithinAsList (limits_of limit watermark) l }
+            → IsWithinAsList (limits_of Lru limit watermark) l }
     {
         !exceeds(
             self.weight + size as u128,
@@ -303,9 +305,9 @@ impl<S: BuildHasher + Copy + Drop> RecencyList<S> {
         requires count { rest.1 ≡ length (others item.now self.now) }
         requires count_fits { rest.1 < 2 ^ 63 }
         ensures inside { result ≡ true
-            → IsWithinAsList (limits_of limit watermark) (moved item.now size self.now) }
+            → IsWithinAsList (limits_of Lru limit watermark) (moved item.now size self.now) }
         ensures outside { result ≡ false
-            → ¬ IsWithinAsList (limits_of limit watermark) (moved item.now size self.now) }
+            → ¬ IsWithinAsList (limits_of Lru limit watermark) (moved item.now size self.now) }
     {
         !exceeds(rest.0 + size as u128, rest.1 + 1, limit, watermark)
     }
@@ -324,7 +326,7 @@ impl<S: BuildHasher + Copy + Drop> RecencyList<S> {
         requires sum_fits { rest.0 + 2 ^ 64 < 2 ^ 128 }
         requires count { rest.1 ≡ length (others item.now self.now) }
         requires count_fits { rest.1 < 2 ^ 63 }
-        ensures { IsEnough (limits_of limit watermark) (moved item.now size self.now) result }
+        ensures { IsEnough (limits_of Lru limit watermark) (moved item.now size self.now) result }
     {
         let mut sum = rest.0 + size as u128;
         let mut count = rest.1 + 1;
@@ -353,7 +355,7 @@ impl<S: BuildHasher + Copy + Drop> RecencyList<S> {
         limit: usize,
         watermark: Option<usize>,
     ) -> usize
-        ensures { IsEnough (limits_of limit watermark) (moved item.now size self.now) result }
+        ensures { IsEnough (limits_of Lru limit watermark) (moved item.now size self.now) result }
     {
         let start = Walk {
             sum: self.weight + size as u128,
@@ -375,7 +377,8 @@ impl<S: BuildHasher + Copy + Drop> RecencyList<S> {
         requires sum { weight (others item.now self.now) ≤ start.sum }
         requires count { length (others item.now self.now) ≤ start.count }
         requires fits { start.room + start.count ≤ 2 ^ 63 }
-        ensures { Walks (limits_of limit watermark) item.now self.now start result }
+        ensures { (policy : EvictionPolicy)
+            → Walks (limits_of policy limit watermark) item.now self.now start result }
     {
         let mut sum = start.sum;
         let mut count = start.count;
@@ -404,8 +407,8 @@ impl<S: BuildHasher + Copy + Drop> RecencyList<S> {
         out: &mut Vec<CacheEntryKey>,
     ) -> usize
         requires none { out.old.items ≡ [] }
-        requires room { IsEnough (limits_of limit watermark) self.old (vec_capacity out.old) }
-        ensures evicts { Evicts (limits_of limit watermark) self.old self.new out.new.items }
+        requires room { IsEnough (limits_of Lru limit watermark) self.old (vec_capacity out.old) }
+        ensures evicts { Evicts (limits_of Lru limit watermark) self.old self.new out.new.items }
         ensures gone { result ≡ min (weight self.old - weight self.new) (2 ^ 64 - 1) }
     {
         let before = self.weight();
@@ -500,14 +503,18 @@ fn write_weight<S: BuildHasher>(cache: &mut Weights<S>, item: &CacheEntryKey, si
     *weight = size;
 }
 
-/// Whether a weight or a number of entries is above the limits.
+/// Whether a weight or a number of entries is above the limits, whatever the policy is.
 pub(super) fn exceeds(sum: u128, count: usize, limit: usize, watermark: Option<usize>) -> bool
-    ensures over { result ≡ true → (l : Recency) → sum ≡ weight l → count ≡ length l
-        → ¬ IsWithinAsList (limits_of limit watermark) l }
-    ensures within { result ≡ false → (l : Recency) → sum ≡ weight l → count ≡ length l
-        → IsWithinAsList (limits_of limit watermark) l }
-    ensures above { result ≡ true → ¬ IsWithinTotals (limits_of limit watermark) sum count }
-    ensures small { result ≡ false → IsWithinTotals (limits_of limit watermark) sum count }
+    ensures over { (policy : EvictionPolicy) → result ≡ true
+        → (l : Recency) → sum ≡ weight l → count ≡ length l
+        → ¬ IsWithinAsList (limits_of policy limit watermark) l }
+    ensures within { (policy : EvictionPolicy) → result ≡ false
+        → (l : Recency) → sum ≡ weight l → count ≡ length l
+        → IsWithinAsList (limits_of policy limit watermark) l }
+    ensures above { (policy : EvictionPolicy) → result ≡ true
+        → ¬ IsWithinTotals (limits_of policy limit watermark) sum count }
+    ensures small { (policy : EvictionPolicy) → result ≡ false
+        → IsWithinTotals (limits_of policy limit watermark) sum count }
 {
     if let Some(most) = watermark {
         if count > most {

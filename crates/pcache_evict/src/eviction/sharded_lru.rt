@@ -3,7 +3,7 @@
 ghost use Rattle.std.specs.Prelude.{◌≡◌, ◌-◌, ◌^◌, ◌<◌, [], None, is_some, length, OnOk, OnErr, IfOk, IfErr, IsOk, IsSome, IsTrue, min, option_copied};
 ghost use Rattle.std.specs.Vec.{vec_capacity};
 ghost use Rattle.pcache_base.specs.declared.error.ErrorType.TheVariants.{OutOfMemory};
-ghost use Rattle.pcache_evict.specs.Tracked.{raised, limits_of};
+ghost use Rattle.pcache_evict.specs.Tracked.{raised};
 ghost use Rattle.pcache_evict.specs.Recency.{IsWithinAsList, weight, weight_of, others, moved, accessed};
 ghost use Rattle.pcache_evict.specs.Listed.{IsEnough};
 ghost use Rattle.pcache_evict.specs.Shards.{ArePlaced, Sharded, Runs, all, list_at, shard_of, in_shard, reweighed, added_last_all, grown, last_key, empty_shards};
@@ -38,13 +38,15 @@ pub struct Manager<const N: usize, S: BuildHasher = Seed> {
 }
 
 impl<const N: usize, S: BuildHasher> Model for Manager<N, S> {
+    ghost use Rattle.pcache_evict.specs.declared.eviction.policy.EvictionPolicy.TheVariants.{ShardedLru};
     ghost use Rattle.pcache_evict.specs.Shards.{Sharded};
+    ghost use Rattle.pcache_evict.specs.Tracked.{limits_of};
 
     ghost Value = { Sharded };
 
     ghost view = { λ a. record {
       shards = a.shards;
-      limits = record { weight = a.limit; watermark = a.watermark };
+      limits = limits_of ShardedLru a.limit a.watermark;
       evicted = record { weight = a.evicted_size; count = a.evicted_items };
     } };
 }
@@ -99,7 +101,7 @@ impl<const N: usize, S: BuildHasher + Copy + Drop> Manager<N, S> {
     /// Sets the most that the entries may weigh. Nothing is evicted before the next admission.
     pub fn set_weight_limit(&mut self, limit: usize)
         ensures { self.new
-            ≡ record self.old { limits = limits_of limit self.old.limits.watermark } }
+            ≡ record self.old { limits = record self.old.limits { weight = limit } } }
     {
         self.limit = limit;
     }

@@ -2,6 +2,7 @@
 ghost use Rattle.std.specs.Prelude.{◌≡◌, ◌↔◌, ◌∷◌, ◌++◌, ◌+◌, ◌-◌, ◌<◌, ◌≤◌, ◌^◌, IsTrue, ℕ, [], true, false, None, is_some, length, OnOk, OnErr, IfOk, IfErr, IfSome, IfNone, IsSome, List, min, slice_set, take, unwrap_or};
 ghost use Rattle.std.specs.Vec.{vec_capacity};
 ghost use Rattle.pcache_base.specs.declared.error.ErrorType.TheVariants.{OutOfMemory};
+ghost use Rattle.pcache_evict.specs.declared.eviction.policy.EvictionPolicy.TheVariants.{ShardedLru};
 ghost use Rattle.pcache_evict.specs.Tracked.{limits_of};
 ghost use Rattle.pcache_evict.specs.Recency.{Recency, weight, weight_of, others, moved, IsWithinAsList};
 ghost use Rattle.pcache_evict.specs.Listed.{IsEnough};
@@ -325,10 +326,10 @@ impl<S: BuildHasher + Copy + Drop, const N: usize> RecencyShards<S, N> {
         requires count { rest.1 ≡ length (others item.now (all self.now)) }
         requires count_fits { rest.1 < 2 ^ 63 }
         ensures inside { result ≡ true
-            → IsWithinAsList (limits_of limit watermark)
+            → IsWithinAsList (limits_of ShardedLru limit watermark)
             (all (in_shard N item.now (reweighed item.now size) self.now)) }
         ensures outside { result ≡ false
-            → ¬ IsWithinAsList (limits_of limit watermark)
+            → ¬ IsWithinAsList (limits_of ShardedLru limit watermark)
             (all (in_shard N item.now (reweighed item.now size) self.now)) }
     {
         let _ = &self.lists; // for the prover: once a field is used, the invariant is known
@@ -350,7 +351,7 @@ impl<S: BuildHasher + Copy + Drop, const N: usize> RecencyShards<S, N> {
         requires sum_fits { rest.0 + 2 ^ 64 < 2 ^ 128 }
         requires count { rest.1 ≡ length (others item.now (all self.now)) }
         requires count_fits { rest.1 < 2 ^ 63 }
-        ensures { RoomFor N (limits_of limit watermark) item.now size self.now result }
+        ensures { RoomFor N (limits_of ShardedLru limit watermark) item.now size self.now result }
     {
         let _ = &self.lists; // for the prover: once a field is used, the invariant is known
         let place = self.place_of(item);
@@ -385,8 +386,8 @@ impl<S: BuildHasher + Copy + Drop, const N: usize> RecencyShards<S, N> {
         requires sum { weight (others item.now (span self.now from (to - from))) ≤ start.sum }
         requires count { length (others item.now (span self.now from (to - from))) ≤ start.count }
         requires fits { start.room + start.count ≤ 2 ^ 63 }
-        ensures { Walks (limits_of limit watermark) item.now (span self.now from (to - from)) start
-            result }
+        ensures { Walks (limits_of ShardedLru limit watermark) item.now
+            (span self.now from (to - from)) start result }
     {
         let mut walk = start;
         for place in from..to {
@@ -411,9 +412,10 @@ impl<S: BuildHasher + Copy + Drop, const N: usize> RecencyShards<S, N> {
     ) -> usize
         requires within { place < N }
         requires none { out.old.items ≡ [] }
-        requires room { IsEnough (limits_of limit watermark) (chain N place self.old)
+        requires room { IsEnough (limits_of ShardedLru limit watermark) (chain N place self.old)
             (vec_capacity out.old) }
-        ensures runs { RunsOut (limits_of limit watermark) self.old out.new.items self.new }
+        ensures runs { RunsOut (limits_of ShardedLru limit watermark) self.old out.new.items
+            self.new }
         ensures gone { result ≡ min (weight (all self.old) - weight (all self.new)) (2 ^ 64 - 1) }
     {
         let before = self.weight();

@@ -31,13 +31,15 @@ pub struct Manager<S: BuildHasher = Seed> {
 }
 
 impl<S: BuildHasher> Model for Manager<S> {
+    ghost use Rattle.pcache_evict.specs.declared.eviction.policy.EvictionPolicy.TheVariants.{Lru};
     ghost use Rattle.pcache_evict.specs.Listed.{Listed};
+    ghost use Rattle.pcache_evict.specs.Tracked.{limits_of};
 
     ghost Value = { Listed };
 
     ghost view = { λ a. record {
       entries = a.list;
-      limits = record { weight = a.limit; watermark = a.watermark };
+      limits = limits_of Lru a.limit a.watermark;
       evicted = record { weight = a.evicted_size; count = a.evicted_items };
     } };
 }

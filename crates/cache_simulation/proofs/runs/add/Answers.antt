@@ -1,6 +1,4 @@
-use Rattle.std.proofs.Common.{[]}
-use Rattle.std.proofs.lemmas.List.Elements.{All-same, All-push}
-use Rattle.cache_simulation.specs.Caches.{StandsIn}
+use Rattle.cache_simulation.proofs.Words.{[], All-same, All-push, StandsIn}
 use Rattle.cache_simulation.proofs.runs.add.Goals as goal
 
 pub loop-size-preserved : goal.loop-size-preserved

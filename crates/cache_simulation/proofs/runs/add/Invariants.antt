@@ -1,6 +1,5 @@
-use Rattle.std.proofs.Common.{[]}
 use Rattle.std.specs.List.{All}
-use Rattle.cache_simulation.specs.Caches.{StandsIn}
+use Rattle.cache_simulation.proofs.Words.{[], StandsIn}
 use Rattle.cache_simulation.proofs.runs.add.Given as goal
 
 abbrev pub invariant-loop-size : goal.invariant-loop-size

@@ -1,4 +1,4 @@
-use Rattle.std.proofs.Common.{◌+◌, ◌-◌, ◌*◌}
+use Rattle.cache_simulation.proofs.Words.{◌+◌, ◌-◌, ◌*◌}
 use Rattle.cache_simulation.proofs.side_by_side.+halves.Given as goal
 
 abbrev pub decreases-play_each : goal.decreases-play_each

@@ -1,6 +1,4 @@
-use Rattle.std.proofs.Common.{◌∙◌, ◌++◌, ◌<◌, length, arith}
-use Rattle.std.proofs.lemmas.List.{length-set}
-use Rattle.cache_simulation.specs.Caches.{StandsIn}
+use Rattle.cache_simulation.proofs.Words.{◌∙◌, ◌++◌, ◌<◌, length, arith, length-set, StandsIn}
 use Rattle.cache_simulation.proofs.Marks.{each-more}
 use Rattle.cache_simulation.proofs.side_by_side.play_in_turn.Goals as goal
 

@@ -1,8 +1,5 @@
-use Rattle.std.proofs.Common.{◌≡◌, List, ◌++◌, length}
-use Rattle.std.specs.List.{All, AllWithin}
-use Rattle.cache_simulation.specs.declared.options.Setting.{Setting}
-use Rattle.cache_simulation.specs.declared.run.Request.{Request}
-use Rattle.cache_simulation.specs.Caches.{StandsIn}
+use Rattle.std.specs.List.{All}
+use Rattle.cache_simulation.proofs.Words.{◌≡◌, List, ◌++◌, length, AllWithin, Setting, Request, StandsIn}
 use Rattle.cache_simulation.proofs.side_by_side.play_in_turn.Given as goal
 
 -- the caches so far have them, and the others stand as before

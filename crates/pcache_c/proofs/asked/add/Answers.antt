@@ -1,5 +1,5 @@
-use Rattle.std.proofs.Common.{refl}
 use Rattle.pcache_c.specs.Objects.{as_asked}
+use Rattle.pcache_c.proofs.Words.{refl}
 use Rattle.pcache_c.specs.declared.object.Object.TheVariants as object
 use Rattle.pcache_c.proofs.Changed.{turned}
 use Rattle.pcache_c.proofs.asked.add.Goals as goal

@@ -1,7 +1,6 @@
-use Rattle.std.proofs.Common.{refl, subst, ◌*◌}
 use Rattle.pcache_c.specs.Caches.{MakesCache}
-use Rattle.pcache_c.specs.Codes.{OnGood, hash_at, watermark_at}
-use Rattle.pcache_c.specs.Handles.{IsSame}
+use Rattle.pcache_c.specs.Codes.{hash_at}
+use Rattle.pcache_c.proofs.Words.{refl, subst, ◌*◌, OnGood, watermark_at, IsSame}
 use Rattle.pcache_c.proofs.Changed.{good}
 use Rattle.pcache_c.proofs.caches.pcache_cache_new_with.Goals as goal
 

@@ -1,8 +1,5 @@
-use Rattle.std.proofs.Common.{sym, Err, Ok}
-use Rattle.std.proofs.Math.Nat.{suc-ne-zero}
-use Rattle.pcache_c.specs.Caches.{CopiesMeta}
-use Rattle.pcache_c.specs.Reached.{Does, OnNumber}
-use Rattle.pcache_c.specs.Requests.{CopyOf, IsUnchanged, meta_shown}
+use Rattle.pcache_c.specs.Requests.{IsUnchanged, meta_shown}
+use Rattle.pcache_c.proofs.Words.{sym, Err, Ok, suc-ne-zero, CopiesMeta, Does, OnNumber, CopyOf}
 use Rattle.pcache_c.proofs.Changed.{changed}
 use Rattle.pcache_c.proofs.Copies.{copy_filled, copy_refused}
 use Rattle.pcache_c.proofs.Left.{fill_left}

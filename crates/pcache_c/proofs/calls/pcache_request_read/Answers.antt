@@ -1,4 +1,4 @@
-use Rattle.std.proofs.Common.{sym, ◌∙◌}
+use Rattle.pcache_c.proofs.Words.{sym, ◌∙◌}
 use Rattle.pcache_c.proofs.Changed.{changed}
 use Rattle.pcache_c.proofs.Given.{room_good}
 use Rattle.pcache_c.proofs.calls.pcache_request_read.Goals as goal

@@ -1,4 +1,4 @@
-use Rattle.std.proofs.Common.{refl}
+use Rattle.pcache_c.proofs.Words.{refl}
 use Rattle.pcache_c.proofs.Changed.{changed, good}
 use Rattle.pcache_c.proofs.calls.pcache_request_take.Goals as goal
 

@@ -1,4 +1,4 @@
-use Rattle.std.proofs.Common.{refl, inr}
+use Rattle.pcache_c.proofs.Words.{refl, inr}
 use Rattle.pcache_c.proofs.decisions.failed.Goals as goal
 
 pub returns-in-None : goal.returns-in-None

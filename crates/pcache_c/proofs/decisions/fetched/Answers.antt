@@ -1,4 +1,4 @@
-use Rattle.std.proofs.Common.{refl, inr}
+use Rattle.pcache_c.proofs.Words.{refl, inr}
 use Rattle.pcache_c.proofs.decisions.fetched.Goals as goal
 
 pub returns-in-Ok : goal.returns-in-Ok

@@ -1,4 +1,4 @@
-use Rattle.std.proofs.Common.{inr}
+use Rattle.pcache_c.proofs.Words.{inr}
 use Rattle.pcache_c.proofs.decisions.validated.Goals as goal
 
 pub returns-in-Ok : goal.returns-in-Ok

@@ -1,6 +1,5 @@
-use Rattle.std.proofs.Common.{◌≡◌, ◌+◌, ◌<◌, ◌^◌, length}
-use Rattle.http_header.specs.HeaderMap.{get_all}
-use Rattle.http_header.specs.Token.{lowercase}
+use Rattle.std.proofs.Common.{◌<◌}
+use Rattle.pcache_c.proofs.Words.{◌≡◌, ◌+◌, ◌^◌, length, get_all, lowercase}
 use Rattle.pcache_c.proofs.fields.count_in.Given as goal
 
 abbrev pub invariant-values : goal.invariant-values

@@ -1,4 +1,4 @@
-use Rattle.std.proofs.Common.{rules, Some, None}
+use Rattle.pcache_c.proofs.Words.{rules, Some, None}
 use Rattle.pcache_c.proofs.Lines.{pair_shown}
 use Rattle.pcache_c.proofs.fields.field_in.Goals as goal
 

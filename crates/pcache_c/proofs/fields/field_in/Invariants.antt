@@ -1,5 +1,4 @@
-use Rattle.std.proofs.Common.{◌≡◌, slice_get}
-use Rattle.http_header.specs.HeaderMap.{pairs}
+use Rattle.pcache_c.proofs.Words.{◌≡◌, slice_get, pairs}
 use Rattle.pcache_c.proofs.fields.field_in.Given as goal
 
 abbrev pub invariant-fields : goal.invariant-fields

@@ -1,5 +1,4 @@
-use Rattle.std.proofs.Common.{rules, Some, None}
-use Rattle.http_header.specs.Token.{lowercase}
+use Rattle.pcache_c.proofs.Words.{rules, Some, None, lowercase}
 use Rattle.pcache_c.proofs.Lines.{value_shown}
 use Rattle.pcache_c.proofs.fields.value_in.Goals as goal
 

@@ -1,6 +1,4 @@
-use Rattle.std.proofs.Common.{◌≡◌, slice_get}
-use Rattle.http_header.specs.HeaderMap.{get_all}
-use Rattle.http_header.specs.Token.{lowercase}
+use Rattle.pcache_c.proofs.Words.{◌≡◌, slice_get, get_all, lowercase}
 use Rattle.pcache_c.proofs.fields.value_in.Given as goal
 
 abbrev pub invariant-values : goal.invariant-values

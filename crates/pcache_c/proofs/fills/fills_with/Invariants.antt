@@ -1,5 +1,5 @@
-use Rattle.std.proofs.Common.{take}
 use Rattle.pcache_c.specs.Fills.{HaveTokens}
+use Rattle.pcache_c.proofs.Words.{take}
 use Rattle.pcache_c.proofs.fills.fills_with.Given as goal
 
 abbrev pub invariant-loop-token : goal.invariant-loop-token

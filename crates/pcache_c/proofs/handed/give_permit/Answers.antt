@@ -1,6 +1,4 @@
-use Rattle.std.proofs.Common.{refl, sym}
-use Rattle.pcache_c.specs.Seats.{IsSet, request_at}
-use Rattle.pcache_c.specs.declared.served.Open.{Open}
+use Rattle.pcache_c.proofs.Words.{refl, sym, IsSet, request_at, Open}
 use Rattle.pcache_c.proofs.Lent.{was_found, when_found}
 use Rattle.pcache_c.proofs.handed.give_permit.Goals as goal
 

@@ -1,6 +1,4 @@
-use Rattle.std.proofs.Common.{refl}
-use Rattle.pcache_c.specs.Seats.{IsSet, request_at}
-use Rattle.pcache_c.specs.declared.served.Open.{Open}
+use Rattle.pcache_c.proofs.Words.{refl, IsSet, request_at, Open}
 use Rattle.pcache_c.proofs.Lent.{was_found, when_found}
 use Rattle.pcache_c.proofs.handed.take_permit.Goals as goal
 
@@ -16,9 +14,9 @@ returns c =
       set = when_found c.find.result c.in-Some.taker c.in-Some.is (IsSet c.args.to r seats (c.find.follows.lender r)) (c.find.follows.holds r);
       counts = refl;
       gets = record {
-        request = c.set_write_lock-gone.ensures.request;
-        table = c.set_write_lock-gone.ensures.table;
-        parts = c.set_write_lock-gone.ensures.rest;
+        request = c.set_write_lock-gone.ensures.takes.request;
+        table = c.set_write_lock-gone.ensures.takes.table;
+        parts = c.set_write_lock-gone.ensures.takes.rest;
         rest = (refl, refl, refl);
       };
     }

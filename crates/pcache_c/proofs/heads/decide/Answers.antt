@@ -1,5 +1,4 @@
-use Rattle.std.proofs.Common.{◌≡◌, Option, None}
-use Rattle.std.specs.declared.time.Duration.{Duration}
+use Rattle.pcache_c.proofs.Words.{◌≡◌, Option, None, Duration}
 use Rattle.pcache_c.proofs.Storable.{decided}
 use Rattle.pcache_c.proofs.heads.decide.Goals as goal
 

@@ -1,8 +1,4 @@
-use Rattle.std.proofs.Common.{◌≡◌, Option, None, subst}
-use Rattle.std.specs.declared.time.Duration.{Duration}
-use Rattle.pcache_meta.specs.declared.header.ResponseHeader.{ResponseHeader}
-use Rattle.pcache_control.specs.Responses.{IsDecision}
-use Rattle.pcache_control.specs.declared.cache_control.CacheControl.{CacheControl}
+use Rattle.pcache_c.proofs.Words.{◌≡◌, Option, None, subst, Duration, ResponseHeader, IsDecision, CacheControl}
 use Rattle.pcache_c.proofs.Storable.{stored}
 use Rattle.pcache_c.proofs.heads.fill_meta.Goals as goal
 

@@ -1,5 +1,4 @@
-use Rattle.std.proofs.Common.{refl}
-use Rattle.pcache_c.specs.Managers.{as_manager, managing_list, managing_shards}
+use Rattle.pcache_c.proofs.Words.{refl, as_manager, managing_list, managing_shards}
 use Rattle.pcache_c.specs.declared.object.Object.TheVariants as object
 use Rattle.pcache_c.proofs.Changed.{turned}
 use Rattle.pcache_c.proofs.managers.increment.Goals as goal

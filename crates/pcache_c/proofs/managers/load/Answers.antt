@@ -1,6 +1,5 @@
-use Rattle.std.proofs.Common.{refl, subst, sym}
 use Rattle.pcache_c.specs.Managers.{Loads}
-use Rattle.pcache_c.specs.declared.object.Object.{Object}
+use Rattle.pcache_c.proofs.Words.{refl, subst, sym, Object}
 use Rattle.pcache_c.specs.declared.object.Object.TheVariants as object
 use Rattle.pcache_c.proofs.managers.load.Goals as goal
 

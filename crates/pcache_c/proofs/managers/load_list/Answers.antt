@@ -1,6 +1,5 @@
-use Rattle.std.proofs.Common.{ap}
 use Rattle.pcache_evict.specs.Listed.{Listed}
-use Rattle.pcache_c.specs.declared.managers.Managed.{Managed}
+use Rattle.pcache_c.proofs.Words.{ap, Managed}
 use Rattle.pcache_c.proofs.Changed.{refused_bytes}
 use Rattle.pcache_c.proofs.managers.load_list.Goals as goal
 

@@ -1,8 +1,5 @@
-use Rattle.std.proofs.Common.{subst}
-use Rattle.pcache_evict.specs.declared.eviction.entry_key.CacheEntryKey.{CacheEntryKey}
-use Rattle.pcache_c.specs.Codes.{watermark_at}
-use Rattle.pcache_c.specs.Handles.{ChangesOf, Turns}
-use Rattle.pcache_c.specs.Managers.{Increments, as_manager}
+use Rattle.pcache_c.specs.Managers.{Increments}
+use Rattle.pcache_c.proofs.Words.{subst, CacheEntryKey, watermark_at, ChangesOf, Turns, as_manager}
 use Rattle.pcache_c.proofs.Changed.{changed}
 use Rattle.pcache_c.proofs.Given.{entry_good}
 use Rattle.pcache_c.proofs.managers.pcache_manager_increment.Goals as goal

@@ -1,7 +1,6 @@
-use Rattle.std.specs.Prelude.{⊤}
-use Rattle.pcache_evict.specs.declared.eviction.entry_key.CacheEntryKey.{CacheEntryKey}
 use Rattle.pcache_c.specs.Handles.{AsksOf}
-use Rattle.pcache_c.specs.Managers.{Peeks, as_manager}
+use Rattle.pcache_c.specs.Managers.{Peeks}
+use Rattle.pcache_c.proofs.Words.{⊤, CacheEntryKey, as_manager}
 use Rattle.pcache_c.proofs.Changed.{asked}
 use Rattle.pcache_c.proofs.Given.{entry_good}
 use Rattle.pcache_c.proofs.managers.pcache_manager_peek.Goals as goal

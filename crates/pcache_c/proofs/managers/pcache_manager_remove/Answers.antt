@@ -1,6 +1,5 @@
-use Rattle.pcache_evict.specs.declared.eviction.entry_key.CacheEntryKey.{CacheEntryKey}
-use Rattle.pcache_c.specs.Handles.{ChangesOf}
-use Rattle.pcache_c.specs.Managers.{Removes, as_manager}
+use Rattle.pcache_c.specs.Managers.{Removes}
+use Rattle.pcache_c.proofs.Words.{CacheEntryKey, ChangesOf, as_manager}
 use Rattle.pcache_c.proofs.Changed.{changed}
 use Rattle.pcache_c.proofs.Given.{entry_good}
 use Rattle.pcache_c.proofs.managers.pcache_manager_remove.Goals as goal

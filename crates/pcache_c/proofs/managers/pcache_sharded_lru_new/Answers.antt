@@ -1,5 +1,5 @@
-use Rattle.std.proofs.Common.{ap, inr, is_some, refl, sym, ◌∙◌}
 use Rattle.pcache_evict.specs.Shards.{empty_shards}
+use Rattle.pcache_c.proofs.Words.{ap, inr, is_some, refl, sym, ◌∙◌}
 use Rattle.pcache_c.proofs.Changed.{good_some}
 use Rattle.pcache_c.proofs.managers.pcache_sharded_lru_new.Goals as goal
 

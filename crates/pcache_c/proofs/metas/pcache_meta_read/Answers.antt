@@ -1,4 +1,4 @@
-use Rattle.std.proofs.Common.{refl}
+use Rattle.pcache_c.proofs.Words.{refl}
 use Rattle.pcache_c.proofs.Changed.{refused_bytes}
 use Rattle.pcache_c.proofs.metas.pcache_meta_read.Goals as goal
 

@@ -1,7 +1,5 @@
-use Rattle.std.proofs.Common.{◌≡◌, subst, sym}
-use Rattle.pcache_c.specs.Handles.{OnKind}
 use Rattle.pcache_c.specs.Objects.{as_meta}
-use Rattle.pcache_c.specs.Values.{SavesMeta}
+use Rattle.pcache_c.proofs.Words.{◌≡◌, subst, sym, OnKind, SavesMeta}
 use Rattle.pcache_c.proofs.metas.write.Goals as goal
 
 pub returns-in-Meta : goal.returns-in-Meta

@@ -1,4 +1,4 @@
-use Rattle.std.proofs.Common.{rules}
+use Rattle.pcache_c.proofs.Words.{rules}
 use Rattle.pcache_c.proofs.MetaBytes.{meta_saved}
 use Rattle.pcache_c.proofs.metas.write_meta.Goals as goal
 

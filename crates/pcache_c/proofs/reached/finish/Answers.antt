@@ -1,4 +1,4 @@
-use Rattle.std.proofs.Common.{refl}
+use Rattle.pcache_c.proofs.Words.{refl}
 use Rattle.pcache_c.proofs.Numbered.{counted, not_counted}
 use Rattle.pcache_c.proofs.reached.finish.Goals as goal
 
@@ -8,5 +8,5 @@ returns-in_default-find c =
 
 pub returns : goal.returns
 returns c =
-    let p = c.finish-code.new.open in
+    let p = c.finish-code.new.opened in
     counted _ _ c.in-Cache.boxed _ _ _ _ c.in-Cache.is c.deref_mut-served.ensures.value _ c.find.result c.in-Some.request p c.in-Some.is c.find.ensures.value (c.find.follows.holds p) c.count_fill.ensures c.finish-code.ensures

@@ -1,4 +1,4 @@
-use Rattle.std.proofs.Common.{refl}
+use Rattle.pcache_c.proofs.Words.{refl}
 use Rattle.pcache_c.proofs.Numbered.{reached, unreached}
 use Rattle.pcache_c.proofs.reached.limit_waits.Goals as goal
 
@@ -8,5 +8,5 @@ returns-in_default-find c =
 
 pub returns : goal.returns
 returns c =
-    let p = c.limit_waits.new.open in
+    let p = c.limit_waits.new.opened in
     reached _ _ c.in-Cache.boxed _ _ _ c.in-Cache.is c.deref_mut.ensures.value _ c.find.result c.in-Some.request p c.in-Some.is c.find.ensures.value (c.find.follows.holds p) refl (refl, c.limit_waits.ensures)

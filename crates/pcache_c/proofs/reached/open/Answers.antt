@@ -1,5 +1,4 @@
-use Rattle.std.proofs.Common.{Some, ap, refl, sym}
-use Rattle.pcache_c.specs.Objects.{as_cache}
+use Rattle.pcache_c.proofs.Words.{Some, ap, refl, sym, as_cache}
 use Rattle.pcache_c.specs.declared.object.Object.TheVariants as object
 use Rattle.pcache_c.proofs.Changed.{turned}
 use Rattle.pcache_c.proofs.reached.open.Goals as goal

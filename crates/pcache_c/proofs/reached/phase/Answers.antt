@@ -1,5 +1,5 @@
-use Rattle.std.proofs.Common.{ap, refl, ◌∙◌}
 use Rattle.pcache_c.specs.Numbers.{phase_number}
+use Rattle.pcache_c.proofs.Words.{ap, refl, ◌∙◌}
 use Rattle.pcache_c.proofs.Numbered.{reached, unreached}
 use Rattle.pcache_c.proofs.reached.phase.Goals as goal
 

@@ -1,4 +1,4 @@
-use Rattle.std.proofs.Common.{refl}
+use Rattle.pcache_c.proofs.Words.{refl}
 use Rattle.pcache_c.proofs.Numbered.{reached, unreached}
 use Rattle.pcache_c.proofs.reached.publish.Goals as goal
 

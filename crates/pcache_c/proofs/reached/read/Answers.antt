@@ -1,4 +1,4 @@
-use Rattle.std.proofs.Common.{refl}
+use Rattle.pcache_c.proofs.Words.{refl}
 use Rattle.pcache_c.proofs.Left.{read_left}
 use Rattle.pcache_c.proofs.Numbered.{reached, unreached}
 use Rattle.pcache_c.proofs.reached.read.Goals as goal
@@ -9,7 +9,7 @@ returns-in_default-find-clause-reads c =
 
 pub returns-clause-reads : goal.returns-clause-reads
 returns-clause-reads c =
-    let p = c.read.new.open in
+    let p = c.read.new.opened in
     reached _ _ c.in-Cache.boxed _ _ _ c.in-Cache.is c.deref_mut-served.ensures.value _ c.find.result c.in-Some.request p c.in-Some.is c.find.ensures.value (c.find.follows.holds p) refl c.read.ensures
 
 pub returns-clause-left : goal.returns-clause-left

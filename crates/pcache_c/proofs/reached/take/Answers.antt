@@ -1,4 +1,4 @@
-use Rattle.std.proofs.Common.{refl}
+use Rattle.pcache_c.proofs.Words.{refl}
 use Rattle.pcache_c.proofs.Numbered.{counted, not_counted}
 use Rattle.pcache_c.proofs.reached.take.Goals as goal
 
@@ -8,5 +8,5 @@ returns-in_default-find c =
 
 pub returns : goal.returns
 returns c =
-    let p = c.take-code.new.open in
+    let p = c.take-code.new.opened in
     counted _ _ c.in-Cache.boxed _ _ _ _ c.in-Cache.is c.deref_mut-served.ensures.value _ c.find.result c.in-Some.request p c.in-Some.is c.find.ensures.value (c.find.follows.holds p) c.count_take.ensures c.take-code.ensures

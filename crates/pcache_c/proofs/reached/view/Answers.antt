@@ -1,4 +1,4 @@
-use Rattle.std.proofs.Common.{refl}
+use Rattle.pcache_c.proofs.Words.{refl}
 use Rattle.pcache_c.proofs.Left.{view_left}
 use Rattle.pcache_c.proofs.Numbered.{reached, unreached}
 use Rattle.pcache_c.proofs.reached.view.Goals as goal
@@ -9,7 +9,7 @@ returns-in_default-find-clause-views c =
 
 pub returns-clause-views : goal.returns-clause-views
 returns-clause-views c =
-    let p = c.view.new.open in
+    let p = c.view.new.opened in
     reached _ _ c.in-Cache.boxed _ _ _ c.in-Cache.is c.deref_mut-served.ensures.value _ c.find.result c.in-Some.request p c.in-Some.is c.find.ensures.value (c.find.follows.holds p) refl c.view.ensures
 
 pub returns-clause-left : goal.returns-clause-left

@@ -1,9 +1,10 @@
-use Rattle.std.proofs.Common.{rules, ◌≡◌, length, map, take, All, get_or, ap, sym, ◌∙◌, subst}
+use Rattle.std.proofs.Common.{get_or}
 use Rattle.std.proofs.lemmas.List.Elements.{All-push, All-get_or}
-use Rattle.httparse.specs.Spans.{header_bytes, IsHeaderWithin}
+use Rattle.httparse.specs.Spans.{IsHeaderWithin}
 use Rattle.httparse.specs.declared.spans.HeaderSpan.{HeaderSpan}
-use Rattle.pcache_response.specs.Fields.{IsPair, IsShort, append_pair, fields_after}
+use Rattle.pcache_response.specs.Fields.{append_pair}
 use Rattle.pcache_response.proofs.FieldLemmas.{mapped_more, All-map_at, fields_more}
+use Rattle.pcache_c.proofs.Words.{rules, ◌≡◌, length, map, take, All, ap, sym, ◌∙◌, subst, header_bytes, IsPair, IsShort, fields_after}
 use Rattle.pcache_c.proofs.received.fields_in.Goals as goal
 
 empty : HeaderSpan

@@ -1,10 +1,9 @@
-use Rattle.std.proofs.Common.{rules, ◌≡◌, ◌++◌, inr, All, map, refl, ap, sym, ◌∙◌, subst}
 use Rattle.http.specs.StatusCode.{IsStatusCode}
 use Rattle.httparse.specs.Grammar.{ResponseHead, status_code}
 use Rattle.httparse.specs.Spans.{name_and_value}
 use Rattle.httparse.proofs.GrammarLemmas.{ReadsResponse-append, response_unique}
-use Rattle.pcache_response.specs.Fields.{IsPair, IsShort}
 use Rattle.pcache_response.proofs.HeadLemmas.{fields_are_pairs}
+use Rattle.pcache_c.proofs.Words.{rules, ◌≡◌, ◌++◌, inr, All, map, refl, ap, sym, ◌∙◌, subst, IsPair, IsShort}
 use Rattle.pcache_c.proofs.received.read.Goals as goal
 
 pub returns-in_default-clause-refused : goal.returns-in_default-clause-refused

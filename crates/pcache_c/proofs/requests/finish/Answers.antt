@@ -1,4 +1,4 @@
-use Rattle.std.proofs.Common.{rules, refl}
+use Rattle.pcache_c.proofs.Words.{rules, refl}
 use Rattle.pcache_c.proofs.Outcomes.{outcome_done}
 use Rattle.pcache_c.proofs.requests.finish.Goals as goal
 
@@ -9,10 +9,10 @@ returns-in-Ok-Some c =
       refl,
       search rules,
       record {
-        request = c.finish_miss_handler.ensures.request;
-        ended = rw c.in-Ok-Some.field-0-is at c.in-Ok-Some.ensures.ended;
-        limits = c.finish_miss_handler.ensures.limits;
-        weighing = c.finish_miss_handler.ensures.weighing;
+        request = c.finish_miss_handler.ensures.takes.request;
+        ended = rw c.in-Ok-Some.field-0-is at c.in-Ok-Some.ensures.takes.ended;
+        limits = c.finish_miss_handler.ensures.takes.limits;
+        weighing = c.finish_miss_handler.ensures.takes.weighing;
         rest = (refl, refl, refl);
       },
     )

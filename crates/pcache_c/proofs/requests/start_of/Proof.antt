@@ -1,35 +1,25 @@
 -- `start_of` returns the pointer of the reference to the slice.
-use Rattle.std.proofs.Common.{List, [], ◌∷◌, ◌++◌, length, refl}
-use seplogic.Ra.Ura.{Ura}
 use mir.Syntax.{Fn}
-use mir.Val.{Val, vptr}
-use base.Logic.{SProp, ent}
 use prog.Memory.{Memory}
 use prog.Routine.{Routine}
-use prog.Wp.{Calls, Loops, WpFn, Tables}
+use prog.Wp.{Calls, Loops, Tables}
 use contract.Monad.{Fun}
-use contract.Running.{tables, tables_of}
+use contract.Running.{tables_of}
 use sound.WpLaws.{WpFn-mono}
-use types.Logic.{Logic}
-use types.Kit.{‵, raw, ◌⊛◌, prop, ◌$◌, ◌∵◌, !, qed, move, keep, drop, split, join, fsplit, fjoin, feq_l, feq_i, regoal, suffices, done, flt_l}
-use types.Part.{sub, whole}
-use types.Run.{enter, returns, fld, stop, addr, from, hop}
-use types.ByLocal.{alloc_all, pass_all, free_all, sets, look_at, look_in_at}
-use denote.Exit.{yes}
-use denote.RattleType.{owns}
-use denote.RawPtr.{block_ptr}
+use types.Kit.{prop, regoal, done, flt_l}
+use types.Run.{addr, from, hop}
+use types.ByLocal.{look_in_at}
 use denote.Slice.{slice_val}
 use denote.Builtin.{u8, SliceRefOf}
-use denote.Signature.{plain, types_at}
 use denote.Steps.{nothing}
 use denote.Opens.{unhide}
 use denote.Triple.Clauses.{Clauses, Ended, closing}
-use denote.Triple.Entry.{alive}
-use denote.Triple.Spec.{Meets, triple_of}
+use denote.Triple.Spec.{Meets}
 use denote.Triple.Table.{entered}
-use denote.Triple.Walked.{says, Stays, stay_dropped, walk_of, ends_at, walk_Meets, Goes-dropped}
-use Rattle.pcache_c.specs.contracts.requests.start_of as F
+use denote.Triple.Walked.{says, ends_at, walk_Meets}
 use Rattle.pcache_c.specs.contracts.requests.start_of.Key.{name as #self}
+use Rattle.pcache_c.proofs.Words.{List, [], ◌∷◌, ◌++◌, length, refl, Ura, Val, vptr, SProp, ent, WpFn, tables, Logic, ‵, raw, ◌⊛◌, ◌$◌, ◌∵◌, !, qed, move, keep, drop, split, join, fsplit, fjoin, feq_l, feq_i, suffices, sub, whole, enter, returns, fld, stop, alloc_all, pass_all, free_all, sets, look_at, yes, owns, block_ptr, plain, types_at, alive, triple_of, Stays, stay_dropped, walk_of, Goes-dropped}
+use Rattle.pcache_c.specs.contracts.requests.start_of as F
 use Rattle.pcache_c.proofs.requests.start_of.Statement as stated
 use Rattle.pcache_c.proofs.requests.start_of.Code as code
 

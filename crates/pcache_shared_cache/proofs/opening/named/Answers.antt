@@ -1,7 +1,5 @@
-use Rattle.std.proofs.Common.{List, subst, sym}
-use Rattle.std.proofs.lemmas.Simd.{map-map}
-use Rattle.pcache_evict.specs.Tracked.{Limits}
-use Rattle.pcache_shared_cache.specs.Managed.{managed_limits, unmade_managed}
+use Rattle.pcache_shared_cache.specs.Managed.{managed_limits}
+use Rattle.pcache_shared_cache.proofs.Words.{List, subst, sym, map-map, Limits, unmade_managed}
 use Rattle.pcache_shared_cache.proofs.opening.named.Goals as goal
 
 pub run-requires : goal.run-requires

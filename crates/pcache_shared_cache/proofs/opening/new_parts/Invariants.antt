@@ -1,6 +1,4 @@
-use Rattle.std.proofs.Common.{◌≡◌, ◌+◌, ◌≤◌, ◌++◌, length, map}
-use Rattle.std.specs.Prelude.{vec_len, vec_capacity}
-use Rattle.pcache_shared_cache.specs.Managed.{unmade_portion}
+use Rattle.pcache_shared_cache.proofs.Words.{◌≡◌, ◌+◌, ◌≤◌, ◌++◌, length, map, vec_len, vec_capacity, unmade_portion}
 use Rattle.pcache_shared_cache.proofs.opening.new_parts.Given as goal
 
 -- the portions that were taken so far are in their parts, and there is room for the rest

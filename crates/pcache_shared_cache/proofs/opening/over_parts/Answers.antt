@@ -1,4 +1,4 @@
-use Rattle.std.proofs.Common.{◌≡◌, IfSome, refl, subst, sym}
+use Rattle.pcache_shared_cache.proofs.Words.{◌≡◌, IfSome, refl, subst, sym}
 use Rattle.pcache_shared_cache.proofs.opening.over_parts.Goals as goal
 
 pub named-requires-clause-named : goal.named-requires-clause-named

@@ -1,5 +1,4 @@
-use Rattle.std.proofs.Common.{map, slice_get}
-use Rattle.pcache_shared_cache.specs.Managed.{unmade_name}
+use Rattle.pcache_shared_cache.proofs.Words.{map, slice_get, unmade_name}
 use Rattle.pcache_shared_cache.proofs.opening.over_parts.Given as goal
 
 -- the mark names at each place the keeper that stands there

@@ -1,11 +1,4 @@
-use Rattle.std.proofs.Common.{rules, ℕ, [], ◌≡◌, ◌∙◌, length, ap, sym, subst, arith}
-use Rattle.std.proofs.lemmas.List.{nil_from_length}
-use Rattle.std.proofs.lemmas.Simd.{map-map}
-use Rattle.std.specs.Duration.{as_nanos}
-use Rattle.pcache_cache.specs.Parts.{Parts}
-use Rattle.pcache_evict.specs.Tracked.{Evicted, Tracked}
-use Rattle.pcache_shared_cache.specs.Managed.{Unmade, opened, unmade_managed}
-use Rattle.pcache_shared_cache.specs.Seen.{IsNamed}
+use Rattle.pcache_shared_cache.proofs.Words.{rules, ℕ, [], ◌≡◌, ◌∙◌, length, ap, sym, subst, arith, nil_from_length, map-map, as_nanos, Parts, Evicted, Tracked, Unmade, opened, unmade_managed, IsNamed}
 use Rattle.pcache_shared_cache.proofs.Placing.{Made, made_all, made_count, made_more, made_none, made_placed, named_next}
 use Rattle.pcache_shared_cache.proofs.shared.locks_of.Goals as goal
 

@@ -1,7 +1,4 @@
-use Rattle.std.proofs.Common.{◌+◌, ◌≤◌, length}
-use Rattle.std.specs.Prelude.{vec_len, vec_capacity}
-use Rattle.std.specs.Duration.{as_nanos}
-use Rattle.pcache_shared_cache.specs.Managed.{opened, unmade_managed}
+use Rattle.pcache_shared_cache.proofs.Words.{◌+◌, ◌≤◌, length, vec_len, vec_capacity, as_nanos, opened, unmade_managed}
 use Rattle.pcache_shared_cache.proofs.Placing.{Made}
 use Rattle.pcache_shared_cache.proofs.shared.locks_of.Given as goal
 

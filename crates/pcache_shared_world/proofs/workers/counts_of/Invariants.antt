@@ -1,5 +1,4 @@
-use Rattle.std.proofs.Common.{◌≡◌, map, take, length, vec_capacity}
-use Rattle.std.specs.Prelude.{vec_len}
+use Rattle.pcache_shared_world.proofs.Words.{◌≡◌, map, take, length, vec_capacity, vec_len}
 use Rattle.pcache_shared_world.proofs.workers.counts_of.Given as goal
 
 abbrev pub invariant-loop-share : goal.invariant-loop-share

@@ -1,7 +1,4 @@
-use Rattle.std.proofs.Common.{◌≡◌, ◌+◌, ◌<◌, ℕ, List, length}
-use Rattle.std.specs.Prelude.{slice_index_or}
-use Rattle.pcache_shared_world.specs.declared.receipt.Receipt.{Receipt}
-use Rattle.pcache_shared_world.specs.Workers.{script_at}
+use Rattle.pcache_shared_world.proofs.Words.{◌≡◌, ◌+◌, ◌<◌, ℕ, List, length, slice_index_or, Receipt, script_at}
 use Rattle.pcache_shared_world.proofs.workers.have_run.Given as goal
 
 abbrev pub invariant-loop-worker : goal.invariant-loop-worker

@@ -1,6 +1,4 @@
-use Rattle.std.proofs.Common.{◌≡◌, ◌++◌, List, take}
-use Rattle.pcache_shared_world.specs.declared.receipt.Receipt.{Receipt}
-use Rattle.pcache_shared_world.specs.Workers.{calls_of}
+use Rattle.pcache_shared_world.proofs.Words.{◌≡◌, ◌++◌, List, take, Receipt, calls_of}
 use Rattle.pcache_shared_world.proofs.workers.run_script.Given as goal
 
 abbrev pub invariant-loop-index : goal.invariant-loop-index

@@ -1,7 +1,5 @@
-use Rattle.std.proofs.Common.{rules, List, ◌∙◌, subst, refl, inl, inr}
-use Rattle.std.specs.Prelude.{slice_index_or}
-use Rattle.pcache_shared_world.specs.declared.receipt.Receipt.{Receipt}
-use Rattle.pcache_shared_world.specs.Workers.{Runs, script_at}
+use Rattle.std.proofs.Common.{inl, inr}
+use Rattle.pcache_shared_world.proofs.Words.{rules, List, ◌∙◌, subst, refl, slice_index_or, Receipt, Runs, script_at}
 use Rattle.pcache_shared_world.proofs.Scripts.{runs_none, all_run, if_refused, whole_grown}
 use Rattle.pcache_shared_world.proofs.workers.run_workers.Goals as goal
 

@@ -1,11 +1,4 @@
-use Rattle.std.proofs.Common.{ap, subst}
-use Rattle.pcache_evict.specs.Policy.{lru, sharded}
-use Rattle.pcache_policies.specs.Sieve.{sieve_policy}
-use Rattle.pcache_policies.specs.S3Fifo.{s3_fifo_policy}
-use Rattle.pcache_policies.specs.OneQueue.{fifo, clock}
-use Rattle.pcache_policies.specs.TwoQueues.{two_queues_policy}
-use Rattle.cache_simulation.specs.declared.cache.AnyRun.{AnyRun}
-use Rattle.cache_simulation.specs.Caches.{Stands}
+use Rattle.cache_simulation.proofs.Words.{ap, subst, lru, sharded, sieve_policy, s3_fifo_policy, fifo, clock, two_queues_policy, AnyRun, Stands}
 use Rattle.cache_simulation.proofs.Marks.{marked}
 use Rattle.cache_simulation.proofs.Standing.{rules-same}
 use Rattle.cache_simulation.proofs.cache.AnyRun.mark.Goals as goal

@@ -1,9 +1,4 @@
-use Rattle.std.proofs.Common.{subst}
-use Rattle.std.proofs.lemmas.Result.{on_ok_weaker}
-use Rattle.pcache_evict.specs.Policy.{sharded}
-use Rattle.pcache_policies.specs.OneQueue.{fifo, clock}
-use Rattle.cache_simulation.specs.declared.cache.AnyRun.{AnyRun}
-use Rattle.cache_simulation.specs.Caches.{Stands}
+use Rattle.cache_simulation.proofs.Words.{subst, on_ok_weaker, sharded, fifo, clock, AnyRun, Stands}
 use Rattle.cache_simulation.proofs.Marks.{played}
 use Rattle.cache_simulation.proofs.Standing.{rules-same}
 use Rattle.cache_simulation.proofs.cache.AnyRun.play.Goals as goal

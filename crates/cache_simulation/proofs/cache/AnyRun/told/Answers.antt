@@ -1,12 +1,6 @@
-use Rattle.std.proofs.Common.{sym, subst}
-use Rattle.pcache_evict.specs.Policy.{lru, sharded}
-use Rattle.pcache_policies.specs.Sieve.{sieve_policy}
-use Rattle.pcache_policies.specs.S3Fifo.{s3_fifo_policy}
-use Rattle.pcache_policies.specs.OneQueue.{fifo, clock}
-use Rattle.pcache_policies.specs.TwoQueues.{two_queues_policy}
-use Rattle.cache_simulation.specs.declared.cache.AnyRun.{AnyRun}
 use Rattle.cache_simulation.specs.declared.options.Policy.{Policy as Named}
-use Rattle.cache_simulation.specs.Caches.{RanBy, Stands}
+use Rattle.cache_simulation.specs.Caches.{RanBy}
+use Rattle.cache_simulation.proofs.Words.{sym, subst, lru, sharded, sieve_policy, s3_fifo_policy, fifo, clock, two_queues_policy, AnyRun, Stands}
 use Rattle.cache_simulation.proofs.Tells.{told-as}
 use Rattle.cache_simulation.proofs.cache.AnyRun.told.Goals as goal
 

@@ -1,9 +1,6 @@
-use Rattle.std.proofs.Common.{◌≡◌, ◌∷◌, [], ◌++◌, ◌+◌, ◌∙◌, ap, sym, take}
-use Rattle.std.specs.FinMap as map
-use Rattle.std.proofs.lemmas.List.{take_more}
-use Rattle.pcache_evict.specs.Tracked.{without}
 use Rattle.pcache_evict.proofs.Evictions.{without-push}
-use Rattle.cache_simulation.specs.Fresh.{Fresh}
+use Rattle.cache_simulation.proofs.Words.{◌≡◌, ◌∷◌, [], ◌++◌, ◌+◌, ◌∙◌, ap, sym, take, take_more, without, Fresh}
+use Rattle.std.specs.FinMap as map
 use Rattle.cache_simulation.proofs.FreshMaps.{fresh_of}
 use Rattle.cache_simulation.proofs.freshness.Freshness.forget.Goals as goal
 

@@ -1,5 +1,4 @@
-use Rattle.std.proofs.Common.{◌≡◌, take}
-use Rattle.pcache_evict.specs.Tracked.{without}
+use Rattle.cache_simulation.proofs.Words.{◌≡◌, take, without}
 use Rattle.cache_simulation.proofs.freshness.Freshness.forget.Given as goal
 
 abbrev pub invariant-loop-item : goal.invariant-loop-item

@@ -1,9 +1,6 @@
-use Rattle.std.proofs.Common.{◌≡◌, ◌∙◌, Some, None, ap, sym}
-use Rattle.std.specs.Duration.{as_nanos}
+use Rattle.cache_simulation.specs.Fresh.{is_fresh_since}
+use Rattle.cache_simulation.proofs.Words.{◌≡◌, ◌∙◌, Some, None, ap, sym, as_nanos, weight_of, get-map_of, Fresh}
 use Rattle.std.specs.FinMap as map
-use Rattle.pcache_evict.specs.Recency.{weight_of}
-use Rattle.pcache_evict.proofs.Maps.{get-map_of}
-use Rattle.cache_simulation.specs.Fresh.{Fresh, is_fresh_since}
 use Rattle.cache_simulation.proofs.freshness.Freshness.is_fresh.Goals as goal
 
 pub returns-in-Some : goal.returns-in-Some

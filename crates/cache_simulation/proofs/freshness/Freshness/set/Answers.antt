@@ -1,7 +1,5 @@
-use Rattle.std.proofs.Common.{◌∙◌, ap}
-use Rattle.std.specs.Duration.{as_nanos}
+use Rattle.cache_simulation.proofs.Words.{◌∙◌, ap, as_nanos, Fresh}
 use Rattle.std.specs.FinMap as map
-use Rattle.cache_simulation.specs.Fresh.{Fresh}
 use Rattle.cache_simulation.proofs.FreshMaps.{put, fresh_of}
 use Rattle.cache_simulation.proofs.freshness.Freshness.set.Goals as goal
 

@@ -1,5 +1,4 @@
-use Rattle.std.proofs.Common.{◌≡◌, ◌<◌, arith}
-use Rattle.cache_simulation.specs.KeyLimit.{HasLowest, IsLargestRate}
+use Rattle.cache_simulation.proofs.Words.{◌≡◌, ◌<◌, arith, HasLowest, IsLargestRate}
 use Rattle.cache_simulation.proofs.Ranks.{all_fit, first_out}
 use Rattle.cache_simulation.proofs.key_limit.LowestKeys.rate.Goals as goal
 

@@ -1,8 +1,6 @@
-use Rattle.std.proofs.Common.{◌≡◌, ◌∙◌, ◌<◌, ◌^◌, ◌∷◌, ℕ, ap, arith, length}
 use Rattle.std.specs.Ordering.{nat_cmp}
-use Rattle.std.specs.BTreeSet.{insert_key}
 use Rattle.std.proofs.lemmas.List.Elements.{All-cons}
-use Rattle.cache_simulation.specs.KeyLimit.{HasLowest, rank, ranks}
+use Rattle.cache_simulation.proofs.Words.{◌≡◌, ◌∙◌, ◌<◌, ◌^◌, ◌∷◌, ℕ, ap, arith, length, insert_key, HasLowest, rank, ranks}
 use Rattle.cache_simulation.proofs.Ranks.{popped, stays, one_more_at_most}
 use Rattle.cache_simulation.proofs.key_limit.LowestKeys.take.Goals as goal
 

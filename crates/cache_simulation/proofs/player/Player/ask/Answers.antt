@@ -1,7 +1,4 @@
-use Rattle.std.proofs.Common.{◌∙◌, ◌++◌, ◌∷◌, [], ap, sym}
-use Rattle.std.proofs.lemmas.List.{append-nil}
-use Rattle.cache_simulation.specs.declared.run.Request.{Request}
-use Rattle.cache_simulation.specs.Reading.{request_with}
+use Rattle.cache_simulation.proofs.Words.{◌∙◌, ◌++◌, ◌∷◌, [], ap, sym, append-nil, Request, request_with}
 use Rattle.cache_simulation.proofs.ReadLines.{waits-on}
 use Rattle.cache_simulation.proofs.player.Player.ask.Goals as goal
 

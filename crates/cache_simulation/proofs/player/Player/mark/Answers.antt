@@ -1,5 +1,5 @@
-use Rattle.std.proofs.Common.{◌≡◌, ◌∙◌, ◌++◌, ◌+◌, [], List, ap, sym, refl, length, length-append, arith}
-use Rattle.cache_simulation.specs.Reading.{requests_of}
+use Rattle.std.proofs.Common.{length-append}
+use Rattle.cache_simulation.proofs.Words.{◌≡◌, ◌∙◌, ◌++◌, ◌+◌, [], List, ap, sym, refl, length, arith, requests_of}
 use Rattle.cache_simulation.proofs.ReadLines.{moved-on}
 use Rattle.cache_simulation.proofs.player.Player.mark.Goals as goal
 

@@ -1,8 +1,6 @@
-use Rattle.std.proofs.Common.{◌≡◌, ◌∙◌, ◌++◌, [], List, Some, ap, sym, subst}
-use Rattle.std.specs.List.{cons_option}
 use Rattle.std.specs.Option.{option_map}
-use Rattle.cache_simulation.specs.declared.run.Request.{Request}
-use Rattle.cache_simulation.specs.Reading.{HasAsked, named_in, request_with}
+use Rattle.cache_simulation.specs.Reading.{named_in}
+use Rattle.cache_simulation.proofs.Words.{◌≡◌, ◌∙◌, ◌++◌, [], List, Some, ap, sym, subst, cons_option, Request, HasAsked, request_with}
 use Rattle.cache_simulation.proofs.player.Player.pick.Goals as goal
 
 pub returns-clause-asked : goal.returns-clause-asked

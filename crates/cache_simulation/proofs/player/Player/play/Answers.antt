@@ -1,6 +1,4 @@
-use Rattle.std.proofs.Common.{◌∙◌, ◌++◌, List, ap, sym, subst}
-use Rattle.cache_simulation.specs.declared.run.Request.{Request}
-use Rattle.cache_simulation.specs.Caches.{HasPlayed}
+use Rattle.cache_simulation.proofs.Words.{◌∙◌, ◌++◌, List, ap, sym, subst, Request, HasPlayed}
 use Rattle.cache_simulation.proofs.player.Player.play.Goals as goal
 
 pub returns-clause-asked : goal.returns-clause-asked

@@ -1,11 +1,5 @@
-use Rattle.std.proofs.Common.{◌≡◌, ◌∙◌, ◌++◌, ◌+◌, length, List, ap, sym, arith}
-use Rattle.std.proofs.lemmas.List.{append-nil}
 use Rattle.std.proofs.lemmas.List.Elements.{All-weaker}
-use Rattle.std.proofs.lemmas.Result.{IfOk-weaker}
-use Rattle.cache_simulation.specs.declared.cache.Span.{Span}
-use Rattle.cache_simulation.specs.declared.run.Request.{Request}
-use Rattle.cache_simulation.specs.Caches.{IsRow}
-use Rattle.cache_simulation.specs.Reading.{IsRowOf, requests_of, bytes_in}
+use Rattle.cache_simulation.proofs.Words.{◌≡◌, ◌∙◌, ◌++◌, ◌+◌, length, List, ap, sym, arith, append-nil, IfOk-weaker, Span, Request, IsRow, IsRowOf, requests_of, bytes_in}
 use Rattle.cache_simulation.proofs.ReadLines.{row-of, kept-on}
 use Rattle.cache_simulation.proofs.player.Player.rows.Goals as goal
 

@@ -1,6 +1,6 @@
-use Rattle.std.proofs.Common.{◌∷◌, ℕ, [], ap, length-append, arith}
-use Rattle.std.proofs.lemmas.List.Sums.{sum_by-append, sum_by-cons}
-use Rattle.cache_simulation.specs.Reading.{Line, line, requests_of}
+use Rattle.std.proofs.Common.{length-append}
+use Rattle.cache_simulation.specs.Reading.{line}
+use Rattle.cache_simulation.proofs.Words.{◌∷◌, ℕ, [], ap, arith, sum_by-append, sum_by-cons, Line, requests_of}
 use Rattle.cache_simulation.proofs.ReadLines.{read-on}
 use Rattle.cache_simulation.proofs.player.Player.take.Goals as goal
 

@@ -1,9 +1,5 @@
-use Rattle.std.proofs.Common.{◌≡◌, ◌∙◌, ◌∷◌, [], ◌++◌, ◌+◌, ap, sym, subst, take, List, arith}
-use Rattle.std.proofs.lemmas.List.{take_more, take_all}
-use Rattle.cache_simulation.specs.declared.run.Request.{Request}
-use Rattle.cache_simulation.specs.Plays.{Rules, State, Plays, state, rules_of}
+use Rattle.cache_simulation.proofs.Words.{◌≡◌, ◌∙◌, ◌∷◌, [], ◌++◌, ◌+◌, ap, sym, subst, take, List, arith, take_more, take_all, Request, Rules, State, Plays, state, rules_of, Replays, count_after, place}
 use Rattle.cache_simulation.proofs.Standing.{plays-more, counted-more, same-rules, rules-same}
-use Rattle.cache_simulation.specs.Replays.{Replays, count_after, place}
 use Rattle.cache_simulation.proofs.Replaying.{replays-more, same-answers, counts-more, same-served, served-more}
 use Rattle.cache_simulation.proofs.run.Run.play.Goals as goal
 

@@ -1,7 +1,4 @@
-use Rattle.std.proofs.Common.{◌≡◌, take, List}
-use Rattle.cache_simulation.specs.Events.{Event}
-use Rattle.cache_simulation.specs.Plays.{Plays, IsCounted, rules_of, state}
-use Rattle.cache_simulation.specs.Replays.{Replays, counts_after, place}
+use Rattle.cache_simulation.proofs.Words.{◌≡◌, take, List, Event, Plays, IsCounted, rules_of, state, Replays, counts_after, place}
 use Rattle.cache_simulation.proofs.run.Run.play.Given as goal
 
 abbrev pub invariant-loop-asked : goal.invariant-loop-asked

@@ -1,5 +1,4 @@
-use Rattle.std.proofs.Common.{ap}
-use Rattle.std.proofs.lemmas.Result.{on_ok_weaker}
+use Rattle.cache_simulation.proofs.Words.{ap, on_ok_weaker}
 use Rattle.cache_simulation.proofs.Replaying.{brings-anew}
 use Rattle.cache_simulation.proofs.run.Run.renew.Goals as goal
 

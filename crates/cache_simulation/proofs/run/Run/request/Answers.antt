@@ -1,7 +1,6 @@
-use Rattle.std.proofs.Common.{◌∙◌, ◌+◌, ◌<◌, ◌≤◌, ◌&&◌, Bool, refl, ap, sym, cond, arith}
-use Rattle.std.specs.FinMap as fin
-use Rattle.cache_simulation.specs.Events.{Hit, Passed, comes, size_in}
 use Rattle.cache_simulation.specs.Fresh.{is_fresh}
+use Rattle.cache_simulation.proofs.Words.{◌∙◌, ◌+◌, ◌<◌, ◌≤◌, ◌&&◌, Bool, refl, ap, sym, cond, arith, Hit, Passed, comes, size_in}
+use Rattle.std.specs.FinMap as fin
 use Rattle.cache_simulation.proofs.Standing.{both_first, is-hit, is-passed, is-come, counted-one, comes-size, comes-miss}
 use Rattle.cache_simulation.proofs.Replaying.{is-fresh, is-come-in}
 use Rattle.cache_simulation.proofs.run.Run.request.Goals as goal

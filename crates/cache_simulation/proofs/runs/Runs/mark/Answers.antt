@@ -1,7 +1,4 @@
-use Rattle.std.proofs.Common.{◌≡◌, ◌∙◌, ◌++◌, ◌+◌, ◌<◌, ◌≤◌, [], ap, sym, subst, take, drop, length, arith}
-use Rattle.std.proofs.Math.Seq.{take-append_seam}
-use Rattle.std.proofs.lemmas.List.{length-set}
-use Rattle.cache_simulation.specs.Caches.{StandsIn}
+use Rattle.cache_simulation.proofs.Words.{◌≡◌, ◌∙◌, ◌++◌, ◌+◌, ◌<◌, ◌≤◌, [], ap, sym, subst, take, drop, length, arith, take-append_seam, length-set, StandsIn}
 use Rattle.cache_simulation.proofs.Marks.{each-more, all-whole}
 use Rattle.cache_simulation.proofs.runs.Runs.mark.Goals as goal
 

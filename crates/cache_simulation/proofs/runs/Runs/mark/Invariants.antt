@@ -1,7 +1,5 @@
-use Rattle.std.proofs.Common.{◌≡◌, List, [], ◌++◌, length}
-use Rattle.std.specs.List.{All, AllWithin}
-use Rattle.cache_simulation.specs.declared.run.Request.{Request}
-use Rattle.cache_simulation.specs.Caches.{StandsIn}
+use Rattle.std.specs.List.{All}
+use Rattle.cache_simulation.proofs.Words.{◌≡◌, List, [], ◌++◌, length, AllWithin, Request, StandsIn}
 use Rattle.cache_simulation.proofs.runs.Runs.mark.Given as goal
 
 -- the caches so far have them, and the others stand as before

@@ -1,6 +1,5 @@
-use Rattle.std.proofs.Common.{[]}
 use Rattle.std.specs.List.{All}
-use Rattle.cache_simulation.specs.Caches.{StandsIn}
+use Rattle.cache_simulation.proofs.Words.{[], StandsIn}
 use Rattle.cache_simulation.proofs.runs.Runs.new.Given as goal
 
 abbrev pub invariant-loop-policy : goal.invariant-loop-policy

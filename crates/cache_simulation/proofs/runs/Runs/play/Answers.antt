@@ -1,6 +1,4 @@
-use Rattle.std.proofs.Common.{◌++◌, arith}
-use Rattle.std.proofs.lemmas.List.Elements.{All-same}
-use Rattle.cache_simulation.specs.Caches.{StandsIn}
+use Rattle.cache_simulation.proofs.Words.{◌++◌, arith, All-same, StandsIn}
 use Rattle.cache_simulation.proofs.SideBySide.{written-back}
 use Rattle.cache_simulation.proofs.runs.Runs.play.Goals as goal
 

@@ -1,7 +1,5 @@
-use Rattle.std.proofs.Common.{sym, subst}
 use Rattle.std.specs.List.{All}
-use Rattle.std.proofs.lemmas.List.Elements.{All-same, All-push}
-use Rattle.cache_simulation.specs.Caches.{IsRow, StandsIn}
+use Rattle.cache_simulation.proofs.Words.{sym, subst, All-same, All-push, IsRow, StandsIn}
 use Rattle.cache_simulation.proofs.runs.Runs.rows.Goals as goal
 
 pub loop-cache-preserved : goal.loop-cache-preserved

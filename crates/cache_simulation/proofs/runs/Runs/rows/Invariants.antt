@@ -1,7 +1,5 @@
-use Rattle.std.proofs.Common.{List}
 use Rattle.std.specs.List.{All}
-use Rattle.cache_simulation.specs.declared.run.Request.{Request}
-use Rattle.cache_simulation.specs.Caches.{HasPlayed, IsRow}
+use Rattle.cache_simulation.proofs.Words.{List, Request, HasPlayed, IsRow}
 use Rattle.cache_simulation.proofs.runs.Runs.rows.Given as goal
 
 abbrev pub invariant-loop-cache : goal.invariant-loop-cache

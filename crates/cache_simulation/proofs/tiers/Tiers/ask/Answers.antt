@@ -1,4 +1,4 @@
-use Rattle.std.proofs.lemmas.Result.{on_ok_weaker}
+use Rattle.cache_simulation.proofs.Words.{on_ok_weaker}
 use Rattle.cache_simulation.proofs.Visits.{of-none, of-answer, of-shield}
 use Rattle.cache_simulation.proofs.tiers.Tiers.ask.Goals as goal
 

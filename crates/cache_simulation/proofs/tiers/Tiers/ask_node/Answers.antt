@@ -1,5 +1,4 @@
-use Rattle.std.proofs.Common.{◌≡◌, refl, ap, [], ◌∷◌, length, arith}
-use Rattle.std.proofs.lemmas.Result.{on_ok_weaker}
+use Rattle.cache_simulation.proofs.Words.{◌≡◌, refl, ap, [], ◌∷◌, length, arith, on_ok_weaker}
 use Rattle.cache_simulation.proofs.Visits.{node-more, made-back, within-kept}
 use Rattle.cache_simulation.proofs.tiers.Tiers.ask_node.Goals as goal
 

@@ -1,5 +1,4 @@
-use Rattle.std.proofs.Common.{refl, [], ◌∷◌}
-use Rattle.std.proofs.lemmas.Result.{on_ok_weaker}
+use Rattle.cache_simulation.proofs.Words.{refl, [], ◌∷◌, on_ok_weaker}
 use Rattle.cache_simulation.proofs.Visits.{shield-more, made-of}
 use Rattle.cache_simulation.proofs.tiers.Tiers.ask_shield.Goals as goal
 

@@ -1,7 +1,4 @@
-use Rattle.std.proofs.Common.{◌≡◌, ◌∙◌, ◌+◌, ◌<◌, ap, sym, subst, length, get_or, arith}
-use Rattle.std.proofs.lemmas.List.{length_push}
-use Rattle.cache_simulation.specs.declared.cache.Cache.{Cache}
-use Rattle.cache_simulation.specs.Tiers.{Got, at_node}
+use Rattle.cache_simulation.proofs.Words.{◌≡◌, ◌∙◌, ◌+◌, ◌<◌, ap, sym, subst, length, get_or, arith, length_push, Cache, Got, at_node}
 use Rattle.cache_simulation.proofs.Visits.{tells, tell-more}
 use Rattle.cache_simulation.proofs.tiers.Tiers.each_node.Goals as goal
 

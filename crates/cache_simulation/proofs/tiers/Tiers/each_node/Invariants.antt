@@ -1,6 +1,4 @@
-use Rattle.std.proofs.Common.{◌≡◌, ℕ, ◌<◌, ◌≤◌, List, length, get_or}
-use Rattle.cache_simulation.specs.declared.cache.Told.{Told}
-use Rattle.cache_simulation.specs.Tiers.{Visit, HasHad, Tells, at_node}
+use Rattle.cache_simulation.proofs.Words.{◌≡◌, ℕ, ◌<◌, ◌≤◌, List, length, get_or, Told, Visit, HasHad, Tells, at_node}
 use Rattle.cache_simulation.proofs.tiers.Tiers.each_node.Given as goal
 
 -- the nodes so far have told

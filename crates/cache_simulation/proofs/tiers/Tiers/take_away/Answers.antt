@@ -1,5 +1,6 @@
-use Rattle.std.proofs.Common.{rules, ◌==◌, not}
+use Rattle.std.proofs.Common.{rules}
 use Rattle.std.proofs.lemmas.Fn.{filter_same}
+use Rattle.cache_simulation.proofs.Words.{◌==◌, not}
 use Rattle.cache_simulation.proofs.tiers.Tiers.take_away.Goals as goal
 
 pub returns-clause-there : goal.returns-clause-there

@@ -1,7 +1,4 @@
-use Rattle.std.proofs.Common.{◌≡◌, ◌∙◌, Bool, nat_lt, ap, sym, get_or}
-use Rattle.std.proofs.lemmas.Result.{IfOk-weaker}
-use Rattle.cache_simulation.specs.declared.cache.Cache.{Cache}
-use Rattle.cache_simulation.specs.Tiers.{hits_in}
+use Rattle.cache_simulation.proofs.Words.{◌≡◌, ◌∙◌, Bool, nat_lt, ap, sym, get_or, IfOk-weaker, Cache, hits_in}
 use Rattle.cache_simulation.proofs.Visits.{hits-changed}
 use Rattle.cache_simulation.proofs.tiers.calls.answers_at.Goals as goal
 

@@ -1,7 +1,4 @@
-use Rattle.std.proofs.Common.{◌∙◌, ◌+◌, [], ap, length, arith}
-use Rattle.std.proofs.lemmas.List.{length_push}
-use Rattle.std.proofs.lemmas.List.Elements.{All-same, All-push}
-use Rattle.cache_simulation.specs.Tiers.{Got}
+use Rattle.cache_simulation.proofs.Words.{◌∙◌, ◌+◌, [], ap, length, arith, length_push, All-same, All-push, Got}
 use Rattle.cache_simulation.proofs.tiers.calls.empty_nodes.Goals as goal
 
 pub loop-preserved : goal.loop-preserved

@@ -1,6 +1,5 @@
-use Rattle.std.proofs.Common.{◌≡◌, ◌≤◌, [], length}
 use Rattle.std.specs.List.{All}
-use Rattle.cache_simulation.specs.Tiers.{Got}
+use Rattle.cache_simulation.proofs.Words.{◌≡◌, ◌≤◌, [], length, Got}
 use Rattle.cache_simulation.proofs.tiers.calls.empty_nodes.Given as goal
 
 abbrev pub invariant-loop : goal.invariant-loop

@@ -1,5 +1,5 @@
-use Rattle.std.proofs.Common.{◌≡◌, ◌<◌, ◌≤◌, length, slice_index, EachIndex}
 use Rattle.std.specs.List.{All}
+use Rattle.cache_simulation.proofs.Words.{◌≡◌, ◌<◌, ◌≤◌, length, slice_index, EachIndex}
 use Rattle.cache_simulation.proofs.tiers.calls.numbers.Given as goal
 
 abbrev pub invariant-loop-number : goal.invariant-loop-number

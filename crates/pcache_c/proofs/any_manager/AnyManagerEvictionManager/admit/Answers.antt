@@ -1,7 +1,4 @@
-use Rattle.std.proofs.Common.{sym, subst}
-use Rattle.std.specs.Prelude.{IfOk}
-use Rattle.pcache_c.specs.AnyManagers.{limits_in, named_by, rules_by, shown_in}
-use Rattle.pcache_c.specs.declared.any_manager.AnyManager.{AnyManager}
+use Rattle.pcache_c.proofs.Words.{sym, subst, IfOk, limits_in, named_by, rules_by, shown_in, AnyManager}
 use Rattle.pcache_c.specs.declared.any_manager.AnyManager.TheVariants as any
 use Rattle.pcache_c.proofs.any_manager.AnyManagerEvictionManager.admit.Goals as goal
 

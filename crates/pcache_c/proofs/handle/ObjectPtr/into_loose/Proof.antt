@@ -1,39 +1,14 @@
 -- `into_loose` keeps the pointer, under its own type again, beside the allocator.
-use Rattle.std.proofs.Common.{◌≡◌, List, [], ◌∷◌, ◌++◌, refl, sym, ap, ◌∙◌, subst}
-use Rattle.std.specs.Prelude.{Option, Some, IsTrue, is_some}
-use mir.Syntax.{impl, tnil, dnil}
 use mir.Raw.{raw as bare}
-use mir.Val.{Val, vptr}
-use base.Logic.{SProp, ent, emp, never, id⊢, fst∗}
-use prog.Wp.{WpFn}
-use types.Logic.{sem}
-use types.Kit.{‵, raw, ◌⊛◌, ◌$◌, ◌∵◌, !, qed, by, move, drop, split, fsplit, fjoin, use0, rewrite, suffices}
-use types.Run.{stop, fld, of_opd, no_more, and_then, returns, enter}
-use types.ByLocal.{alloc_all, pass_all, free_all, look_at, get, get_in, sets}
-use types.Part.{agg, sub, whole}
-use contract.Monad.{fact, fact_i}
-use contract.Running.{tables}
-use denote.Exit.{yes}
-use denote.RattleType.{RattleType, owns}
-use denote.Memory.{lone}
-use denote.RawPtr.{Ptr, block_ptr, null_ptr, in_a_block}
-use denote.Signature.{types_at, plain}
-use denote.Steps.{nothing, heard}
-use denote.Triple.Entry.{alive}
-use denote.Triple.Walked.{Stays, stay_dropped, walk_of, Goes-dropped}
-use Rattle.core.proofs.alloc.Calls.{Al, handle_tells}
-use Rattle.std.proofs.raw_atomic.Walks.{proved_at, leaves}
-use Rattle.std.specs.Box.Ownership.{box_owns}
-use Rattle.std.specs.contracts.alloc.Global as heap
-use Rattle.std.proofs.alloc.Global.TheLaws as heap_laws
-use Rattle.std.specs.contracts.impls.GlobalAllocator.TheImpl.{ghosts}
-use Rattle.pcache_c.specs.declared.object.Object.{Object}
-use Rattle.pcache_c.specs.contracts.object.Object as object
-use Rattle.pcache_c.specs.Handle.{object_at}
-use Rattle.pcache_c.proofs.ObjectSteps.{ObjectPtr, word, found, held_out}
-use Rattle.pcache_c.proofs.LooseValues.{both, loose_good, loose_in}
+use denote.Steps.{nothing}
 use Rattle.pcache_c.specs.contracts.handle.ObjectPtr.into_loose.{ended, clauses}
 use Rattle.pcache_c.specs.contracts.handle.ObjectPtr.into_loose.Key.{name as #self}
+use Rattle.pcache_c.proofs.Words.{◌≡◌, List, [], ◌∷◌, ◌++◌, refl, sym, ap, ◌∙◌, subst, Option, Some, IsTrue, is_some, impl, tnil, dnil, Val, vptr, SProp, ent, emp, never, id⊢, fst∗, WpFn, sem, ‵, raw, ◌⊛◌, ◌$◌, ◌∵◌, !, qed, by, move, drop, split, fsplit, fjoin, use0, rewrite, suffices, stop, fld, of_opd, no_more, and_then, returns, enter, alloc_all, pass_all, free_all, look_at, get, get_in, sets, agg, sub, whole, fact, fact_i, tables, yes, RattleType, owns, lone, Ptr, block_ptr, null_ptr, in_a_block, types_at, plain, heard, alive, Stays, stay_dropped, walk_of, Goes-dropped, Al, handle_tells, proved_at, leaves, box_owns, ghosts, Object, object_at}
+use Rattle.std.specs.contracts.alloc.Global as heap
+use Rattle.std.proofs.alloc.Global.TheLaws as heap_laws
+use Rattle.pcache_c.specs.contracts.object.Object as object
+use Rattle.pcache_c.proofs.ObjectSteps.{ObjectPtr, word, found, held_out}
+use Rattle.pcache_c.proofs.LooseValues.{both, loose_good, loose_in}
 use Rattle.pcache_c.proofs.handle.ObjectPtr.into_loose.Statement.{statement}
 use Rattle.pcache_c.proofs.handle.ObjectPtr.into_loose.Code as code
 

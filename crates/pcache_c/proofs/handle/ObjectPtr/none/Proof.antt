@@ -1,25 +1,11 @@
 -- `none` writes a null pointer, which owns nothing.
-use Rattle.std.proofs.Common.{◌≡◌, [], ◌∷◌, refl, lit<}
-use Rattle.std.specs.Prelude.{None}
-use mir.Val.{Val}
-use base.Logic.{SProp}
-use types.Kit.{‵, raw, ◌⊛◌, ◌$◌, ◌∵◌, !, qed, by, move, drop, split, use0}
-use types.Run.{lit, no_more, and_then, returns, enter}
-use types.ByLocal.{alloc_all, pass_all, free_all, look_at, sets}
-use types.Part.{agg}
-use base.Logic.{emp}
-use contract.Monad.{fact, fact_i}
-use contract.Running.{tables}
-use denote.RattleType.{owns}
-use denote.RawPtr.{null_ptr}
-use denote.Signature.{types_at}
+use Rattle.std.proofs.Common.{lit<}
+use types.Run.{lit}
 use denote.Steps.{nothing}
-use denote.Triple.Entry.{alive}
-use denote.Triple.Walked.{walk_of}
-use Rattle.std.proofs.raw_atomic.Walks.{proved_at, leaves}
-use Rattle.pcache_c.proofs.ObjectSteps.{word, held_in}
 use Rattle.pcache_c.specs.contracts.handle.ObjectPtr.none.{ended, clauses}
 use Rattle.pcache_c.specs.contracts.handle.ObjectPtr.none.Key.{name as #self}
+use Rattle.pcache_c.proofs.Words.{◌≡◌, [], ◌∷◌, refl, None, Val, SProp, ‵, raw, ◌⊛◌, ◌$◌, ◌∵◌, !, qed, by, move, drop, split, use0, no_more, and_then, returns, enter, alloc_all, pass_all, free_all, look_at, sets, agg, emp, fact, fact_i, tables, owns, null_ptr, types_at, alive, walk_of, proved_at, leaves}
+use Rattle.pcache_c.proofs.ObjectSteps.{word, held_in}
 use Rattle.pcache_c.proofs.handle.ObjectPtr.none.Statement.{statement}
 use Rattle.pcache_c.proofs.handle.ObjectPtr.none.Code as code
 

@@ -1,33 +1,13 @@
 -- `of` keeps the pointer, under another type, and lets the allocator go.
-use Rattle.std.proofs.Common.{◌≡◌, List, [], ◌∷◌, ◌++◌, refl, sym, subst}
-use Rattle.std.specs.Prelude.{Some}
-use mir.Val.{Val, vptr}
-use base.Logic.{SProp, ent, emp, id⊢}
-use prog.Wp.{WpFn}
-use types.Kit.{‵, raw, ◌⊛◌, ◌$◌, ◌∵◌, !, qed, by, move, keep, drop, split, fsplit, fjoin, use0, use1, suffices}
-use types.Run.{stop, fld, of_opd, no_more, and_then, returns, enter}
-use types.ByLocal.{alloc_all, pass_all, free_all, look_at, get, get_in, sets}
-use types.Part.{agg, sub, whole}
-use contract.Monad.{fact, fact_i}
-use contract.Running.{tables}
-use denote.Exit.{no}
-use denote.RattleType.{RattleType, owns}
-use denote.RawPtr.{block_ptr}
-use denote.Signature.{types_at, plain}
 use denote.Steps.{nothing}
-use denote.Triple.Entry.{alive}
-use denote.Triple.Walked.{Stays, stay_dropped, walk_of}
-use Rattle.core.proofs.alloc.Calls.{Goes-blank}
-use Rattle.std.proofs.raw_atomic.Walks.{proved_at, leaves}
-use Rattle.std.specs.contracts.alloc.Global as heap
-use Rattle.std.proofs.alloc.Global.TheLaws as heap_laws
-use Rattle.std.specs.contracts.impls.GlobalAllocator.TheImpl.{ghosts}
-use Rattle.pcache_c.specs.contracts.object.Object as object
-use Rattle.pcache_c.specs.Handle.{object_at}
-use Rattle.pcache_c.proofs.ObjectSteps.{word, held_in}
-use Rattle.pcache_c.proofs.LooseValues.{both, Loose, loose_good, loose_out}
 use Rattle.pcache_c.specs.contracts.handle.ObjectPtr.of.{ended, clauses}
 use Rattle.pcache_c.specs.contracts.handle.ObjectPtr.of.Key.{name as #self}
+use Rattle.pcache_c.proofs.Words.{◌≡◌, List, [], ◌∷◌, ◌++◌, refl, sym, subst, Some, Val, vptr, SProp, ent, emp, id⊢, WpFn, ‵, raw, ◌⊛◌, ◌$◌, ◌∵◌, !, qed, by, move, keep, drop, split, fsplit, fjoin, use0, use1, suffices, stop, fld, of_opd, no_more, and_then, returns, enter, alloc_all, pass_all, free_all, look_at, get, get_in, sets, agg, sub, whole, fact, fact_i, tables, no, RattleType, owns, block_ptr, types_at, plain, alive, Stays, stay_dropped, walk_of, Goes-blank, proved_at, leaves, ghosts, object_at}
+use Rattle.std.specs.contracts.alloc.Global as heap
+use Rattle.std.proofs.alloc.Global.TheLaws as heap_laws
+use Rattle.pcache_c.specs.contracts.object.Object as object
+use Rattle.pcache_c.proofs.ObjectSteps.{word, held_in}
+use Rattle.pcache_c.proofs.LooseValues.{both, Loose, loose_good, loose_out}
 use Rattle.pcache_c.proofs.handle.ObjectPtr.of.Statement.{statement}
 use Rattle.pcache_c.proofs.handle.ObjectPtr.of.Code as code
 

@@ -1,5 +1,4 @@
-use Rattle.std.proofs.Common.{◌≡◌, None, Some, refl, sym, ap, ◌∙◌, ◌%◌, ◌^◌}
-use Rattle.std.proofs.lemmas.Option.{slice_get-get_or}
+use Rattle.pcache_c.proofs.Words.{◌≡◌, None, Some, refl, sym, ap, ◌∙◌, ◌%◌, ◌^◌, slice_get-get_or}
 use Rattle.pcache_c.proofs.Places.{found, not_found, on_some, others_stay, rounds_stay, same, this_set}
 use Rattle.pcache_c.proofs.seats.Seats.find.Goals as goal
 

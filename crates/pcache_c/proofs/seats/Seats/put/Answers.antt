@@ -1,5 +1,4 @@
-use Rattle.std.proofs.Common.{◌≡◌, None, Some, refl, sym, ap, ◌∙◌}
-use Rattle.std.proofs.lemmas.Option.{none-some, slice_get-get_or}
+use Rattle.pcache_c.proofs.Words.{◌≡◌, None, Some, refl, sym, ap, ◌∙◌, none-some, slice_get-get_or}
 use Rattle.pcache_c.proofs.Places.{free_is, put_others, put_this, rounds_stay}
 use Rattle.pcache_c.proofs.seats.Seats.put.Goals as goal
 

@@ -1,11 +1,10 @@
-use Rattle.std.proofs.Common.{subst, sym, Some}
+use Rattle.std.proofs.Common.{subst, sym, Some, refl, rules}
 use Rattle.pcache_store.specs.Readers.{reader_of}
-use Rattle.pcache_cache.specs.Parts.{IsKept, Parts}
+use Rattle.pcache_cache.specs.Parts.{IsKept}
 use Rattle.pcache_cache.proofs.Kept.{kept_found, slots_taken}
 use Rattle.pcache_request.specs.LockPasts.{found_deeds}
 use Rattle.pcache_cache.proofs.Adding.{found_keeps}
 use Rattle.pcache_cache.proofs.Unlocking.{if_done, none_kept}
-use Rattle.pcache_cache.specs.Strays.{TracksOnly}
 use Rattle.pcache_cache.proofs.Only.{only_slots}
 use Rattle.pcache_cache.proofs.cache.Cache.cache_found.Goals as goal
 
@@ -18,9 +17,31 @@ invariant_of-self g c =
       if_done c.cache_found_tracked.result (found_deeds c.args.status c.args.now c.self.inside.lock.table c.args.request.now.cache) (Some c.self.inside.lock.past) (Some c.cache_found_tracked.new.lock.past) (found_keeps none_kept c.args.status c.args.now c.self.inside.lock.table c.args.request.now.cache) c.cache_found_tracked.ensures.deeds c.cache_found_tracked.ensures.same_deeds c.self.invariant.1,
     )
 
-pub returns-clause-only : goal.returns-clause-only
-returns-clause-only g c of its only =
+pub returns : goal.returns
+returns g c =
     let tracked = g.M.EvictionManager.tracked in
     let inside = c.self.inside in
     let call = c.cache_found_tracked in
-    only_slots of inside.weighing (tracked inside.manager) (tracked call.new.eviction) inside.store.state call.new.storage.state (slots_taken inside.store.state call.new.storage.state c.args.status (reader_of c.args.hit) c.args.request.now.cache call.result call.ensures.store call.ensures.left_store) call.ensures.tracked (subst (λ (p : Parts). TracksOnly of p.weighing p.store p.tracked) (sym c.self.view_is) only)
+    let e = call.ensures in
+    rw (← c.self.view_is) (record {
+      takes = record {
+        request = e.request;
+        store = e.store;
+        past = e.past;
+        table = e.table;
+        deeds = e.deeds;
+        tracked = e.tracked;
+        only = λ of its only. only_slots of inside.weighing (tracked inside.manager) (tracked call.new.eviction) inside.store.state call.new.storage.state (slots_taken inside.store.state call.new.storage.state c.args.status (reader_of c.args.hit) c.args.request.now.cache call.result e.store e.left_store) e.tracked only;
+        same_request = e.same_request;
+        left_store = e.left_store;
+        left_past = e.left_past;
+        same_table = e.same_table;
+        same_deeds = search rules;
+        kind = e.kind;
+        numbers = e.numbers;
+        something = e.something;
+        limits = e.limits;
+        weighing = refl;
+        evicted = e.evicted;
+      };
+    })

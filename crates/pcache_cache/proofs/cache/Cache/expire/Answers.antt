@@ -1,7 +1,6 @@
-use Rattle.std.proofs.Common.{subst, sym}
-use Rattle.pcache_cache.specs.Parts.{IsKept, Parts}
+use Rattle.std.proofs.Common.{subst, sym, rules}
+use Rattle.pcache_cache.specs.Parts.{IsKept}
 use Rattle.pcache_cache.proofs.Kept.{kept_expired}
-use Rattle.pcache_cache.specs.Strays.{TracksOnly}
 use Rattle.pcache_cache.proofs.Only.{only_expired}
 use Rattle.pcache_cache.proofs.cache.Cache.expire.Goals as goal
 
@@ -14,10 +13,23 @@ invariant_of-self g c =
       c.self.invariant.1,
     )
 
-pub returns-clause-only : goal.returns-clause-only
-returns-clause-only g c of its only =
+pub returns : goal.returns
+returns g c =
     let tracked = g.M.EvictionManager.tracked in
     let inside = c.self.inside in
     let call = c.expire in
+    let e = call.ensures in
     let r = c.args.request.now.cache in
-    only_expired of inside.weighing (tracked inside.manager) (tracked call.new.eviction) inside.store.state call.new.storage.state r.uses.eviction r.key c.args.now call.result call.ensures.store call.ensures.tracked call.ensures.same_store call.ensures.same_tracked (subst (λ (p : Parts). TracksOnly of p.weighing p.store p.tracked) (sym c.self.view_is) only)
+    rw (← c.self.view_is) (record {
+      takes = record {
+        request = e.same;
+        there = e.there;
+        store = e.store;
+        past = e.past;
+        tracked = e.tracked;
+        only = λ of its only. only_expired of inside.weighing (tracked inside.manager) (tracked call.new.eviction) inside.store.state call.new.storage.state r.uses.eviction r.key c.args.now call.result e.store e.tracked e.same_store e.same_tracked only;
+        same = search rules;
+        kind = e.kind;
+        rest = search rules;
+      };
+    })

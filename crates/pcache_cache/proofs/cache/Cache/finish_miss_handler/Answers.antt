@@ -1,11 +1,10 @@
-use Rattle.std.proofs.Common.{ap, subst, sym, ◌∙◌, Some}
+use Rattle.std.proofs.Common.{ap, subst, sym, ◌∙◌, Some, refl, rules}
 use Rattle.pcache_cache.specs.Weighing.{ending_weight}
 use Rattle.pcache_cache.specs.Parts.{IsKept, MayEnd, Parts}
 use Rattle.pcache_cache.proofs.Ended.{kept_finished, same-number}
 use Rattle.pcache_cache.proofs.Unlocking.{if_ended}
 use Rattle.pcache_cache.proofs.Ways.{each_end}
 use Rattle.pcache_cache.specs.Room.{HasRoom, beside}
-use Rattle.pcache_cache.specs.Strays.{TracksOnly}
 use Rattle.pcache_cache.proofs.Only.{only_finished}
 use Rattle.pcache_cache.proofs.Room.{finish_calm}
 use Rattle.pcache_cache.proofs.cache.Cache.finish_miss_handler.Goals as goal
@@ -19,24 +18,26 @@ invariant_of-self g c =
       if_ended c.finish_replacing.result c.args.request.now.cache.write c.args.request.now.cache.held (Some c.self.inside.lock.past) (Some c.finish_replacing.new.lock.past) (each_end c.finish_replacing.result (λ how is. is.2) c.finish_replacing.ensures.ended) c.self.invariant.1,
     )
 
-pub returns-clause-only : goal.returns-clause-only
-returns-clause-only g c of its only =
+pub returns : goal.returns
+returns g c =
     let tracked = g.M.EvictionManager.tracked in
     let inside = c.self.inside in
+    let limits = g.M.EvictionManager.limits inside.manager in
     let call = c.finish_replacing in
+    let e = call.ensures in
     let r = c.args.request.now.cache in
-    only_finished of inside.weighing (g.M.EvictionManager.limits inside.manager) r c.replaced_by.result c.ending_weight.result inside.store.state call.new.storage.state (tracked inside.manager) (tracked call.new.eviction) inside.lock.table call.new.lock.table call.result
-    (subst (λ (p : Parts). MayEnd p.store r) (sym c.self.view_is) c.requires.own) (sym c.writer-writer.ensures.entry ∙ same-number _ c.writer-writer.result ∙ c.writer-writer.ensures.write) (c.ending_weight.ensures ∙ ap (ending_weight inside.weighing inside.store.state) c.writer-writer.ensures.write) its c.replaced_by.ensures
-    (each_end call.result (λ how is. is.0) call.ensures.ended) (subst (λ (p : Parts). TracksOnly of p.weighing p.store p.tracked) (sym c.self.view_is) only)
-
-pub returns-clause-room : goal.returns-clause-room
-returns-clause-room g c of none its only room =
-    let tracked = g.M.EvictionManager.tracked in
-    let inside = c.self.inside in
-    let call = c.finish_replacing in
-    let r = c.args.request.now.cache in
-    finish_calm of none inside.weighing (g.M.EvictionManager.limits inside.manager) r c.replaced_by.result c.ending_weight.result inside.store.state call.new.storage.state (tracked inside.manager) (tracked call.new.eviction) inside.lock.table call.new.lock.table call.result
-    (subst (λ (p : Parts). MayEnd p.store r) (sym c.self.view_is) c.requires.own).uses its c.replaced_by.ensures (subst (λ (p : Parts). TracksOnly of p.weighing p.store p.tracked) (sym c.self.view_is) only)
-    (subst (HasRoom inside.weighing (g.M.EvictionManager.limits inside.manager) (beside r.key inside.store.state)) (sym (c.ending_weight.ensures ∙ ap (ending_weight inside.weighing inside.store.state) c.writer-writer.ensures.write))
-    (subst (λ (p : Parts). HasRoom p.weighing p.limits (beside r.key p.store) (ending_weight p.weighing p.store r.write)) (sym c.self.view_is) room))
-    (each_end call.result (λ how is. is.0) call.ensures.ended)
+    let may = subst (λ (p : Parts). MayEnd p.store r) (sym c.self.view_is) c.requires.own in
+    let weighs = c.ending_weight.ensures ∙ ap (ending_weight inside.weighing inside.store.state) c.writer-writer.ensures.write in
+    rw (← c.self.view_is) (record {
+      takes = record {
+        request = e.request;
+        ended = search rules;
+        only = λ of its only. only_finished of inside.weighing limits r c.replaced_by.result c.ending_weight.result inside.store.state call.new.storage.state (tracked inside.manager) (tracked call.new.eviction) inside.lock.table call.new.lock.table call.result
+            may (sym c.writer-writer.ensures.entry ∙ same-number _ c.writer-writer.result ∙ c.writer-writer.ensures.write) weighs its c.replaced_by.ensures (each_end call.result (λ how is. is.0) e.ended) only;
+        room = λ of none its only room. finish_calm of none inside.weighing limits r c.replaced_by.result c.ending_weight.result inside.store.state call.new.storage.state (tracked inside.manager) (tracked call.new.eviction) inside.lock.table call.new.lock.table call.result
+            may.uses its c.replaced_by.ensures only (subst (HasRoom inside.weighing limits (beside r.key inside.store.state)) (sym weighs) room) (each_end call.result (λ how is. is.0) e.ended);
+        withdrawn = search rules;
+        limits = e.limits;
+        weighing = refl;
+      };
+    })

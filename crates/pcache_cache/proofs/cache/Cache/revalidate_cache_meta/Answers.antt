@@ -1,25 +1,17 @@
-use Rattle.std.proofs.Common.{◌≡◌, OnOk, Option, Some, ap, subst, sym, ◌∙◌}
+use Rattle.std.proofs.Common.{◌≡◌, OnOk, Option, Some, ap, subst, sym, ◌∙◌, rules}
 use Rattle.pcache_base.specs.Key.{Key, slot}
 use Rattle.pcache_meta.specs.Meta.{Meta}
 use Rattle.pcache_request.specs.Renewals.{renewed_by}
 use Rattle.pcache_request.specs.Requests.{Request}
 use Rattle.pcache_cache.specs.Parts.{Parts}
+use Rattle.pcache_cache.specs.Strays.{IsItsKey}
 use Rattle.pcache_cache.specs.Room.{IfRoom, KeepsBodies, weight_with}
-use Rattle.pcache_cache.specs.Strays.{IsItsKey, TracksOnly}
 use Rattle.pcache_cache.proofs.Only.{numbered, only_renewed}
 use Rattle.pcache_cache.proofs.Room.{renewed_room}
 use Rattle.pcache_cache.proofs.cache.Cache.revalidate_cache_meta.Goals as goal
 
-pub returns-clause-only : goal.returns-clause-only
-returns-clause-only g c of its only =
-    let inside = c.self.inside in
-    let key = c.in-Some-Some.key.now in
-    let keyed : c.args.request.now.cache.key ≡ Some key = sym (c.in-Some-Some.ensures.value ∙ ap (λ (r : Request). r.key) c.renew_request-released.ensures.request) in
-    only_renewed of inside.weighing (g.M.EvictionManager.limits inside.manager) c.in-Some-Some.meta.now key c.set_meta.result _ _ c.set_meta.ensures.renews
-    (λ b there. numbered inside.store.state inside.store.past c.headline.ensures.bodies c.headline.ensures.kept (slot key) b there) (subst (IsItsKey of) keyed its) (subst (λ (p : Parts). TracksOnly of p.weighing p.store p.tracked) (sym c.self.view_is) only)
-
-pub returns-clause-room : goal.returns-clause-room
-returns-clause-room g c =
+pub returns : goal.returns
+returns g c =
     let inside = c.self.inside in
     let r = c.args.request.now.cache in
     let new = c.set_meta.new.store.state in
@@ -32,4 +24,16 @@ returns-clause-room g c =
     let own = renewed_room p c.in-Some-Some.meta.now (Some key) c.set_meta.result (record { store = new; past = c.set_meta.new.store.past; tracked = g.M.EvictionManager.tracked c.set_meta.new.manager; evicted = g.M.EvictionManager.evicted c.set_meta.new.manager }) c.set_meta.ensures.renews in
     let with_meta = subst (λ (x : Meta). OnOk c.set_meta.result (IfRoom (Some key) (weight_with p.weighing x (Some key) p.store) p (KeepsBodies p.store new))) meta own in
     let with_key = subst (λ (k : Option Key). OnOk c.set_meta.result (IfRoom k (weight_with p.weighing (renewed_by c.args.meta r.meta) k p.store) p (KeepsBodies p.store new))) keyed with_meta in
-    subst (λ (q : Parts). OnOk c.set_meta.result (IfRoom r.key (weight_with q.weighing (renewed_by c.args.meta r.meta) r.key q.store) q (KeepsBodies q.store new))) c.self.view_is with_key
+    rw (← c.self.view_is) (record {
+      takes = record {
+        request = search rules;
+        renews = search rules;
+        kind = search rules;
+        only = λ of its only. only_renewed of inside.weighing (g.M.EvictionManager.limits inside.manager) c.in-Some-Some.meta.now key c.set_meta.result _ _ c.set_meta.ensures.renews
+            (λ b there. numbered inside.store.state inside.store.past c.headline.ensures.bodies c.headline.ensures.kept (slot key) b there) (subst (IsItsKey of) (sym keyed) its) only;
+        room = with_key;
+        table = search rules;
+        deeds = search rules;
+        rest = search rules;
+      };
+    })

@@ -1,7 +1,7 @@
 use Rattle.pcache_cache.proofs.Kept.{kept_beginning}
 use Rattle.pcache_cache.proofs.Own.{beginning_own}
 use Rattle.pcache_cache.proofs.Unlocking.{if_begun}
-use Rattle.std.proofs.Common.{Some}
+use Rattle.std.proofs.Common.{Some, refl, rules}
 use Rattle.pcache_cache.proofs.cache.Cache.set_miss_handler.Goals as goal
 
 pub invariant_of-self : goal.invariant_of-self
@@ -14,5 +14,22 @@ invariant_of-self g c =
       if_begun call.result inside.store.state new.storage.state (Some inside.store.past) (Some new.storage.past) inside.lock.table new.lock.table (Some inside.lock.past) (Some new.lock.past) r new.self call.ensures.deeds call.ensures.err c.self.invariant.1,
     )
 
-pub returns-clause-own : goal.returns-clause-own
-returns-clause-own g c uses = beginning_own c.args.request.now.cache c.set_miss_handler.new.self c.self.inside.store.state c.set_miss_handler.new.storage.state c.set_miss_handler.result c.requires c.key-key.ensures.known uses c.set_miss_handler.ensures.request c.set_miss_handler.ensures.store
+pub returns : goal.returns
+returns g c =
+    let call = c.set_miss_handler in
+    let e = call.ensures in
+    rw (← c.self.view_is) (record {
+      takes = record {
+        request = e.request;
+        store = e.store;
+        past = e.past;
+        table = e.table;
+        deeds = e.deeds;
+        err = e.err;
+        kind = e.kind;
+        something = e.something;
+        phase = search rules;
+        own = λ uses. beginning_own c.args.request.now.cache call.new.self c.self.inside.store.state call.new.storage.state call.result c.requires c.key-key.ensures.known uses e.request e.store;
+        rest = refl;
+      };
+    })

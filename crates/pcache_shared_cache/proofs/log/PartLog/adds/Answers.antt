@@ -1,6 +1,4 @@
-use Rattle.std.proofs.Common.{◌≡◌, ℕ, ◌++◌, List, [], ◌∷◌, ap, sym, subst, ◌∙◌}
-use Rattle.pcache_cache.specs.Parts.{Parts}
-use Rattle.pcache_shared_cache.specs.Seen.{EndsWith, IsNamed, IsSound, Placed}
+use Rattle.pcache_shared_cache.proofs.Words.{◌≡◌, ℕ, ◌++◌, List, [], ◌∷◌, ap, sym, subst, ◌∙◌, Parts, EndsWith, IsNamed, IsSound, Placed}
 use Rattle.pcache_shared_cache.proofs.Logs.{log_added, log_as, sound_last}
 use Rattle.pcache_shared_cache.proofs.log.PartLog.adds.Goals as goal
 

@@ -1,5 +1,4 @@
-use Rattle.std.proofs.Common.{subst, sym}
-use Rattle.pcache_shared_cache.specs.Seen.{Begun, Placed, StartsWith, first_of}
+use Rattle.pcache_shared_cache.proofs.Words.{subst, sym, Begun, Placed, StartsWith, first_of}
 use Rattle.pcache_shared_cache.proofs.part.PartLock.beginning.Goals as goal
 
 pub returns-clause-starts : goal.returns-clause-starts

@@ -1,5 +1,4 @@
-use Rattle.std.proofs.Common.{ap, ◌∙◌}
-use Rattle.pcache_shared_cache.specs.Seen.{Held}
+use Rattle.pcache_shared_cache.proofs.Words.{ap, ◌∙◌, Held}
 use Rattle.pcache_shared_cache.proofs.InPart.{held}
 use Rattle.pcache_shared_cache.proofs.part.PartLock.slots.Goals as goal
 

@@ -1,6 +1,4 @@
-use Rattle.std.proofs.Common.{arith, ap, ◌∙◌}
-use Rattle.pcache_evict.specs.Tracked.{Limits}
-use Rattle.pcache_shared_cache.specs.Seen.{Begun, Held}
+use Rattle.pcache_shared_cache.proofs.Words.{arith, ap, ◌∙◌, Limits, Begun, Held}
 use Rattle.pcache_shared_cache.proofs.InPart.{held}
 use Rattle.pcache_shared_cache.proofs.part.PartLock.stored_bytes.Goals as goal
 

@@ -1,5 +1,4 @@
-use Rattle.std.proofs.Common.{ap, refl, sym, ◌∙◌}
-use Rattle.pcache_shared_cache.specs.Shared.{Seated}
+use Rattle.pcache_shared_cache.proofs.Words.{ap, refl, sym, ◌∙◌, Seated}
 use Rattle.pcache_shared_cache.proofs.Logs.{sees_by, lent, sees_last}
 use Rattle.pcache_shared_cache.proofs.shared.SharedCache.body_length.Goals as goal
 

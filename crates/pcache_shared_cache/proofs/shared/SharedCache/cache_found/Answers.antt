@@ -1,23 +1,15 @@
-use Rattle.std.proofs.Common.{ap, subst, ◌∙◌}
-use Rattle.pcache_store.specs.Readers.{reader_of}
-use Rattle.pcache_shared_cache.specs.Calls.{TakesFound}
-use Rattle.pcache_shared_cache.specs.Shared.{Seated}
+use Rattle.pcache_shared_cache.proofs.Words.{ap, subst, ◌∙◌, TakesFound, reader_of, Seated}
 use Rattle.pcache_shared_cache.proofs.Led.{taken}
 use Rattle.pcache_shared_cache.proofs.Logs.{goes_by, lent}
 use Rattle.pcache_shared_cache.proofs.shared.SharedCache.cache_found.Goals as goal
 
 pub adds-requires-clause-leads : goal.adds-requires-clause-leads
-adds-requires-clause-leads g c =
-    let p = c.part-2.inside.cache in
-    let q = c.cache_found-result.new.self in
-    let row : TakesFound c.cache_found-result.result c.args.status c.args.meta (reader_of c.args.hit) c.args.now c.request.inside.request.cache c.cache_found-result.new.request.cache p q = record { request = c.cache_found-result.ensures.request; store = c.cache_found-result.ensures.store; past = c.cache_found-result.ensures.past; locks = c.cache_found-result.ensures.table; deeds = c.cache_found-result.ensures.deeds; tracked = c.cache_found-result.ensures.tracked; only = c.cache_found-result.ensures.only; left_store = c.cache_found-result.ensures.left_store; left_past = c.cache_found-result.ensures.left_past; same_locks = c.cache_found-result.ensures.same_table; same_deeds = c.cache_found-result.ensures.same_deeds; kind = c.cache_found-result.ensures.kind; limits = c.cache_found-result.ensures.limits; weighing = c.cache_found-result.ensures.weighing; evicted = c.cache_found-result.ensures.evicted } in
-    (p, c.part-2.invariant, taken c.cache_found-result.result c.args.status c.args.meta (reader_of c.args.hit) c.args.now c.request.inside.request.cache c.cache_found-result.new.request.cache p q row)
+adds-requires-clause-leads g c = (c.part-2.inside.cache, c.part-2.invariant, taken c.cache_found-result.ensures.takes)
 
 pub returns-clause-goes : goal.returns-clause-goes
 returns-clause-goes g c =
     let p = c.part-2.inside.cache in
     let q = c.cache_found-result.new.self in
-    let row : TakesFound c.cache_found-result.result c.args.status c.args.meta (reader_of c.args.hit) c.args.now c.request.inside.request.cache c.cache_found-result.new.request.cache p q = record { request = c.cache_found-result.ensures.request; store = c.cache_found-result.ensures.store; past = c.cache_found-result.ensures.past; locks = c.cache_found-result.ensures.table; deeds = c.cache_found-result.ensures.deeds; tracked = c.cache_found-result.ensures.tracked; only = c.cache_found-result.ensures.only; left_store = c.cache_found-result.ensures.left_store; left_past = c.cache_found-result.ensures.left_past; same_locks = c.cache_found-result.ensures.same_table; same_deeds = c.cache_found-result.ensures.same_deeds; kind = c.cache_found-result.ensures.kind; limits = c.cache_found-result.ensures.limits; weighing = c.cache_found-result.ensures.weighing; evicted = c.cache_found-result.ensures.evicted } in
     let here = lent c.args.self.now c.part.result.now c.part.ensures.limits c.part.ensures.place c.place.ensures.place c.lock-guard.ensures.place c.lock-guard.ensures.limits (c.part-2.view_is ∙ c.deref_mut-part.ensures.value) in
     goes_by c.args.self.now g.K.Mark.names c.part-2.inside.log.place c.args.request.now.place c.request.inside.sight.log c.args.request.now.seen c.adds.new.sight.log p q here (ap (λ (s : Seated). s.seen) c.request.view_is)
-    (c.adds.ensures.moves p c.part-2.invariant) (subst (λ (s : Seated). TakesFound c.cache_found-result.result c.args.status c.args.meta (reader_of c.args.hit) c.args.now s.cache c.cache_found-result.new.request.cache p q) c.request.view_is row)
+    (c.adds.ensures.moves p c.part-2.invariant) (subst (λ (s : Seated). TakesFound c.cache_found-result.result c.args.status c.args.meta (reader_of c.args.hit) c.args.now s.cache c.cache_found-result.new.request.cache p q) c.request.view_is c.cache_found-result.ensures.takes)

@@ -1,23 +1,15 @@
-use Rattle.std.proofs.Common.{ap, subst, ◌∙◌}
-use Rattle.pcache_shared_cache.specs.Calls.{Waits}
-use Rattle.pcache_shared_cache.specs.Shared.{Seated}
+use Rattle.pcache_shared_cache.proofs.Words.{ap, subst, ◌∙◌, Waits, Seated}
 use Rattle.pcache_shared_cache.proofs.Led.{asked_on}
 use Rattle.pcache_shared_cache.proofs.Logs.{goes_by, lent}
-use Rattle.pcache_shared_cache.proofs.Rows.{locks_same}
 use Rattle.pcache_shared_cache.proofs.shared.SharedCache.cache_lock_wait.Goals as goal
 
 pub adds-requires-clause-leads : goal.adds-requires-clause-leads
-adds-requires-clause-leads g c =
-    let p = c.part-2.inside.cache in
-    let q = c.cache_lock_wait-result.new.self in
-    let row : Waits c.cache_lock_wait-result.result c.args.now c.request.inside.request.cache c.cache_lock_wait-result.new.request.cache p q = record { answer = c.cache_lock_wait-result.ensures.answer; request = c.cache_lock_wait-result.ensures.request; locks = c.cache_lock_wait-result.ensures.table; deeds = c.cache_lock_wait-result.ensures.deeds; same = locks_same c.cache_lock_wait-result.result p q c.cache_lock_wait-result.ensures.rest c.cache_lock_wait-result.ensures.same_table c.cache_lock_wait-result.ensures.same_deeds; rest = c.cache_lock_wait-result.ensures.rest } in
-    (p, c.part-2.invariant, asked_on c.cache_lock_wait-result.result c.args.now c.request.inside.request.cache c.cache_lock_wait-result.new.request.cache p q row)
+adds-requires-clause-leads g c = (c.part-2.inside.cache, c.part-2.invariant, asked_on c.cache_lock_wait-result.ensures.takes)
 
 pub returns-clause-goes : goal.returns-clause-goes
 returns-clause-goes g c =
     let p = c.part-2.inside.cache in
     let q = c.cache_lock_wait-result.new.self in
-    let row : Waits c.cache_lock_wait-result.result c.args.now c.request.inside.request.cache c.cache_lock_wait-result.new.request.cache p q = record { answer = c.cache_lock_wait-result.ensures.answer; request = c.cache_lock_wait-result.ensures.request; locks = c.cache_lock_wait-result.ensures.table; deeds = c.cache_lock_wait-result.ensures.deeds; same = locks_same c.cache_lock_wait-result.result p q c.cache_lock_wait-result.ensures.rest c.cache_lock_wait-result.ensures.same_table c.cache_lock_wait-result.ensures.same_deeds; rest = c.cache_lock_wait-result.ensures.rest } in
     let here = lent c.args.self.now c.part.result.now c.part.ensures.limits c.part.ensures.place c.place.ensures.place c.lock-guard.ensures.place c.lock-guard.ensures.limits (c.part-2.view_is ∙ c.deref_mut-part.ensures.value) in
     goes_by c.args.self.now g.K.Mark.names c.part-2.inside.log.place c.args.request.now.place c.request.inside.sight.log c.args.request.now.seen c.adds.new.sight.log p q here (ap (λ (s : Seated). s.seen) c.request.view_is)
-    (c.adds.ensures.moves p c.part-2.invariant) (subst (λ (s : Seated). Waits c.cache_lock_wait-result.result c.args.now s.cache c.cache_lock_wait-result.new.request.cache p q) c.request.view_is row)
+    (c.adds.ensures.moves p c.part-2.invariant) (subst (λ (s : Seated). Waits c.cache_lock_wait-result.result c.args.now s.cache c.cache_lock_wait-result.new.request.cache p q) c.request.view_is c.cache_lock_wait-result.ensures.takes)

@@ -1,11 +1,5 @@
-use Rattle.std.proofs.Common.{◌≡◌, false, Ok, Some, ap, subst, sym, ◌∙◌}
 use Rattle.std.proofs.lemmas.Result.{err_from_is_err_and}
-use Rattle.pcache_request.specs.Requests.{Request, found_for}
-use Rattle.pcache_request.specs.Variants.{is_hidden}
-use Rattle.pcache_store.specs.Readers.{needs_no_store}
-use Rattle.pcache_shared_cache.specs.Calls.{LooksUp}
-use Rattle.pcache_shared_cache.specs.Seen.{Goes}
-use Rattle.pcache_shared_cache.specs.Shared.{Seated}
+use Rattle.pcache_shared_cache.proofs.Words.{◌≡◌, false, IsSome, Ok, Some, ap, refl, subst, sym, ◌∙◌, LooksUp, Request, found_for, is_hidden, needs_no_store, Goes, Seated}
 use Rattle.pcache_shared_cache.proofs.FoundAlone.{found_alone, found_is, goes_as, looks_then, read_not}
 use Rattle.pcache_shared_cache.proofs.shared.SharedCache.cache_lookup.Goals as goal
 
@@ -21,8 +15,10 @@ returns-in_err-meta-clause-goes g c =
     let why = err_from_is_err_and c.from_residual.result c.from_residual.ensures.1 in
     subst (λ (x : Seated). Goes c.args.self.now g.K.Mark.names c.args.request.now.place c.args.request.now.seen mid.seen (LooksUp c.from_residual.result c.args.now r x.cache)) (sym c.complete_body.ensures.rest)
     (goes_as c.args.self.now g.K.Mark.names c.args.request.now.place c.args.request.now.seen mid.seen
-    (λ p q found. read_not c.args.now r p q c.from_residual.result why.0 why.1 (why.2 ∙ c.in_err-meta.ensures.kind) found.same)
-    c.complete_body.ensures.goes)
+    (λ p q found.
+    let is = found_is (found_for p.store r.key) c.in-Some.found found.found in
+    read_not c.args.now r p q c.from_residual.result why.0 why.1 (why.2 ∙ c.in_err-meta.ensures.kind) (subst IsSome (sym is.0) refl) found.same)
+    c.in-Some.ensures.goes)
 
 pub returns-then-hides-clause-goes : goal.returns-then-hides-clause-goes
 returns-then-hides-clause-goes g c =

@@ -1,8 +1,5 @@
-use Rattle.std.proofs.Common.{ap, refl, subst, ◌∙◌}
-use Rattle.pcache_request.specs.Requests.{found_for}
-use Rattle.pcache_store.specs.Readers.{if_complete}
 use Rattle.pcache_shared_cache.specs.Calls.{FindsBody}
-use Rattle.pcache_shared_cache.specs.Shared.{Seated}
+use Rattle.pcache_shared_cache.proofs.Words.{ap, refl, subst, ◌∙◌, found_for, if_complete, Seated}
 use Rattle.pcache_shared_cache.proofs.FoundAlone.{leads_nowhere, some_found}
 use Rattle.pcache_shared_cache.proofs.Logs.{goes_by, lent}
 use Rattle.pcache_shared_cache.proofs.shared.SharedCache.complete_body.Goals as goal

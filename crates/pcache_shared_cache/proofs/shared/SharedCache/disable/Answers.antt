@@ -1,22 +1,15 @@
-use Rattle.std.proofs.Common.{ap, subst, ◌∙◌}
-use Rattle.pcache_shared_cache.specs.Calls.{Disables}
-use Rattle.pcache_shared_cache.specs.Shared.{Seated}
+use Rattle.pcache_shared_cache.proofs.Words.{ap, subst, ◌∙◌, Disables, Seated}
 use Rattle.pcache_shared_cache.proofs.Led.{disabled}
 use Rattle.pcache_shared_cache.proofs.Logs.{goes_by, lent}
 use Rattle.pcache_shared_cache.proofs.shared.SharedCache.disable.Goals as goal
 
 pub adds-requires-clause-leads : goal.adds-requires-clause-leads
-adds-requires-clause-leads g c =
-    let p = c.part-2.inside.cache in
-    let q = c.disable-result.new.self in
-    let row : Disables c.args.reason c.request.inside.request.cache p q = record { store = c.disable-result.ensures.store; past = c.disable-result.ensures.past; locks = c.disable-result.ensures.table; deeds = c.disable-result.ensures.deeds; rest = c.disable-result.ensures.rest } in
-    (p, c.part-2.invariant, disabled c.args.reason c.request.inside.request.cache p q row)
+adds-requires-clause-leads g c = (c.part-2.inside.cache, c.part-2.invariant, disabled c.disable-result.ensures.takes)
 
 pub returns-clause-goes : goal.returns-clause-goes
 returns-clause-goes g c =
     let p = c.part-2.inside.cache in
     let q = c.disable-result.new.self in
-    let row : Disables c.args.reason c.request.inside.request.cache p q = record { store = c.disable-result.ensures.store; past = c.disable-result.ensures.past; locks = c.disable-result.ensures.table; deeds = c.disable-result.ensures.deeds; rest = c.disable-result.ensures.rest } in
     let here = lent c.args.self.now c.part.result.now c.part.ensures.limits c.part.ensures.place c.place.ensures.place c.lock-guard.ensures.place c.lock-guard.ensures.limits (c.part-2.view_is ∙ c.deref_mut-part.ensures.value) in
     goes_by c.args.self.now g.K.Mark.names c.part-2.inside.log.place c.args.request.now.place c.request.inside.sight.log c.args.request.now.seen c.adds.new.sight.log p q here (ap (λ (s : Seated). s.seen) c.request.view_is)
-    (c.adds.ensures.moves p c.part-2.invariant) (subst (λ (s : Seated). Disables c.args.reason s.cache p q) c.request.view_is row)
+    (c.adds.ensures.moves p c.part-2.invariant) (subst (λ (s : Seated). Disables c.disable-result.result c.args.reason s.cache c.disable-result.new.request.cache p q) c.request.view_is c.disable-result.ensures.takes)

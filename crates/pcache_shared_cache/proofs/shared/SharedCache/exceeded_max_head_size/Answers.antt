@@ -1,5 +1,4 @@
-use Rattle.std.proofs.Common.{ap, refl, sym, ◌∙◌}
-use Rattle.pcache_shared_cache.specs.Shared.{Seated}
+use Rattle.pcache_shared_cache.proofs.Words.{ap, refl, sym, ◌∙◌, Seated}
 use Rattle.pcache_shared_cache.proofs.Logs.{lent, sees_by}
 use Rattle.pcache_shared_cache.proofs.shared.SharedCache.exceeded_max_head_size.Goals as goal
 

@@ -1,6 +1,4 @@
-use Rattle.std.proofs.Common.{ap, refl, sym, ◌∙◌}
-use Rattle.pcache_shared_cache.specs.Calls.{EndsWriteOf}
-use Rattle.pcache_shared_cache.specs.Shared.{Seated}
+use Rattle.pcache_shared_cache.proofs.Words.{ap, inl, inr, refl, sym, ◌∙◌, Seated}
 use Rattle.pcache_shared_cache.proofs.InPart.{not_so}
 use Rattle.pcache_shared_cache.proofs.Led.{ended, stayed}
 use Rattle.pcache_shared_cache.proofs.Logs.{goes_by, lent}
@@ -14,21 +12,15 @@ returns-then-not-may_end-clause-goes g c =
     let p = c.part-2.inside.cache in
     let here = lent c.args.self.now c.part.result.now c.part.ensures.limits c.part.ensures.place (c.place.ensures.place ∙ ap (λ (s : Seated). s.place) (sym c.request.view_is)) c.lock-guard.ensures.place c.lock-guard.ensures.limits (c.part-2.view_is ∙ c.deref_mut-part.ensures.value) in
     rw (← c.request.view_is) (goes_by c.args.self.now g.K.Mark.names c.part-2.inside.log.place c.request.inside.sight.place c.request.inside.sight.log c.request.inside.sight.log c.adds.new.sight.log p p here refl (c.adds.ensures.moves p c.part-2.invariant)
-    (record { ended = λ may. not_so c.may_end.result c.if-not-may_end.true c.may_end.ensures may; refused = λ no. (tt, c.new.ensures, refl); only = λ of its only. only; room = λ of none its only has. refl; limits = refl; weighing = refl }))
+    (inr ((λ may. not_so c.may_end.result c.if-not-may_end.true c.may_end.ensures may), record { failed = tt; kind = c.new.ensures; request = refl; same = refl })))
 
 pub adds-requires-2-clause-leads : goal.adds-requires-2-clause-leads
-adds-requires-2-clause-leads g c =
-    let p = c.part-2.inside.cache in
-    let q = c.finish_miss_handler-report.new.self in
-    let may = c.may_end.ensures.0 c.if-not-may_end.false in
-    let row : EndsWriteOf c.finish_miss_handler-report.result c.request.inside.request.cache p q = record { ended = λ _. c.finish_miss_handler-report.ensures.ended; refused = λ no. absurd (no may); only = c.finish_miss_handler-report.ensures.only; room = c.finish_miss_handler-report.ensures.room; limits = c.finish_miss_handler-report.ensures.limits; weighing = c.finish_miss_handler-report.ensures.weighing } in
-    (p, c.part-2.invariant, ended c.finish_miss_handler-report.result c.request.inside.request.cache p q row may)
+adds-requires-2-clause-leads g c = (c.part-2.inside.cache, c.part-2.invariant, ended c.finish_miss_handler-report.ensures.takes)
 
 pub returns-clause-goes : goal.returns-clause-goes
 returns-clause-goes g c =
     let p = c.part-2.inside.cache in
     let q = c.finish_miss_handler-report.new.self in
     let may = c.may_end.ensures.0 c.if-not-may_end.false in
-    let row : EndsWriteOf c.finish_miss_handler-report.result c.request.inside.request.cache p q = record { ended = λ _. c.finish_miss_handler-report.ensures.ended; refused = λ no. absurd (no may); only = c.finish_miss_handler-report.ensures.only; room = c.finish_miss_handler-report.ensures.room; limits = c.finish_miss_handler-report.ensures.limits; weighing = c.finish_miss_handler-report.ensures.weighing } in
     let here = lent c.args.self.now c.part.result.now c.part.ensures.limits c.part.ensures.place (c.place.ensures.place ∙ ap (λ (s : Seated). s.place) (sym c.request.view_is)) c.lock-guard.ensures.place c.lock-guard.ensures.limits (c.part-2.view_is ∙ c.deref_mut-part.ensures.value) in
-    rw (← c.request.view_is) (goes_by c.args.self.now g.K.Mark.names c.part-2.inside.log.place c.request.inside.sight.place c.request.inside.sight.log c.request.inside.sight.log c.adds-2.new.sight.log p q here refl (c.adds-2.ensures.moves p c.part-2.invariant) row)
+    rw (← c.request.view_is) (goes_by c.args.self.now g.K.Mark.names c.part-2.inside.log.place c.request.inside.sight.place c.request.inside.sight.log c.request.inside.sight.log c.adds-2.new.sight.log p q here refl (c.adds-2.ensures.moves p c.part-2.invariant) (inl (may, c.finish_miss_handler-report.ensures.takes)))

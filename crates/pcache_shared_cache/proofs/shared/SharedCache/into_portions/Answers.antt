@@ -1,7 +1,5 @@
-use Rattle.std.proofs.Common.{rules, [], ◌≡◌, ◌∙◌, length, ap, refl, sym, subst, arith}
-use Rattle.std.proofs.lemmas.List.{nil_from_length}
+use Rattle.pcache_shared_cache.proofs.Words.{rules, [], ◌≡◌, ◌∙◌, length, ap, refl, sym, subst, arith, nil_from_length, limits_in}
 use Rattle.pcache_shared_cache.proofs.Parting.{HandedOut, out-all, out-limits, out-more}
-use Rattle.pcache_shared_cache.specs.Seen.{limits_in}
 use Rattle.pcache_shared_cache.proofs.Together.{begun-limits, limits_begun}
 use Rattle.pcache_shared_cache.proofs.shared.SharedCache.into_portions.Goals as goal
 

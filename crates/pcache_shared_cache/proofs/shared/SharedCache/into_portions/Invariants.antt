@@ -1,7 +1,5 @@
-use Rattle.std.proofs.Common.{◌+◌, ◌≤◌, length}
-use Rattle.std.specs.Prelude.{vec_len, vec_capacity}
+use Rattle.pcache_shared_cache.proofs.Words.{◌+◌, ◌≤◌, length, vec_len, vec_capacity, limits_in}
 use Rattle.pcache_shared_cache.proofs.Parting.{HandedOut}
-use Rattle.pcache_shared_cache.specs.Seen.{limits_in}
 use Rattle.pcache_shared_cache.proofs.Together.{limits_begun}
 use Rattle.pcache_shared_cache.proofs.shared.SharedCache.into_portions.Given as goal
 

@@ -1,23 +1,15 @@
-use Rattle.std.proofs.Common.{ap, ◌∙◌}
-use Rattle.pcache_store.specs.Readers.{reader_of}
-use Rattle.pcache_shared_cache.specs.Calls.{LetsGo}
-use Rattle.pcache_shared_cache.specs.Shared.{Seated}
+use Rattle.pcache_shared_cache.proofs.Words.{ap, ◌∙◌, reader_of, Seated}
 use Rattle.pcache_shared_cache.proofs.Led.{let_go}
 use Rattle.pcache_shared_cache.proofs.Logs.{goes_by, lent}
 use Rattle.pcache_shared_cache.proofs.shared.SharedCache.let_go.Goals as goal
 
 pub adds-requires-clause-leads : goal.adds-requires-clause-leads
-adds-requires-clause-leads g c =
-    let p = c.part-2.inside.cache in
-    let q = c.let_go.new.self in
-    let row : LetsGo (reader_of c.args.hit) p q = record { store = c.let_go.ensures.store; past = c.let_go.ensures.past; rest = c.let_go.ensures.rest } in
-    (p, c.part-2.invariant, let_go (reader_of c.args.hit) p q row)
+adds-requires-clause-leads g c = (c.part-2.inside.cache, c.part-2.invariant, let_go c.let_go.ensures.takes)
 
 pub returns-clause-goes : goal.returns-clause-goes
 returns-clause-goes g c =
     let p = c.part-2.inside.cache in
     let q = c.let_go.new.self in
-    let row : LetsGo (reader_of c.args.hit) p q = record { store = c.let_go.ensures.store; past = c.let_go.ensures.past; rest = c.let_go.ensures.rest } in
     let here = lent c.args.self.now c.part.result.now c.part.ensures.limits c.part.ensures.place c.place.ensures.place c.lock-guard.ensures.place c.lock-guard.ensures.limits (c.part-2.view_is ∙ c.deref_mut-part.ensures.value) in
     goes_by c.args.self.now g.K.Mark.names c.part-2.inside.log.place c.args.request.now.place c.request.inside.sight.log c.args.request.now.seen c.adds.new.sight.log p q here (ap (λ (s : Seated). s.seen) c.request.view_is)
-    (c.adds.ensures.moves p c.part-2.invariant) row
+    (c.adds.ensures.moves p c.part-2.invariant) c.let_go.ensures.takes

@@ -1,23 +1,15 @@
-use Rattle.std.proofs.Common.{ap, subst, ◌∙◌}
-use Rattle.pcache_shared_cache.specs.Calls.{Publishes}
-use Rattle.pcache_shared_cache.specs.Shared.{Seated}
+use Rattle.pcache_shared_cache.proofs.Words.{ap, subst, ◌∙◌, Publishes, Seated}
 use Rattle.pcache_shared_cache.proofs.Led.{published}
 use Rattle.pcache_shared_cache.proofs.Logs.{goes_by, lent}
-use Rattle.pcache_shared_cache.proofs.Rows.{locks_same}
 use Rattle.pcache_shared_cache.proofs.shared.SharedCache.lock_publish_fill_tokens.Goals as goal
 
 pub adds-requires-clause-leads : goal.adds-requires-clause-leads
-adds-requires-clause-leads g c =
-    let p = c.part-2.inside.cache in
-    let q = c.lock_publish_fill_tokens-result.new.self in
-    let row : Publishes c.lock_publish_fill_tokens-result.result c.args.tokens.now c.request.inside.request.cache p q = record { locks = c.lock_publish_fill_tokens-result.ensures.table; deeds = c.lock_publish_fill_tokens-result.ensures.deeds; same = locks_same c.lock_publish_fill_tokens-result.result p q c.lock_publish_fill_tokens-result.ensures.rest c.lock_publish_fill_tokens-result.ensures.same_table c.lock_publish_fill_tokens-result.ensures.same_deeds; rest = c.lock_publish_fill_tokens-result.ensures.rest } in
-    (p, c.part-2.invariant, published c.lock_publish_fill_tokens-result.result c.args.tokens.now c.request.inside.request.cache p q row)
+adds-requires-clause-leads g c = (c.part-2.inside.cache, c.part-2.invariant, published c.lock_publish_fill_tokens-result.ensures.takes)
 
 pub returns-clause-goes : goal.returns-clause-goes
 returns-clause-goes g c =
     let p = c.part-2.inside.cache in
     let q = c.lock_publish_fill_tokens-result.new.self in
-    let row : Publishes c.lock_publish_fill_tokens-result.result c.args.tokens.now c.request.inside.request.cache p q = record { locks = c.lock_publish_fill_tokens-result.ensures.table; deeds = c.lock_publish_fill_tokens-result.ensures.deeds; same = locks_same c.lock_publish_fill_tokens-result.result p q c.lock_publish_fill_tokens-result.ensures.rest c.lock_publish_fill_tokens-result.ensures.same_table c.lock_publish_fill_tokens-result.ensures.same_deeds; rest = c.lock_publish_fill_tokens-result.ensures.rest } in
     let here = lent c.args.self.now c.part.result.now c.part.ensures.limits c.part.ensures.place c.place.ensures.place c.lock-guard.ensures.place c.lock-guard.ensures.limits (c.part-2.view_is ∙ c.deref_mut-part.ensures.value) in
     goes_by c.args.self.now g.K.Mark.names c.part-2.inside.log.place c.args.request.now.place c.request.inside.sight.log c.args.request.now.seen c.adds.new.sight.log p q here (ap (λ (s : Seated). s.seen) c.request.view_is)
-    (c.adds.ensures.moves p c.part-2.invariant) (subst (λ (s : Seated). Publishes c.lock_publish_fill_tokens-result.result c.args.tokens.now s.cache p q) c.request.view_is row)
+    (c.adds.ensures.moves p c.part-2.invariant) (subst (λ (s : Seated). Publishes c.lock_publish_fill_tokens-result.result c.args.tokens.now s.cache p q) c.request.view_is c.lock_publish_fill_tokens-result.ensures.takes)

@@ -1,8 +1,4 @@
-use Rattle.std.proofs.Common.{◌≡◌, List, ap, map, subst, ◌∙◌}
-use Rattle.std.specs.Duration.{as_nanos}
-use Rattle.std.specs.Prelude.{IfOk}
-use Rattle.pcache_cache.specs.Parts.{Parts}
-use Rattle.pcache_shared_cache.specs.Managed.{opened}
+use Rattle.pcache_shared_cache.proofs.Words.{◌≡◌, List, ap, map, subst, ◌∙◌, as_nanos, IfOk, Parts, opened}
 use Rattle.pcache_shared_cache.proofs.Placing.{new_managers}
 use Rattle.pcache_shared_cache.proofs.shared.SharedCache.new.Goals as goal
 

@@ -1,8 +1,5 @@
-use Rattle.std.proofs.Common.{◌≡◌, Some, ap, slice_get, sym, ◌∙◌}
-use Rattle.std.specs.Prelude.{option_map}
 use Rattle.std.proofs.lemmas.Option.{slice_get-map, slice_get_read}
-use Rattle.pcache_cache.specs.Parts.{Parts}
-use Rattle.pcache_shared_cache.specs.Seen.{begun_first}
+use Rattle.pcache_shared_cache.proofs.Words.{◌≡◌, Some, ap, slice_get, sym, ◌∙◌, option_map, Parts, begun_first}
 use Rattle.pcache_shared_cache.proofs.shared.SharedCache.part.Goals as goal
 
 pub returns-clause-limits : goal.returns-clause-limits

@@ -1,6 +1,4 @@
-use Rattle.std.proofs.Common.{ℕ, List, Option, IfSome, slice_get, subst, sym, ◌∙◌}
-use Rattle.pcache_cache.specs.Parts.{Parts}
-use Rattle.pcache_shared_cache.specs.Seen.{StartsWith}
+use Rattle.pcache_shared_cache.proofs.Words.{ℕ, List, Option, IfSome, slice_get, subst, sym, ◌∙◌, Parts, StartsWith}
 use Rattle.pcache_shared_cache.proofs.shared.SharedCache.put.Goals as goal
 
 pub returns-clause-seen : goal.returns-clause-seen

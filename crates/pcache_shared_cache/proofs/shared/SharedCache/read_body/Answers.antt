@@ -1,7 +1,6 @@
-use Rattle.std.proofs.Common.{IsSome, ap, refl, subst, sym, ◌∙◌}
-use Rattle.pcache_shared_cache.specs.Shared.{Seated}
+use Rattle.pcache_shared_cache.proofs.Words.{IsSome, ap, refl, subst, sym, ◌∙◌, Seated}
 use Rattle.pcache_shared_cache.proofs.Logs.{sees_by, lent, sees_last}
-use Rattle.pcache_shared_cache.proofs.Unlocked.{keeps_phase, keeps_reader, left_with, read_with}
+use Rattle.pcache_shared_cache.proofs.Unlocked.{gives_with, keeps_phase, keeps_reader, left_with, read_with}
 use Rattle.pcache_shared_cache.proofs.shared.SharedCache.read_body.Goals as goal
 
 pub returns-then-reads_alone-clause-sees : goal.returns-then-reads_alone-clause-sees
@@ -9,7 +8,7 @@ returns-then-reads_alone-clause-sees g c =
     let old = c.request.inside.request.cache in
     let read = c.read_body_alone in
     rw (← c.request.view_is) (sees_last c.args.self.now g.K.Mark.names c.request.inside.sight.place c.request.inside.sight.log c.headline.ensures
-    (λ p. record { read = read_with p.store read.result old.reader read.ensures.read; request = left_with p.store read.result old read.new.self read.ensures.request }))
+    (λ p. record { read = read_with p.store read.result old.reader read.ensures.read; request = left_with p.store read.result old read.new.self read.ensures.request; same_request = read.ensures.same_request; something = gives_with p.store read.result old.reader read.ensures.something; kind = read.ensures.kind }))
 
 pub returns-then-reads_alone-clause-reader : goal.returns-then-reads_alone-clause-reader
 returns-then-reads_alone-clause-reader g c =
@@ -25,4 +24,4 @@ pub returns-clause-sees : goal.returns-clause-sees
 returns-clause-sees g c =
     let p = c.part.inside.cache in
     let here = lent c.args.self.now c.part-lock.result.now c.part-lock.ensures.limits c.part-lock.ensures.place (c.place.ensures.place ∙ ap (λ (s : Seated). s.place) (sym c.request.view_is)) c.lock-guard.ensures.place c.lock-guard.ensures.limits (c.part.view_is ∙ c.deref_mut-part.ensures.value) in
-    rw (← c.request.view_is) (sees_by c.args.self.now g.K.Mark.names c.part.inside.log.place c.request.inside.sight.place c.request.inside.sight.log c.request.inside.sight.log c.shows.new.sight.log p here refl (c.shows.ensures.looks p c.part.invariant) (record { read = c.read_body-result.ensures.read; request = c.read_body-result.ensures.request }))
+    rw (← c.request.view_is) (sees_by c.args.self.now g.K.Mark.names c.part.inside.log.place c.request.inside.sight.place c.request.inside.sight.log c.request.inside.sight.log c.shows.new.sight.log p here refl (c.shows.ensures.looks p c.part.invariant) c.read_body-result.ensures.takes)

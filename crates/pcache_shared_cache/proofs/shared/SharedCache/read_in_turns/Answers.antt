@@ -1,10 +1,4 @@
-use Rattle.std.proofs.Common.{rules, ◌≡◌, ◌+◌, suc, List, Ok, Option, Result, arith, inr, subst}
-use Rattle.std.specs.Prelude.{OnOk, ℕ}
-use Rattle.pcache_base.specs.declared.error.ErrorType.{ErrorType}
-use Rattle.pcache_base.specs.declared.poll.Poll.{Poll}
-use Rattle.pcache_base.specs.declared.poll.Poll.TheVariants.{Pending}
-use Rattle.pcache_shared_cache.specs.Seen.{Begins}
-use Rattle.pcache_shared_cache.specs.Turns.{ReadsBody, asked}
+use Rattle.pcache_shared_cache.proofs.Words.{rules, ◌≡◌, ◌+◌, suc, List, Ok, Option, Result, arith, inr, subst, OnOk, ℕ, ErrorType, Poll, Pending, Begins, ReadsBody, asked}
 use Rattle.pcache_shared_cache.proofs.Logs.{begins_then}
 use Rattle.pcache_shared_cache.proofs.shared.SharedCache.read_in_turns.Goals as goal
 

@@ -1,6 +1,4 @@
-use Rattle.std.proofs.Common.{◌≡◌, IsSome}
-use Rattle.pcache_shared_cache.specs.Seen.{Begins}
-use Rattle.pcache_shared_cache.specs.Turns.{ReadsBody, asked}
+use Rattle.pcache_shared_cache.proofs.Words.{◌≡◌, IsSome, Begins, ReadsBody, asked}
 use Rattle.pcache_shared_cache.proofs.shared.SharedCache.read_in_turns.Given as goal
 
 -- a reader is there, the request is where it was, what it had seen is a beginning of what it has seen, and it read once a turn

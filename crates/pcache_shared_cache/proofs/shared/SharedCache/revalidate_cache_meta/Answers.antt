@@ -1,22 +1,15 @@
-use Rattle.std.proofs.Common.{ap, subst, ◌∙◌}
-use Rattle.pcache_shared_cache.specs.Calls.{Revalidates}
-use Rattle.pcache_shared_cache.specs.Shared.{Seated}
+use Rattle.pcache_shared_cache.proofs.Words.{ap, subst, ◌∙◌, Revalidates, Seated}
 use Rattle.pcache_shared_cache.proofs.Led.{renewed_body}
 use Rattle.pcache_shared_cache.proofs.Logs.{goes_by, lent}
 use Rattle.pcache_shared_cache.proofs.shared.SharedCache.revalidate_cache_meta.Goals as goal
 
 pub adds-requires-clause-leads : goal.adds-requires-clause-leads
-adds-requires-clause-leads g c =
-    let p = c.part-2.inside.cache in
-    let q = c.revalidate_cache_meta-result.new.self in
-    let row : Revalidates c.revalidate_cache_meta-result.result c.args.meta c.request.inside.request.cache p q = record { renews = c.revalidate_cache_meta-result.ensures.renews; only = c.revalidate_cache_meta-result.ensures.only; room = c.revalidate_cache_meta-result.ensures.room; locks = c.revalidate_cache_meta-result.ensures.table; deeds = c.revalidate_cache_meta-result.ensures.deeds; rest = c.revalidate_cache_meta-result.ensures.rest } in
-    (p, c.part-2.invariant, renewed_body c.revalidate_cache_meta-result.result c.args.meta c.request.inside.request.cache p q row)
+adds-requires-clause-leads g c = (c.part-2.inside.cache, c.part-2.invariant, renewed_body c.revalidate_cache_meta-result.ensures.takes)
 
 pub returns-clause-goes : goal.returns-clause-goes
 returns-clause-goes g c =
     let p = c.part-2.inside.cache in
     let q = c.revalidate_cache_meta-result.new.self in
-    let row : Revalidates c.revalidate_cache_meta-result.result c.args.meta c.request.inside.request.cache p q = record { renews = c.revalidate_cache_meta-result.ensures.renews; only = c.revalidate_cache_meta-result.ensures.only; room = c.revalidate_cache_meta-result.ensures.room; locks = c.revalidate_cache_meta-result.ensures.table; deeds = c.revalidate_cache_meta-result.ensures.deeds; rest = c.revalidate_cache_meta-result.ensures.rest } in
     let here = lent c.args.self.now c.part.result.now c.part.ensures.limits c.part.ensures.place c.place.ensures.place c.lock-guard.ensures.place c.lock-guard.ensures.limits (c.part-2.view_is ∙ c.deref_mut-part.ensures.value) in
     goes_by c.args.self.now g.K.Mark.names c.part-2.inside.log.place c.args.request.now.place c.request.inside.sight.log c.args.request.now.seen c.adds.new.sight.log p q here (ap (λ (s : Seated). s.seen) c.request.view_is)
-    (c.adds.ensures.moves p c.part-2.invariant) (subst (λ (s : Seated). Revalidates c.revalidate_cache_meta-result.result c.args.meta s.cache p q) c.request.view_is row)
+    (c.adds.ensures.moves p c.part-2.invariant) (subst (λ (s : Seated). Revalidates c.revalidate_cache_meta-result.result c.args.meta s.cache c.revalidate_cache_meta-result.new.request.cache p q) c.request.view_is c.revalidate_cache_meta-result.ensures.takes)

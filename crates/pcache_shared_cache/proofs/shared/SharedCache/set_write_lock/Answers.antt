@@ -1,8 +1,4 @@
-use Rattle.std.proofs.Common.{◌≡◌, ℕ, List, [], ◌∷◌, ◌++◌, ap, subst, sym, ◌∙◌}
-use Rattle.pcache_cache.specs.Parts.{Parts}
-use Rattle.pcache_shared_cache.specs.Calls.{TakesPermit}
-use Rattle.pcache_shared_cache.specs.Seen.{Begins, EndsWith, Goes, Placed}
-use Rattle.pcache_shared_cache.specs.Shared.{Seated}
+use Rattle.pcache_shared_cache.proofs.Words.{◌≡◌, ℕ, List, [], ◌∷◌, ◌++◌, ap, subst, sym, ◌∙◌, TakesPermit, Parts, Begins, EndsWith, Goes, Placed, Seated}
 use Rattle.pcache_shared_cache.proofs.Led.{permit_taken}
 use Rattle.pcache_shared_cache.proofs.Logs.{begins_more, goes_by, lent}
 use Rattle.pcache_shared_cache.proofs.shared.SharedCache.set_write_lock.Goals as goal
@@ -10,22 +6,19 @@ use Rattle.pcache_shared_cache.proofs.shared.SharedCache.set_write_lock.Goals as
 pub adds-requires-clause-leads : goal.adds-requires-clause-leads
 adds-requires-clause-leads g c =
     let p = c.part.inside.cache in
-    let q = c.set_write_lock-result.new.self in
-    let row : TakesPermit c.into_both-permit.result.0 c.request.inside.request.cache p q = record { locks = c.set_write_lock-result.ensures.table; deeds = c.set_write_lock-result.ensures.deeds; rest = c.set_write_lock-result.ensures.rest } in
     let ends = subst (λ (l : Placed). EndsWith l.log p) (sym c.meets.ensures.same) c.part.invariant in
-    (p, ends, permit_taken c.into_both-permit.result.0 c.request.inside.request.cache p q row)
+    (p, ends, permit_taken c.set_write_lock-result.ensures.takes)
 
 pub returns-clause-goes : goal.returns-clause-goes
 returns-clause-goes g c =
     let p = c.part.inside.cache in
     let q = c.set_write_lock-result.new.self in
-    let row : TakesPermit c.into_both-permit.result.0 c.request.inside.request.cache p q = record { locks = c.set_write_lock-result.ensures.table; deeds = c.set_write_lock-result.ensures.deeds; rest = c.set_write_lock-result.ensures.rest } in
     let here = lent c.args.self.now c.part-lock.result.now c.part-lock.ensures.limits c.part-lock.ensures.place c.place.ensures.place c.lock-guard.ensures.place c.lock-guard.ensures.limits (c.part.view_is ∙ c.deref_mut-part.ensures.value) in
     let ends = subst (λ (l : Placed). EndsWith l.log p) (sym c.meets.ensures.same) c.part.invariant in
     let at = ap (λ (l : Placed). l.place) c.meets.ensures.same ∙ here.1 in
-    subst (λ w. Goes c.args.self.now g.K.Mark.names c.args.request.now.place c.args.request.now.seen c.adds.new.sight.log (TakesPermit w c.args.request.now.cache)) c.into_both-permit.ensures.permit
+    subst (λ w. Goes c.args.self.now g.K.Mark.names c.args.request.now.place c.args.request.now.seen c.adds.new.sight.log (TakesPermit c.set_write_lock-result.result w c.args.request.now.cache c.set_write_lock-result.new.request.cache)) c.into_both-permit.ensures.permit
     (goes_by c.args.self.now g.K.Mark.names c.meets.new.self.place c.args.request.now.place c.request.inside.sight.log c.args.request.now.seen c.adds.new.sight.log p q (here.0, at) (ap (λ (s : Seated). s.seen) c.request.view_is)
-    (c.adds.ensures.moves p ends) (subst (λ (s : Seated). TakesPermit c.into_both-permit.result.0 s.cache p q) c.request.view_is row))
+    (c.adds.ensures.moves p ends) (subst (λ (s : Seated). TakesPermit c.set_write_lock-result.result c.into_both-permit.result.0 s.cache c.set_write_lock-result.new.request.cache p q) c.request.view_is c.set_write_lock-result.ensures.takes))
 
 pub returns-clause-follows : goal.returns-clause-follows
 returns-clause-follows g c =

@@ -1,11 +1,4 @@
-use Rattle.std.proofs.Common.{◌≡◌, ◌≤◌, ℕ, List, take, arith, ap, sym, subst, ◌∙◌}
-use Rattle.std.specs.Prelude.{IfSome, sum_by}
-use Rattle.pcache_evict.specs.Tracked.{Limits}
-use Rattle.std.proofs.lemmas.List.{take_all}
-use Rattle.pcache_shared_cache.specs.Portions.{whole_watermark}
-use Rattle.pcache_cache.specs.Parts.{Parts}
-use Rattle.pcache_store.specs.Totals.{slots}
-use Rattle.pcache_shared_cache.specs.Seen.{limits_in}
+use Rattle.pcache_shared_cache.proofs.Words.{◌≡◌, ◌≤◌, ℕ, List, take, arith, ap, sym, subst, ◌∙◌, IfSome, sum_by, Limits, take_all, whole_watermark, Parts, slots, limits_in}
 use Rattle.pcache_shared_cache.proofs.Together.{begun-limits, limits_begun, told-more, told-none, within-count}
 use Rattle.pcache_shared_cache.proofs.shared.SharedCache.slots.Goals as goal
 

@@ -1,4 +1,4 @@
-use Rattle.pcache_store.specs.Totals.{slots}
+use Rattle.pcache_shared_cache.proofs.Words.{slots}
 use Rattle.pcache_shared_cache.proofs.Together.{Told}
 use Rattle.pcache_shared_cache.proofs.shared.SharedCache.slots.Given as goal
 

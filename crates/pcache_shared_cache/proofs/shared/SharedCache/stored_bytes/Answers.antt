@@ -1,8 +1,4 @@
-use Rattle.std.proofs.Common.{◌≡◌, take, arith, ap, ◌∙◌}
-use Rattle.std.proofs.lemmas.List.{take_all}
-use Rattle.pcache_shared_cache.specs.Portions.{whole_weight}
-use Rattle.pcache_store.specs.Totals.{stored_bytes}
-use Rattle.pcache_shared_cache.specs.Seen.{limits_in}
+use Rattle.pcache_shared_cache.proofs.Words.{◌≡◌, take, arith, ap, ◌∙◌, take_all, whole_weight, stored_bytes, limits_in}
 use Rattle.pcache_shared_cache.proofs.Together.{begun-limits, limits_begun, told-more, told-none, within}
 use Rattle.pcache_shared_cache.proofs.shared.SharedCache.stored_bytes.Goals as goal
 

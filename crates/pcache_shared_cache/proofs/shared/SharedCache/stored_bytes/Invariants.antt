@@ -1,4 +1,4 @@
-use Rattle.pcache_store.specs.Totals.{stored_bytes}
+use Rattle.pcache_shared_cache.proofs.Words.{stored_bytes}
 use Rattle.pcache_shared_cache.proofs.Together.{Told}
 use Rattle.pcache_shared_cache.proofs.shared.SharedCache.stored_bytes.Given as goal
 

@@ -1,4 +1,4 @@
-use Rattle.std.proofs.Common.{refl, ◌∙◌}
+use Rattle.pcache_shared_cache.proofs.Words.{refl, ◌∙◌}
 use Rattle.pcache_shared_cache.proofs.Logs.{sees_by, lent}
 use Rattle.pcache_shared_cache.proofs.shared.SharedCache.stored_bytes_of.Goals as goal
 

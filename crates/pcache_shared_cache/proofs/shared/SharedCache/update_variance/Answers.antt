@@ -1,22 +1,15 @@
-use Rattle.std.proofs.Common.{ap, subst, ◌∙◌}
-use Rattle.pcache_shared_cache.specs.Calls.{Varies}
-use Rattle.pcache_shared_cache.specs.Shared.{Seated}
+use Rattle.pcache_shared_cache.proofs.Words.{ap, subst, ◌∙◌, Varies, Seated}
 use Rattle.pcache_shared_cache.proofs.Led.{varied_on}
 use Rattle.pcache_shared_cache.proofs.Logs.{goes_by, lent}
 use Rattle.pcache_shared_cache.proofs.shared.SharedCache.update_variance.Goals as goal
 
 pub adds-requires-clause-leads : goal.adds-requires-clause-leads
-adds-requires-clause-leads g c =
-    let p = c.part-2.inside.cache in
-    let q = c.update_variance-result.new.self in
-    let row : Varies c.args.variance c.request.inside.request.cache p q = record { locks = c.update_variance-result.ensures.table; deeds = c.update_variance-result.ensures.deeds; rest = c.update_variance-result.ensures.rest } in
-    (p, c.part-2.invariant, varied_on c.args.variance c.request.inside.request.cache p q row)
+adds-requires-clause-leads g c = (c.part-2.inside.cache, c.part-2.invariant, varied_on c.update_variance-result.ensures.takes)
 
 pub returns-clause-goes : goal.returns-clause-goes
 returns-clause-goes g c =
     let p = c.part-2.inside.cache in
     let q = c.update_variance-result.new.self in
-    let row : Varies c.args.variance c.request.inside.request.cache p q = record { locks = c.update_variance-result.ensures.table; deeds = c.update_variance-result.ensures.deeds; rest = c.update_variance-result.ensures.rest } in
     let here = lent c.args.self.now c.part.result.now c.part.ensures.limits c.part.ensures.place c.place.ensures.place c.lock-guard.ensures.place c.lock-guard.ensures.limits (c.part-2.view_is ∙ c.deref_mut-part.ensures.value) in
     goes_by c.args.self.now g.K.Mark.names c.part-2.inside.log.place c.args.request.now.place c.request.inside.sight.log c.args.request.now.seen c.adds.new.sight.log p q here (ap (λ (s : Seated). s.seen) c.request.view_is)
-    (c.adds.ensures.moves p c.part-2.invariant) (subst (λ (s : Seated). Varies c.args.variance s.cache p q) c.request.view_is row)
+    (c.adds.ensures.moves p c.part-2.invariant) (subst (λ (s : Seated). Varies c.update_variance-result.result c.args.variance s.cache c.update_variance-result.new.request.cache p q) c.request.view_is c.update_variance-result.ensures.takes)

@@ -1,11 +1,4 @@
-use Rattle.std.proofs.Common.{rules, ◌≡◌, ◌+◌, suc, Ok, Result, arith, inr, subst}
-use Rattle.std.specs.Prelude.{OnOk, ℕ}
-use Rattle.pcache_base.specs.declared.error.ErrorType.{ErrorType}
-use Rattle.pcache_base.specs.declared.poll.Poll.{Poll}
-use Rattle.pcache_base.specs.declared.poll.Poll.TheVariants.{Pending}
-use Rattle.pcache_lock.specs.declared.lock.outcome.LockWaitOutcome.{LockWaitOutcome}
-use Rattle.pcache_shared_cache.specs.Seen.{Begins}
-use Rattle.pcache_shared_cache.specs.Turns.{AsksOfWait, asked}
+use Rattle.pcache_shared_cache.proofs.Words.{rules, ◌≡◌, ◌+◌, suc, Ok, Result, arith, inr, subst, OnOk, ℕ, ErrorType, Poll, Pending, LockWaitOutcome, Begins, AsksOfWait, asked}
 use Rattle.pcache_shared_cache.proofs.Logs.{begins_then, goes_begins}
 use Rattle.pcache_shared_cache.proofs.shared.SharedCache.wait_in_turns.Goals as goal
 

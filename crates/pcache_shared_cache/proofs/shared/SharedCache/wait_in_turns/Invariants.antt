@@ -1,7 +1,5 @@
-use Rattle.std.proofs.Common.{◌≡◌, IsSome}
 use Rattle.pcache_request.specs.LockUse.{read_in}
-use Rattle.pcache_shared_cache.specs.Seen.{Begins}
-use Rattle.pcache_shared_cache.specs.Turns.{AsksOfWait, asked}
+use Rattle.pcache_shared_cache.proofs.Words.{◌≡◌, IsSome, Begins, AsksOfWait, asked}
 use Rattle.pcache_shared_cache.proofs.shared.SharedCache.wait_in_turns.Given as goal
 
 -- the read lock is held, the request is where it was, what it had seen is a beginning of what it has seen, and it asked once a turn

@@ -1,11 +1,5 @@
-use Rattle.std.proofs.Common.{◌≡◌, [], ◌∷◌, ◌++◌, ◌+◌, length, ◌<◌, refl, sym, ap, ◌∙◌, subst, length-append}
 use Rattle.std.proofs.lemmas.List.{append_assoc}
-use Rattle.pcache_history.specs.declared.entry.Entry.{Entry}
-use Rattle.pcache_shared_world.specs.Receipts.{evicted_after}
-use Rattle.pcache_shared_world.specs.Views.{slip}
-use mathlib.Core.Option.{some}
-use Rattle.atomic_table.specs.Seated.{TableId}
-use Rattle.atomic_table.specs.Table.{step}
+use Rattle.pcache_shared_world.proofs.Words.{◌≡◌, [], ◌∷◌, ◌++◌, ◌+◌, length, ◌<◌, refl, sym, ap, ◌∙◌, subst, length-append, Entry, evicted_after, slip, some, TableId, step}
 use Rattle.pcache_shared_world.proofs.Moves.{moves_as, deals_as, takes_in_as, adds_as}
 use Rattle.pcache_shared_world.proofs.Lists.{get_pushed}
 use Rattle.pcache_shared_world.proofs.Calls.{moved_is, slip_is, keeper_is, some_part, joined_is, added_is, relieved_is, dealt_is}

@@ -1,4 +1,4 @@
-use Rattle.std.proofs.Common.{◌<◌, ◌∙◌, arith}
+use Rattle.pcache_shared_world.proofs.Words.{◌<◌, ◌∙◌, arith}
 use Rattle.pcache_shared_world.proofs.Calls.{some_pushed}
 use Rattle.pcache_shared_world.proofs.share.Share.made.Goals as goal
 

@@ -1,7 +1,4 @@
-use Rattle.std.proofs.Common.{ℕ, List, [], ◌∷◌, ◌++◌, map, length, sym, ap, ◌∙◌, subst}
-use Rattle.pcache_history.specs.declared.entry.Entry.{Entry}
-use Rattle.pcache_shared_world.specs.Receipts.{receipt_of}
-use Rattle.pcache_shared_world.specs.Views.{Rises, places}
+use Rattle.pcache_shared_world.proofs.Words.{ℕ, List, [], ◌∷◌, ◌++◌, map, length, sym, ap, ◌∙◌, subst, Entry, receipt_of, Rises, places}
 use Rattle.pcache_shared_world.proofs.Calls.{slip_is, rises_snoc, receipts_snoc}
 use Rattle.pcache_shared_world.proofs.share.Share.make.Goals as goal
 

@@ -1,13 +1,6 @@
-use Rattle.std.proofs.Common.{rules, ◌≡◌, ◌<◌, List, [], ◌∷◌, ◌++◌, map, length, sym, ap, ◌∙◌, subst, arith}
-use Rattle.std.specs.List.{All}
-use Rattle.std.proofs.lemmas.List.{map-append, append_assoc, append-nil}
-use Rattle.std.proofs.lemmas.List.Elements.{All-push}
+use Rattle.std.proofs.lemmas.List.{append_assoc}
 use mathlib.Core.Option.{none}
-use Rattle.atomic_table.specs.Seated.{TableId}
-use Rattle.atomic_table.specs.Table.{step}
-use Rattle.pcache_shared_world.specs.declared.receipt.Receipt.{Receipt}
-use Rattle.pcache_shared_world.specs.Views.{Rises}
-use Rattle.pcache_shared_world.specs.Receipts.{AreReceipts, evicted_after, receipt_of, joined, indices_of}
+use Rattle.pcache_shared_world.proofs.Words.{rules, ◌≡◌, ◌<◌, List, [], ◌∷◌, ◌++◌, map, length, sym, ap, ◌∙◌, subst, arith, All, map-append, append-nil, All-push, TableId, step, Receipt, Rises, AreReceipts, evicted_after, receipt_of, joined, indices_of}
 use Rattle.pcache_shared_world.proofs.Moves.{takes_in_as, settles_as}
 use Rattle.pcache_shared_world.proofs.Calls.{keeper_is, followed_on}
 use Rattle.pcache_shared_world.proofs.Closing.{none_left, joined_snoc, rises_of, closes}

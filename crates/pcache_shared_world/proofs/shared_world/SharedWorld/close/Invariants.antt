@@ -1,8 +1,4 @@
-use Rattle.std.proofs.Common.{◌++◌, ◌≡◌, ◌+◌, ◌≤◌, map, length, vec_capacity}
-use Rattle.std.specs.Prelude.{vec_len}
-use Rattle.std.specs.List.{All}
-use Rattle.pcache_shared_world.specs.Views.{IsKeeper, Rises, whole}
-use Rattle.pcache_shared_world.specs.Receipts.{receipt_of, joined, indices_of}
+use Rattle.pcache_shared_world.proofs.Words.{◌++◌, ◌≡◌, ◌+◌, ◌≤◌, map, length, vec_capacity, vec_len, All, IsKeeper, Rises, whole, receipt_of, joined, indices_of}
 use Rattle.pcache_shared_world.proofs.shared_world.SharedWorld.close.Given as goal
 
 abbrev pub invariant-loop-share : goal.invariant-loop-share

@@ -1,10 +1,5 @@
-use Rattle.std.proofs.Common.{◌≡◌, ◌<◌, [], length, ◌+◌, ◌-◌, List, ◌∷◌, sym, ap, ◌∙◌, subst, arith, length-append}
-use Rattle.std.specs.List.{All}
-use Rattle.std.proofs.lemmas.List.Elements.{All-push}
-use Rattle.pcache_shared_world.specs.declared.receipt.Receipt.{Receipt}
-use Rattle.pcache_history.specs.declared.entry.Entry.{Entry}
 use Rattle.pcache_shared_world.specs.Opened.{Opened}
-use Rattle.pcache_shared_world.specs.Views.{keeper}
+use Rattle.pcache_shared_world.proofs.Words.{◌≡◌, ◌<◌, [], length, ◌+◌, ◌-◌, List, ◌∷◌, sym, ap, ◌∙◌, subst, arith, length-append, All, All-push, Receipt, Entry, keeper}
 use Rattle.pcache_shared_world.proofs.Moves.{deals_as}
 use Rattle.pcache_shared_world.proofs.Calls.{keeper_is, relieved_is}
 use Rattle.pcache_shared_world.proofs.shared_world.SharedWorld.new.Goals as goal

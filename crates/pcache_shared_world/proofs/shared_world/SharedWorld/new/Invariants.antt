@@ -1,7 +1,4 @@
-use Rattle.std.proofs.Common.{◌-◌, ◌≡◌, ◌+◌, ◌≤◌, [], length}
-use Rattle.std.specs.Prelude.{vec_len, vec_capacity}
-use Rattle.std.specs.List.{All}
-use Rattle.pcache_shared_world.specs.Views.{keeper, whole}
+use Rattle.pcache_shared_world.proofs.Words.{◌-◌, ◌≡◌, ◌+◌, ◌≤◌, [], length, vec_len, vec_capacity, All, keeper, whole}
 use Rattle.pcache_shared_world.proofs.shared_world.SharedWorld.new.Given as goal
 
 abbrev pub invariant-loop-made : goal.invariant-loop-made

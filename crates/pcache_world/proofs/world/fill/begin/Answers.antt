@@ -1,11 +1,6 @@
-use Rattle.std.proofs.Common.{Some, subst, option_map}
-use Rattle.pcache_store.specs.Readers.{reader_of}
-use Rattle.pcache_history.specs.Ongoing.{Ongoing}
-use Rattle.pcache_world.specs.Moved.{MovesStore}
-use Rattle.pcache_world.specs.Opens.{held_with}
-use Rattle.pcache_world.specs.LockMoves.{MovesLocks}
-use Rattle.pcache_history.specs.Deeds.{deeds_by}
+use Rattle.std.proofs.Common.{option_map}
 use Rattle.pcache_lock.specs.declared.lock.status.LockStatus.TheVariants.{Done}
+use Rattle.pcache_world.proofs.Words.{Some, subst, reader_of, Ongoing, MovesStore, held_with, MovesLocks, deeds_by}
 use Rattle.pcache_world.proofs.world.fill.begin.Goals as goal
 
 pub returns-clause-moves : goal.returns-clause-moves

@@ -1,12 +1,10 @@
-use Rattle.std.proofs.Common.{◌++◌, ◌∷◌, Some, ap, sym, ◌∙◌}
 use Rattle.pcache_lock.specs.declared.lock.status.LockStatus.TheVariants.{Done}
 use Rattle.pcache_request.specs.Requests.{Request}
-use Rattle.pcache_history.specs.Rules.{each}
 use Rattle.pcache_world.specs.Step.{permit_in}
+use Rattle.pcache_world.proofs.Words.{◌++◌, ◌∷◌, Some, ap, sym, ◌∙◌, each, held_with}
 use Rattle.pcache_history.specs.declared.entry.Event.TheVariants as E
 use Rattle.pcache_world.proofs.MovesOf.{begins-joined, begins-refused, idle, on-ok, on-err}
 use Rattle.pcache_world.proofs.Noted.{began-is, permit-named}
-use Rattle.pcache_world.specs.Opens.{held_with}
 use Rattle.pcache_world.proofs.LockSteps.{release-locks}
 use Rattle.pcache_world.proofs.world.fill.begin_write.Goals as goal
 

@@ -1,16 +1,8 @@
-use Rattle.std.proofs.Common.{rules, inl, Some, sym, subst, option_map}
-use Rattle.pcache_request.specs.Phases.{IsFilling}
-use Rattle.pcache_store.specs.Readers.{reader_of}
-use Rattle.pcache_history.specs.Deeds.{deeds_by}
-use Rattle.pcache_history.specs.Due.{IsOfWorld}
-use Rattle.pcache_history.specs.Ongoing.{Ongoing}
+use Rattle.std.proofs.Common.{option_map}
+use Rattle.pcache_world.specs.LockMoves.{status_finished}
+use Rattle.pcache_world.proofs.Words.{rules, inl, Some, sym, subst, IsFilling, reader_of, deeds_by, IsOfWorld, Ongoing, MovesLocks, Moves, open_with, State, Answers, AnswersOf}
 use Rattle.pcache_history.specs.declared.call.Act.TheVariants as C
 use Rattle.pcache_history.specs.declared.call.RequestAct.TheVariants as Q
-use Rattle.pcache_world.specs.LockMoves.{MovesLocks, status_finished}
-use Rattle.pcache_world.specs.Moved.{Moves}
-use Rattle.pcache_world.specs.Opens.{open_with}
-use Rattle.pcache_world.specs.State.{State}
-use Rattle.pcache_world.specs.Step.{Answers, AnswersOf}
 use Rattle.pcache_world.proofs.OfParts.{evicts-over, locks-over, moves-over}
 use Rattle.pcache_world.proofs.world.fill.finish.Goals as goal
 

@@ -1,13 +1,10 @@
-use Rattle.std.proofs.Common.{◌≡◌, ◌++◌, ◌∷◌, true, None, refl, ap, sym, ◌∙◌, cond, is_some}
-use Rattle.pcache_history.specs.Rules.{each}
-use Rattle.pcache_history.specs.declared.entry.Event.TheVariants.{Admit, Finish, Purge, Release}
+use Rattle.pcache_request.specs.WriteEnds.{status_after}
+use Rattle.pcache_request.specs.Requests.{Request}
+use Rattle.pcache_world.proofs.Words.{◌≡◌, ◌++◌, ◌∷◌, true, None, refl, ap, sym, ◌∙◌, cond, is_some, each, Admit, Finish, Purge, Release, settled}
 use Rattle.pcache_world.proofs.Evicting.{finish-drops, finish-stores, finish-withdraws, idle-evicts}
 use Rattle.pcache_world.proofs.MovesOf.{finish-size, finish-stored, finish-withdrawn, finish-dropped, end-locks}
 use Rattle.pcache_world.proofs.Noted.{stored-entry, released-permit}
 use Rattle.pcache_world.proofs.LockSteps.{refused-locks, stored-locks}
-use Rattle.pcache_request.specs.WriteEnds.{status_after}
-use Rattle.pcache_request.specs.Requests.{settled}
-use Rattle.pcache_request.specs.Requests.{Request}
 use Rattle.pcache_world.proofs.world.fill.finish_write.Goals as goal
 
 pub returns-in-Some-entry-clause-moves : goal.returns-in-Some-entry-clause-moves

@@ -1,12 +1,8 @@
-use Rattle.std.proofs.Common.{rules, ◌≡◌, Option, Some, subst, refl, option_map}
-use Rattle.pcache_meta.specs.Meta.{Meta}
+use Rattle.std.proofs.Common.{option_map}
 use Rattle.pcache_request.specs.Requests.{Request}
-use Rattle.pcache_store.specs.Readers.{reader_of}
-use Rattle.pcache_store.specs.Store.{Reader, Store, wrote}
-use Rattle.pcache_history.specs.Ongoing.{Ongoing}
-use Rattle.pcache_world.specs.Moved.{MovesStore}
+use Rattle.pcache_store.specs.Store.{Reader}
+use Rattle.pcache_world.proofs.Words.{rules, ◌≡◌, Option, Some, subst, refl, Meta, reader_of, Store, wrote, Ongoing, MovesStore, held_with}
 use Rattle.pcache_world.proofs.MovesOf.{writes}
-use Rattle.pcache_world.specs.Opens.{held_with}
 use Rattle.pcache_world.proofs.world.fill.write.Goals as goal
 
 pub returns-clause-moves : goal.returns-clause-moves

@@ -1,7 +1,4 @@
-use Rattle.std.proofs.Common.{refl, ap, ◌∙◌, rules, ◌≡◌}
-use Rattle.pcache_request.specs.LockUse.{published_by}
-use Rattle.pcache_history.specs.Ongoing.{Ongoing}
-use Rattle.std.proofs.Common.{[], refl}
+use Rattle.pcache_world.proofs.Words.{refl, ap, ◌∙◌, rules, ◌≡◌, published_by, Ongoing, []}
 use Rattle.pcache_world.proofs.LockSteps.{no_locks_move, publish-locks}
 use Rattle.pcache_world.proofs.world.locks.publish.Goals as goal
 

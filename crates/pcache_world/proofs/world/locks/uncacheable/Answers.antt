@@ -1,22 +1,12 @@
-use Rattle.std.proofs.Common.{◌≡◌, Option, Some, refl, ap, subst, ◌∙◌, option_map}
-use Rattle.pcache_meta.specs.Meta.{Meta}
+use Rattle.std.proofs.Common.{option_map}
 use Rattle.pcache_request.specs.Requests.{Request}
-use Rattle.pcache_store.specs.Readers.{reader_of}
 use Rattle.pcache_store.specs.Store.{Reader}
-use Rattle.pcache_history.specs.Ongoing.{Ongoing}
-use Rattle.pcache_world.specs.Moved.{MovesStore}
-use Rattle.pcache_history.specs.Rules.{permit_of}
 use Rattle.pcache_world.specs.Step.{permit_in}
-use Rattle.pcache_history.specs.declared.entry.Event.TheVariants.{Release}
+use Rattle.pcache_world.proofs.Words.{◌≡◌, Option, Some, refl, ap, subst, ◌∙◌, Meta, reader_of, Ongoing, MovesStore, permit_of, Release, held_with, MovesLocks, deeds_by, status_for, GiveUp}
 use Rattle.pcache_world.proofs.MovesOf.{turns-quietly, quiet-noted}
 use Rattle.pcache_world.proofs.Noted.{permit-named}
-use Rattle.pcache_world.specs.Opens.{held_with}
-use Rattle.pcache_world.specs.LockMoves.{MovesLocks}
-use Rattle.pcache_history.specs.Deeds.{deeds_by}
 use Rattle.pcache_world.proofs.LockSteps.{settle-alone}
 use Rattle.pcache_world.proofs.Waiting.{status-reason}
-use Rattle.pcache_request.specs.Releasing.{status_for}
-use Rattle.pcache_lock.specs.declared.lock.status.LockStatus.TheVariants.{GiveUp}
 use Rattle.pcache_world.proofs.world.locks.uncacheable.Goals as goal
 
 pub returns-clause-moves : goal.returns-clause-moves

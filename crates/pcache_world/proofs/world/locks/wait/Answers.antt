@@ -1,14 +1,7 @@
-use Rattle.std.proofs.Common.{rules, Option, Some, IsSome, inl, option_map, subst}
-use Rattle.pcache_meta.specs.Meta.{Meta}
-use Rattle.pcache_request.specs.LockUse.{read_in}
-use Rattle.pcache_store.specs.Readers.{reader_of}
+use Rattle.std.proofs.Common.{option_map}
 use Rattle.pcache_store.specs.Store.{Reader}
-use Rattle.pcache_world.specs.PartFacts.{facts_in}
-use Rattle.pcache_history.specs.Ongoing.{Ongoing}
-use Rattle.pcache_world.specs.Moved.{MovesStore}
-use Rattle.pcache_history.specs.Rules.{FollowsRule}
+use Rattle.pcache_world.proofs.Words.{rules, Option, Some, IsSome, inl, subst, Meta, read_in, reader_of, facts_in, Ongoing, MovesStore, FollowsRule, held_with}
 use Rattle.pcache_history.specs.declared.call.Act.TheVariants as C
-use Rattle.pcache_world.specs.Opens.{held_with}
 use Rattle.pcache_world.proofs.world.locks.wait.Goals as goal
 
 pub returns-clause-answers : goal.returns-clause-answers

@@ -1,10 +1,7 @@
-use Rattle.std.proofs.Common.{ap, ◌∙◌, inl, inr, refl}
-use Rattle.pcache_request.specs.LockWaits.{unusable_in}
 use Rattle.pcache_request.specs.Requests.{Request}
-use Rattle.pcache_history.specs.Rules.{wait_reply}
+use Rattle.pcache_world.proofs.Words.{ap, ◌∙◌, inl, inr, refl, unusable_in, wait_reply, held_with}
 use Rattle.pcache_history.specs.declared.call.Reply.TheVariants as replies
 use Rattle.pcache_world.proofs.MovesOf.{turns-quietly}
-use Rattle.pcache_world.specs.Opens.{held_with}
 use Rattle.pcache_world.proofs.Waited.{aged-by, aged-quiet, names-fills, not-polled, untold-after, wait-kept, wait-locks, wait-reader, wait-write}
 use Rattle.pcache_world.proofs.world.locks.wait_on.Goals as goal
 

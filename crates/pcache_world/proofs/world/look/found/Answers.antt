@@ -1,21 +1,10 @@
-use Rattle.std.proofs.Common.{rules, refl, ap, sym, subst, ◌∙◌, inl, IsSome, Option, Some, option_map}
-use Rattle.pcache_meta.specs.Meta.{Meta}
+use Rattle.std.proofs.Common.{option_map}
 use Rattle.pcache_store.specs.Store.{Reader}
-use Rattle.pcache_world.specs.Moved.{Moves}
-use Rattle.pcache_store.specs.Readers.{reader_of}
-use Rattle.pcache_request.specs.Phases.{MayLookUp}
-use Rattle.pcache_world.specs.PartFacts.{facts_in}
-use Rattle.pcache_world.specs.State.{State}
-use Rattle.pcache_world.specs.Step.{AnswersOf}
+use Rattle.pcache_lock.specs.declared.lock.status.LockStatus.TheVariants.{Done}
+use Rattle.pcache_world.proofs.Words.{rules, refl, ap, sym, subst, ◌∙◌, inl, IsSome, Option, Some, Meta, Moves, reader_of, MayLookUp, facts_in, State, AnswersOf, Ongoing, IsOther, Takes, held_with, open_with, MovesLocks, deeds_by}
 use Rattle.pcache_history.specs.declared.call.Act.TheVariants as C
 use Rattle.pcache_history.specs.declared.call.RequestAct.TheVariants as Q
 use Rattle.pcache_world.proofs.OfParts.{locks-over, moves-over}
-use Rattle.pcache_history.specs.Ongoing.{Ongoing}
-use Rattle.pcache_history.specs.Rules.{IsOther, Takes}
-use Rattle.pcache_world.specs.Opens.{held_with, open_with}
-use Rattle.pcache_world.specs.LockMoves.{MovesLocks}
-use Rattle.pcache_history.specs.Deeds.{deeds_by}
-use Rattle.pcache_lock.specs.declared.lock.status.LockStatus.TheVariants.{Done}
 use Rattle.pcache_world.proofs.world.look.found.Goals as goal
 
 pub returns-clause-answers : goal.returns-clause-answers

@@ -1,13 +1,5 @@
-use Rattle.std.proofs.Common.{rules, inl, Some, subst, refl}
-use Rattle.pcache_request.specs.Phases.{MayLookUp}
-use Rattle.pcache_world.specs.PartFacts.{facts_in}
-use Rattle.pcache_history.specs.Due.{KeepsKey}
-use Rattle.pcache_history.specs.Ongoing.{Ongoing, carrying}
-use Rattle.pcache_history.specs.Rules.{Looks}
+use Rattle.pcache_world.proofs.Words.{rules, inl, Some, subst, refl, MayLookUp, facts_in, KeepsKey, Ongoing, carrying, Looks, MovesLocks, deeds_by, TransientError}
 use Rattle.pcache_world.proofs.Looking.{carried-moves, looks-by}
-use Rattle.pcache_world.specs.LockMoves.{MovesLocks}
-use Rattle.pcache_history.specs.Deeds.{deeds_by}
-use Rattle.pcache_lock.specs.declared.lock.status.LockStatus.TheVariants.{TransientError}
 use Rattle.pcache_world.proofs.world.look.look.Goals as goal
 
 pub returns-clause-answers : goal.returns-clause-answers

@@ -1,5 +1,4 @@
-use Rattle.std.proofs.Common.{refl}
-use Rattle.pcache_lock.specs.declared.lock.status.LockStatus.TheVariants.{TransientError}
+use Rattle.pcache_world.proofs.Words.{refl, TransientError}
 use Rattle.pcache_world.proofs.LockSteps.{none_noted}
 use Rattle.pcache_world.proofs.world.look.look_up.Goals as goal
 

@@ -1,28 +1,9 @@
-use Rattle.std.proofs.Common.{◌≡◌, Some, ap, sym, subst, ◌∙◌, option_map, Option, refl}
-use Rattle.pcache_base.specs.Key.{Key}
-use Rattle.pcache_base.specs.declared.error.ErrorType.TheVariants.{OutOfMemory}
-use Rattle.pcache_lock.specs.declared.lock.status.LockStatus.TheVariants.{TransientError}
-use Rattle.pcache_meta.specs.Meta.{Meta}
-use Rattle.pcache_request.specs.Admissions.{decision_taken}
-use Rattle.pcache_request.specs.Phases.{MayLookUp}
-use Rattle.pcache_request.specs.Requests.{Request, found_for}
-use Rattle.pcache_request.specs.declared.cache.report.LookUp.{LookUp}
-use Rattle.pcache_store.specs.Readers.{reader_of}
+use Rattle.std.proofs.Common.{option_map}
+use Rattle.pcache_request.specs.Requests.{Request}
 use Rattle.pcache_store.specs.Store.{Reader}
-use Rattle.pcache_store.specs.declared.memory.hit.MemHitHandler.{MemHitHandler}
-use Rattle.pcache_history.specs.declared.entry.Answer.TheVariants.{Nothing}
-use Rattle.pcache_history.specs.Deeds.{deeds_by}
-use Rattle.pcache_history.specs.Due.{KeepsKey}
-use Rattle.pcache_history.specs.Ongoing.{Ongoing, looked_by}
-use Rattle.pcache_history.specs.Rules.{Looks}
-use Rattle.pcache_world.specs.LockMoves.{MovesLocks}
-use Rattle.pcache_world.specs.Moved.{MovesStore}
-use Rattle.pcache_world.specs.PartFacts.{facts_in}
-use Rattle.pcache_world.specs.Step.{noted_look}
-use Rattle.pcache_world.specs.declared.world.look.LookNote.{LookNote}
+use Rattle.pcache_world.proofs.Words.{◌≡◌, Some, ap, sym, subst, ◌∙◌, Option, refl, Key, OutOfMemory, TransientError, Meta, decision_taken, MayLookUp, found_for, LookUp, reader_of, MemHitHandler, Nothing, deeds_by, KeepsKey, Ongoing, looked_by, Looks, MovesLocks, MovesStore, facts_in, noted_look, LookNote, held_with}
 use Rattle.pcache_world.proofs.LockSteps.{none_noted}
 use Rattle.pcache_world.proofs.Looking.{heard, held-after, look-answers, look-keeps, look-locks, look-moves, look-row, refused-moves, taken-decision}
-use Rattle.pcache_world.specs.Opens.{held_with}
 use Rattle.pcache_world.proofs.world.look.look_up_keeping.Goals as goal
 
 pub returns-in-Err-clause-moves : goal.returns-in-Err-clause-moves

@@ -1,26 +1,14 @@
-use Rattle.std.proofs.Common.{◌≡◌, ◌++◌, Option, None, Result, ap, sym, subst, refl, ◌∙◌, Some, IfErr, IfOk, OnOk, OnErr, inl, inr}
 use Rattle.std.specs.Prelude.{IsTrue}
-use Rattle.pcache_base.specs.declared.error.ErrorType.{ErrorType}
-use Rattle.pcache_base.specs.declared.error.ErrorType.TheVariants.{NumbersExhausted}
-use Rattle.pcache_history.specs.declared.call.Reply.TheVariants as R
-use Rattle.pcache_lock.specs.Locks.{MayFailLock}
-use Rattle.pcache_store.specs.Readers.{reader_of}
 use Rattle.pcache_history.specs.Ongoing.{asked}
-use Rattle.pcache_history.specs.Rules.{accesses}
-use Rattle.pcache_world.specs.Step.{asking, noting}
-use Rattle.pcache_evict.specs.Tracked.{Tracked}
-use Rattle.pcache_meta.specs.Meta.{Meta}
-use Rattle.pcache_world.specs.Moved.{Moves}
-use Rattle.pcache_request.specs.Reports.{asked_by_found}
-use Rattle.pcache_request.specs.Requests.{Request, asks_as_stale, asks_for_hit, found_row, placed, store_found, table_found}
-use Rattle.pcache_request.specs.declared.cache.report.AskedLock.{AskedLock}
-use Rattle.pcache_store.specs.Store.{Reader, left}
+use Rattle.pcache_request.specs.Requests.{Request}
+use Rattle.pcache_store.specs.Store.{Reader}
+use Rattle.pcache_lock.specs.declared.lock.status.LockStatus.TheVariants.{Done}
+use Rattle.pcache_world.proofs.Words.{◌≡◌, ◌++◌, Option, None, Result, ap, sym, subst, refl, ◌∙◌, Some, IfErr, IfOk, OnOk, OnErr, inl, inr, ErrorType, NumbersExhausted, MayFailLock, reader_of, accesses, asking, noting, Tracked, Meta, Moves, asked_by_found, asks_as_stale, asks_for_hit, found_row, placed, store_found, table_found, AskedLock, left, held_with}
+use Rattle.pcache_history.specs.declared.call.Reply.TheVariants as R
 use Rattle.pcache_world.proofs.Keeps.{keeps-found}
 use Rattle.pcache_world.proofs.MovesOf.{takes, untaken, let-go, found-write, quiet-asking}
 use Rattle.pcache_world.proofs.Noted.{found-asked, found-phase, lock-refused, noted-access, takes-found}
-use Rattle.pcache_world.specs.Opens.{held_with}
 use Rattle.pcache_world.proofs.LockSteps.{none_noted, taken-locks, untaken-locks}
-use Rattle.pcache_lock.specs.declared.lock.status.LockStatus.TheVariants.{Done}
 use Rattle.pcache_world.proofs.world.look.take.Goals as goal
 
 pub returns-in-Ok-asked-clause-answers : goal.returns-in-Ok-asked-clause-answers

@@ -1,6 +1,6 @@
-use Rattle.std.proofs.Common.{◌≡◌, ℕ, Option, None}
 use Rattle.std.specs.declared.time.Duration.{Duration}
 use Rattle.pcache_put.proofs.Answered.{answered-more}
+use Rattle.pcache_world.proofs.Words.{◌≡◌, ℕ, Option, None}
 use Rattle.pcache_world.proofs.world.policy.by_none.Goals as goal
 
 pub returns-clause-says : goal.returns-clause-says

@@ -1,8 +1,4 @@
-use Rattle.std.proofs.Common.{◌∙◌, ap, sym}
-use Rattle.pcache_base.specs.Key.{slot}
-use Rattle.pcache_world.specs.PartFacts.{facts_in}
-use Rattle.pcache_history.specs.Ongoing.{ongoing_put}
-use Rattle.pcache_history.specs.Taking.{taking}
+use Rattle.pcache_world.proofs.Words.{◌∙◌, ap, sym, slot, facts_in, ongoing_put, taking}
 use Rattle.pcache_world.proofs.Evicting.{close-evicts, unwritten-evicts}
 use Rattle.pcache_world.proofs.PutClosed.{quiet-end, unwritten-answers-as, unwritten-moves-as, written-answers-as, written-moves-as, tells-as-answered}
 use Rattle.pcache_world.proofs.world.puts.close_in.Goals as goal

@@ -1,11 +1,5 @@
-use Rattle.std.proofs.Common.{None, Some, sym, subst}
-use Rattle.pcache_history.specs.Due.{IsOfWorld}
-use Rattle.pcache_history.specs.Ongoing.{Ongoing}
-use Rattle.pcache_history.specs.Rules.{Closes}
-use Rattle.pcache_world.specs.Moved.{Moves}
-use Rattle.pcache_world.specs.PartFacts.{facts_in, facts_of}
-use Rattle.pcache_world.specs.PutsSound.{HasSome}
-use Rattle.pcache_world.specs.State.{State}
+use Rattle.pcache_world.specs.PartFacts.{facts_of}
+use Rattle.pcache_world.proofs.Words.{None, Some, sym, subst, IsOfWorld, Ongoing, Closes, Moves, facts_in, HasSome, State}
 use Rattle.pcache_world.proofs.OfParts.{evicts-over, moves-over}
 use Rattle.pcache_world.proofs.world.puts.close_put.Goals as goal
 

@@ -1,5 +1,4 @@
-use Rattle.std.proofs.Common.{◌∙◌, sym}
-use Rattle.pcache_history.specs.Taking.{taking}
+use Rattle.pcache_world.proofs.Words.{◌∙◌, sym, taking}
 use Rattle.pcache_world.proofs.PutClosed.{drop-moves}
 use Rattle.pcache_world.proofs.world.puts.drop_put.Goals as goal
 

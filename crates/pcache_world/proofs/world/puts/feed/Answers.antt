@@ -1,7 +1,4 @@
-use Rattle.std.proofs.Common.{Some, subst}
-use Rattle.pcache_history.specs.Ongoing.{Ongoing, ongoing_put}
-use Rattle.pcache_world.specs.Moved.{MovesStore}
-use Rattle.pcache_history.specs.Taking.{taking}
+use Rattle.pcache_world.proofs.Words.{Some, subst, Ongoing, ongoing_put, MovesStore, taking}
 use Rattle.pcache_world.proofs.world.puts.feed.Goals as goal
 
 pub returns-clause-moves : goal.returns-clause-moves

@@ -1,11 +1,5 @@
-use Rattle.std.proofs.Common.{ℕ, List, Some, ◌∙◌, ap, subst}
-use Rattle.pcache_base.specs.Key.{slot}
-use Rattle.pcache_put.specs.State.{write_in}
-use Rattle.pcache_history.specs.Ongoing.{ongoing_put}
-use Rattle.pcache_history.specs.Taking.{taking}
-use Rattle.pcache_history.specs.declared.call.Act.TheVariants.{Feed}
 use Rattle.pcache_history.specs.declared.call.Reply.TheVariants.{Done, Refused}
-use Rattle.pcache_world.specs.PutsSound.{PutTurn}
+use Rattle.pcache_world.proofs.Words.{ℕ, List, Some, ◌∙◌, ap, subst, slot, write_in, ongoing_put, taking, Feed, PutTurn}
 use Rattle.pcache_world.proofs.PutFed.{declined-moves, ends-declined, ends-on, ends-refused, goes-moves, goes-puts, left-drop, not-over, noted-drop, refused-answers-of, refused-moves, refused-never, refused-noted, refused-puts, refused-unwritten}
 use Rattle.pcache_world.proofs.world.puts.feed_in.Goals as goal
 

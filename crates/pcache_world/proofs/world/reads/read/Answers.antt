@@ -1,15 +1,10 @@
-use Rattle.std.proofs.Common.{rules, Option, Some, IsSome, subst, ◌++◌, ◌∷◌, [], ap, sym, ◌∙◌, option_map}
-use Rattle.pcache_store.specs.Readers.{reader_of}
-use Rattle.pcache_history.specs.Ongoing.{on_request, has_read}
-use Rattle.pcache_history.specs.declared.entry.Event.TheVariants as E
-use Rattle.pcache_meta.specs.Meta.{Meta}
+use Rattle.std.proofs.Common.{option_map}
 use Rattle.pcache_request.specs.Requests.{Request}
 use Rattle.pcache_store.specs.Store.{Reader}
-use Rattle.pcache_history.specs.Ongoing.{Ongoing}
-use Rattle.pcache_world.specs.Moved.{MovesStore}
+use Rattle.pcache_world.proofs.Words.{rules, Option, Some, IsSome, subst, ◌++◌, ◌∷◌, [], ap, sym, ◌∙◌, reader_of, on_request, has_read, Meta, Ongoing, MovesStore, held_with}
+use Rattle.pcache_history.specs.declared.entry.Event.TheVariants as E
 use Rattle.pcache_world.proofs.MovesOf.{reads-on}
 use Rattle.pcache_world.proofs.Noted.{read-moved}
-use Rattle.pcache_world.specs.Opens.{held_with}
 use Rattle.pcache_world.proofs.world.reads.read.Goals as goal
 
 pub returns-clause-row : goal.returns-clause-row

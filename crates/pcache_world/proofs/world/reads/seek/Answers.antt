@@ -1,13 +1,8 @@
-use Rattle.std.proofs.Common.{[], Option, Some, subst, option_map}
-use Rattle.pcache_meta.specs.Meta.{Meta}
-use Rattle.pcache_store.specs.Readers.{reader_of}
+use Rattle.std.proofs.Common.{option_map}
 use Rattle.pcache_store.specs.Store.{Reader}
-use Rattle.pcache_history.specs.Due.{KeepsKey}
-use Rattle.pcache_history.specs.Ongoing.{Ongoing}
-use Rattle.pcache_world.specs.Moved.{MovesStore}
+use Rattle.pcache_world.proofs.Words.{[], Option, Some, subst, Meta, reader_of, KeepsKey, Ongoing, MovesStore, held_with}
 use Rattle.pcache_world.proofs.Keeps.{keeps-sought}
 use Rattle.pcache_world.proofs.MovesOf.{seeks-to}
-use Rattle.pcache_world.specs.Opens.{held_with}
 use Rattle.pcache_world.proofs.world.reads.seek.Goals as goal
 
 pub returns-clause-moves : goal.returns-clause-moves

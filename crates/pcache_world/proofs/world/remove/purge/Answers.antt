@@ -1,20 +1,13 @@
-use Rattle.std.proofs.Common.{Option, Some, refl, sym, ap, subst, ◌∙◌, option_map, ◌≡◌}
-use Rattle.pcache_meta.specs.Meta.{Meta}
+use Rattle.std.proofs.Common.{option_map}
 use Rattle.pcache_request.specs.Requests.{Request}
-use Rattle.pcache_store.specs.Readers.{reader_of}
 use Rattle.pcache_store.specs.Store.{Reader}
-use Rattle.pcache_history.specs.Ongoing.{Ongoing}
-use Rattle.pcache_world.specs.Moved.{Moves}
-use Rattle.pcache_world.specs.PartFacts.{number_for}
+use Rattle.pcache_lock.specs.declared.lock.status.LockStatus.TheVariants.{Done}
+use Rattle.pcache_world.proofs.Words.{Option, Some, refl, sym, ap, subst, ◌∙◌, ◌≡◌, Meta, reader_of, Ongoing, Moves, number_for, held_with, MovesLocks, deeds_by}
 use Rattle.pcache_world.proofs.MovesOf.{purges, idle}
 use Rattle.pcache_world.proofs.OfParts.{locks-over, moves-over}
 use Rattle.pcache_world.proofs.Noted.{goes, purge-events, purge-untracks, purge-store}
-use Rattle.pcache_world.specs.Opens.{held_with}
 use Rattle.pcache_world.proofs.world.remove.purge.Goals as goal
-use Rattle.pcache_world.specs.LockMoves.{MovesLocks}
-use Rattle.pcache_history.specs.Deeds.{deeds_by}
 use Rattle.pcache_world.proofs.LockSteps.{none_noted, purge-locks}
-use Rattle.pcache_lock.specs.declared.lock.status.LockStatus.TheVariants.{Done}
 use Rattle.pcache_world.proofs.world.remove.purge.Goals.{in-Ok, in-Err}
 
 pub returns-clause-moves : goal.returns-clause-moves

@@ -1,26 +1,18 @@
-use Rattle.std.proofs.Common.{rules, inl, ◌≡◌, ◌++◌, None, Option, Some, refl, ap, subst, ◌∙◌, option_map}
-use Rattle.pcache_meta.specs.Meta.{Meta}
-use Rattle.pcache_request.specs.Releasing.{MayDisable, status_for}
-use Rattle.pcache_request.specs.Requests.{Request, dropped_by, left_by}
-use Rattle.pcache_store.specs.Readers.{reader_of}
+use Rattle.std.proofs.Common.{option_map}
+use Rattle.pcache_request.specs.Releasing.{MayDisable}
+use Rattle.pcache_request.specs.Requests.{Request}
 use Rattle.pcache_store.specs.Store.{Reader}
-use Rattle.pcache_history.specs.Ongoing.{Ongoing}
-use Rattle.pcache_world.specs.Moved.{MovesStore}
-use Rattle.pcache_world.specs.PartFacts.{no_facts}
-use Rattle.pcache_history.specs.Rules.{FollowsRule, drop_of, each, permit_of, release_of}
+use Rattle.pcache_history.specs.Rules.{release_of}
+use Rattle.pcache_world.specs.Step.{permit_in}
+use Rattle.pcache_world.proofs.Words.{rules, inl, ◌≡◌, ◌++◌, None, Option, Some, refl, ap, subst, ◌∙◌, Meta, status_for, dropped_by, left_by, reader_of, Ongoing, MovesStore, no_facts, FollowsRule, drop_of, each, permit_of, held_with, MovesLocks, deeds_by, GiveUp}
 use Rattle.pcache_history.specs.declared.call.Act.TheVariants as C
 use Rattle.pcache_history.specs.declared.call.RequestAct.TheVariants as Q
 use Rattle.pcache_history.specs.declared.call.Reply.TheVariants as replies
 use Rattle.pcache_history.specs.declared.entry.Event.TheVariants as E
-use Rattle.pcache_world.specs.Step.{permit_in}
 use Rattle.pcache_world.proofs.MovesOf.{switches-off}
 use Rattle.pcache_world.proofs.Noted.{permit-named}
-use Rattle.pcache_world.specs.Opens.{held_with}
-use Rattle.pcache_world.specs.LockMoves.{MovesLocks}
-use Rattle.pcache_history.specs.Deeds.{deeds_by}
 use Rattle.pcache_world.proofs.LockSteps.{settle-then}
 use Rattle.pcache_world.proofs.Waiting.{status-reason}
-use Rattle.pcache_lock.specs.declared.lock.status.LockStatus.TheVariants.{GiveUp}
 use Rattle.pcache_world.proofs.world.switch.disable.Goals as goal
 
 pub returns-clause-moves : goal.returns-clause-moves

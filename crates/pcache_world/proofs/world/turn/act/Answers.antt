@@ -1,6 +1,5 @@
-use Rattle.std.proofs.Common.{[], refl}
+use Rattle.pcache_world.proofs.Words.{[], refl, of_two}
 use Rattle.pcache_history.specs.declared.call.Act.TheVariants as C
-use Rattle.pcache_world.specs.Handing.{of_two}
 use Rattle.pcache_world.proofs.OfParts.{acts-over}
 use Rattle.pcache_world.proofs.PutTurns.{close-turn, drop-turn, push-turn, puts-closed, puts-dropped, puts-ended, puts-opened, puts-pushed}
 use Rattle.pcache_world.proofs.TurnOf.{acts-as, end-of, moved-by-row, open-of, row-at}

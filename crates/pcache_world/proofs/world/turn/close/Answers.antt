@@ -1,11 +1,9 @@
-use Rattle.std.proofs.Common.{◌≡◌, ◌++◌, ap, refl, ◌∙◌}
-use Rattle.pcache_history.specs.Ongoing.{Ongoing}
-use Rattle.pcache_history.specs.Rules.{drop_of}
-use Rattle.pcache_history.specs.declared.entry.Event.TheVariants.{Dropped, LetGo}
+use Rattle.pcache_history.specs.declared.entry.Event.TheVariants.{LetGo}
+use Rattle.pcache_lock.specs.declared.lock.status.LockStatus.TheVariants.{Done}
+use Rattle.pcache_world.proofs.Words.{◌≡◌, ◌++◌, ap, refl, ◌∙◌, Ongoing, drop_of, Dropped}
 use Rattle.pcache_world.proofs.MovesOf.{ends, push-some, push-none}
 use Rattle.pcache_world.proofs.world.turn.close.Goals as goal
 use Rattle.pcache_world.proofs.LockSteps.{ended-locks}
-use Rattle.pcache_lock.specs.declared.lock.status.LockStatus.TheVariants.{Done}
 use Rattle.pcache_world.proofs.world.turn.close.Goals.{in-Some, in_default}
 
 pub returns-in-Some-let_go-clause-moves : goal.returns-in-Some-let_go-clause-moves

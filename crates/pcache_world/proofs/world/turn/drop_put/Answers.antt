@@ -1,9 +1,4 @@
-use Rattle.std.proofs.Common.{rules, ◌≡◌, Option, None, Some, sym, subst}
-use Rattle.std.specs.BTreeMap.{is_at}
-use Rattle.std.specs.Map.{lookup}
-use Rattle.std.specs.Ordering.{nat_cmp}
-use Rattle.pcache_history.specs.Ongoing.{Ongoing}
-use Rattle.pcache_world.specs.Moved.{MovesStore}
+use Rattle.pcache_world.proofs.Words.{rules, ◌≡◌, Option, None, Some, sym, subst, is_at, lookup, nat_cmp, Ongoing, MovesStore}
 use Rattle.pcache_world.proofs.world.turn.drop_put.Goals as goal
 
 pub returns-clause-moves : goal.returns-clause-moves

@@ -1,12 +1,5 @@
-use Rattle.std.proofs.Common.{rules, ◌≡◌, Option, None, Some, sym, subst, refl}
-use Rattle.std.specs.BTreeMap.{is_at}
-use Rattle.std.specs.Map.{lookup}
-use Rattle.std.specs.Ordering.{nat_cmp}
-use Rattle.pcache_history.specs.Ongoing.{Ongoing}
-use Rattle.pcache_world.specs.Moved.{MovesStore}
-use Rattle.pcache_world.specs.LockMoves.{MovesLocks}
-use Rattle.pcache_history.specs.Deeds.{deeds_by, held_in}
 use Rattle.pcache_lock.specs.declared.lock.status.LockStatus.TheVariants.{Done}
+use Rattle.pcache_world.proofs.Words.{rules, ◌≡◌, Option, None, Some, sym, subst, refl, is_at, lookup, nat_cmp, Ongoing, MovesStore, MovesLocks, deeds_by, held_in}
 use Rattle.pcache_world.proofs.LockSteps.{none_noted}
 use Rattle.pcache_world.proofs.world.turn.end.Goals as goal
 

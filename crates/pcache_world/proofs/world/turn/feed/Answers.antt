@@ -1,9 +1,4 @@
-use Rattle.std.proofs.Common.{rules, refl, subst, sym}
-use Rattle.pcache_history.specs.declared.call.Act.TheVariants.{Feed}
-use Rattle.pcache_world.specs.Handing.{open_at}
-use Rattle.pcache_world.specs.PartFacts.{facts_in}
-use Rattle.pcache_world.specs.PutsSound.{HasSome}
-use Rattle.pcache_world.specs.State.{State}
+use Rattle.pcache_world.proofs.Words.{rules, refl, subst, sym, Feed, open_at, facts_in, HasSome, State}
 use Rattle.pcache_world.proofs.OfParts.{turn-over}
 use Rattle.pcache_world.proofs.PutTurns.{fed-turn, feeds-answered, ignores-nowhere, ignores-plain, none-answered, none-is-there, other-answered, puts-wrong}
 use Rattle.pcache_world.proofs.TurnOf.{wrong-turned}

@@ -1,12 +1,8 @@
-use Rattle.std.proofs.Common.{[], Option, Some, refl, ap, subst, option_map}
-use Rattle.pcache_meta.specs.Meta.{Meta}
+use Rattle.std.proofs.Common.{option_map}
 use Rattle.pcache_request.specs.Requests.{Request}
-use Rattle.pcache_store.specs.Readers.{reader_of}
 use Rattle.pcache_store.specs.Store.{Reader}
-use Rattle.pcache_history.specs.Ongoing.{Ongoing}
-use Rattle.pcache_world.specs.Moved.{MovesStore}
+use Rattle.pcache_world.proofs.Words.{[], Option, Some, refl, ap, subst, Meta, reader_of, Ongoing, MovesStore, held_with}
 use Rattle.pcache_world.proofs.MovesOf.{let-go}
-use Rattle.pcache_world.specs.Opens.{held_with}
 use Rattle.pcache_world.proofs.world.turn.miss.Goals as goal
 
 pub returns-clause-moves : goal.returns-clause-moves

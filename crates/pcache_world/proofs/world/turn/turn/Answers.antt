@@ -1,12 +1,6 @@
-use Rattle.std.proofs.Common.{Some, List, sym, subst}
-use Rattle.pcache_history.specs.Deeds.{deeds_in}
-use Rattle.pcache_history.specs.Ongoing.{kind_of_reply}
-use Rattle.pcache_history.specs.declared.entry.Event.{Event}
 use Rattle.pcache_history.specs.declared.call.Act.TheVariants.{Request}
-use Rattle.pcache_history.specs.declared.call.RequestAct.{RequestAct}
 use Rattle.pcache_history.specs.declared.call.RequestAct.TheVariants.{Publish}
-use Rattle.pcache_world.specs.LockMoves.{MovesLocks}
-use Rattle.pcache_world.specs.Step.{AnswersOf}
+use Rattle.pcache_world.proofs.Words.{Some, List, sym, subst, deeds_in, kind_of_reply, Event, RequestAct, MovesLocks, AnswersOf}
 use Rattle.pcache_world.proofs.OfParts.{answers-over, arm-locks-over, moves-over}
 use Rattle.pcache_world.proofs.TurnOf.{moves_quietly}
 use Rattle.pcache_world.proofs.world.turn.turn.Goals as goal

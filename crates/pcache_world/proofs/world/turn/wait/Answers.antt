@@ -1,5 +1,5 @@
-use Rattle.std.proofs.Common.{rules, refl, inl}
 use Rattle.pcache_history.specs.declared.call.Act.TheVariants.{Wait}
+use Rattle.pcache_world.proofs.Words.{rules, refl, inl}
 use Rattle.pcache_world.proofs.OfParts.{turn-over}
 use Rattle.pcache_world.proofs.PutTurns.{none-answered, other-answered, put-is-there, puts-plain, puts-wrong}
 use Rattle.pcache_world.proofs.TurnOf.{turn-of, wrong-turned}

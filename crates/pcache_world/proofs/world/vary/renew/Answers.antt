@@ -1,13 +1,10 @@
-use Rattle.std.proofs.Common.{◌≡◌, refl, ap, sym, ◌∙◌}
-use Rattle.pcache_request.specs.Renewals.{renewed_by}
 use Rattle.pcache_request.specs.Requests.{Request}
-use Rattle.pcache_history.specs.Rules.{permit_of}
 use Rattle.pcache_world.specs.Step.{permit_in}
+use Rattle.pcache_lock.specs.declared.lock.status.LockStatus.TheVariants.{Done}
+use Rattle.pcache_world.proofs.Words.{◌≡◌, refl, ap, sym, ◌∙◌, renewed_by, permit_of, held_with}
 use Rattle.pcache_world.proofs.MovesOf.{renews}
 use Rattle.pcache_world.proofs.Noted.{permit-named, renewed-as, renews-told}
-use Rattle.pcache_world.specs.Opens.{held_with}
 use Rattle.pcache_world.proofs.LockSteps.{renewed-locks}
-use Rattle.pcache_lock.specs.declared.lock.status.LockStatus.TheVariants.{Done}
 use Rattle.pcache_world.proofs.world.vary.renew.Goals as goal
 
 pub returns-clause-answers : goal.returns-clause-answers

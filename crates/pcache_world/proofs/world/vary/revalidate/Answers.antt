@@ -1,16 +1,8 @@
-use Rattle.std.proofs.Common.{◌≡◌, rules, inl, Option, Some, ap, sym, subst, ◌∙◌, option_map}
-use Rattle.pcache_meta.specs.Meta.{Meta}
+use Rattle.std.proofs.Common.{option_map}
 use Rattle.pcache_request.specs.Stale.{MayRevalidate}
-use Rattle.pcache_store.specs.Readers.{reader_of}
 use Rattle.pcache_store.specs.Store.{Reader}
-use Rattle.pcache_world.specs.PartFacts.{facts_in}
-use Rattle.pcache_history.specs.Ongoing.{Ongoing}
-use Rattle.pcache_world.specs.Moved.{MovesStore}
-use Rattle.pcache_history.specs.Rules.{Renews}
-use Rattle.pcache_world.specs.Opens.{held_with}
-use Rattle.pcache_world.specs.LockMoves.{MovesLocks}
-use Rattle.pcache_history.specs.Deeds.{deeds_by}
 use Rattle.pcache_lock.specs.declared.lock.status.LockStatus.TheVariants.{Done}
+use Rattle.pcache_world.proofs.Words.{◌≡◌, rules, inl, Option, Some, ap, sym, subst, ◌∙◌, Meta, reader_of, facts_in, Ongoing, MovesStore, Renews, held_with, MovesLocks, deeds_by}
 use Rattle.pcache_world.proofs.world.vary.revalidate.Goals as goal
 
 pub returns-clause-answers : goal.returns-clause-answers

@@ -1,6 +1,5 @@
-use Rattle.std.proofs.Common.{Err, ap, sym, subst, ◌∙◌}
+use Rattle.pcache_world.proofs.Words.{Err, ap, sym, subst, ◌∙◌, HasCause}
 use Rattle.pcache_history.specs.declared.call.Reply.TheVariants as R
-use Rattle.pcache_world.specs.FilesCalls.{HasCause}
 use Rattle.pcache_world.proofs.FilesCalls.{has-cause}
 use Rattle.pcache_world.proofs.world.world_type.load_if.Goals as goal
 use Rattle.pcache_world.proofs.world.world_type.load_if.Goals.{in-Ok, in-Err}

@@ -1,5 +1,4 @@
-use Rattle.std.proofs.Common.{ap}
-use Rattle.pcache_world.specs.State.{State}
+use Rattle.pcache_world.proofs.Words.{ap, State}
 use Rattle.pcache_world.proofs.FilesCalls.{save-answers, save-cause, save-saves}
 use Rattle.pcache_world.proofs.world.world_type.saved_in.Goals as goal
 

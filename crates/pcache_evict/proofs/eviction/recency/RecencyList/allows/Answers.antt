@@ -1,5 +1,6 @@
 use Rattle.std.proofs.Common.{◌≡◌, ◌∙◌, ap, arith, length}
 use Rattle.std.proofs.lemmas.Bool.{not-true}
+use Rattle.pcache_evict.specs.declared.eviction.policy.EvictionPolicy.TheVariants.{Lru}
 use Rattle.pcache_evict.specs.Recency.{Recency, weight}
 use Rattle.pcache_evict.proofs.Recency.{weight_bound}
 use Rattle.pcache_evict.proofs.Chains.{small_inside}
@@ -15,4 +16,4 @@ pub returns-clause-inside : goal.returns-clause-inside
 returns-clause-inside g c = λ e l light short.
     let whole : c.self.inside.weight ≡ weight c.args.self.now = c.self.invariant.summed ∙ ap weight c.self.view_is in
     let many = ap (λ (l : Recency). length l) c.self.view_is in
-    small_inside _ _ _ (c.exceeds.ensures.small (not-true c.exceeds.result e)) l (omega (arith, light, whole)) (omega (arith, short, many, c.len.ensures.len))
+    small_inside _ _ _ (c.exceeds.ensures.small Lru (not-true c.exceeds.result e)) l (omega (arith, light, whole)) (omega (arith, short, many, c.len.ensures.len))

@@ -1,12 +1,14 @@
 use Rattle.std.proofs.Common.{◌≡◌, length}
 use Rattle.std.specs.Vec.{vec_capacity}
+use Rattle.pcache_evict.specs.declared.eviction.policy.EvictionPolicy.TheVariants.{Lru}
+use Rattle.pcache_evict.specs.Tracked.{limits_of}
 use Rattle.pcache_evict.proofs.Walks.{Pops}
 use Rattle.pcache_evict.proofs.eviction.recency.RecencyList.evict.Given as goal
 
 abbrev pub invariant-loop-watermark : goal.invariant-loop-watermark
 invariant-loop-watermark g l =
     record {
-      pops : Pops (record { weight = l.limit; watermark = l.watermark }) l.fn.self l.self l.out.items;
+      pops : Pops (limits_of Lru l.limit l.watermark) l.fn.self l.self l.out.items;
       room : vec_capacity l.out ≡ vec_capacity l.fn.out;
     }
 

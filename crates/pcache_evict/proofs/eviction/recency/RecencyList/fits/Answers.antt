@@ -1,5 +1,6 @@
 use Rattle.std.proofs.Common.{arith}
 use Rattle.std.proofs.lemmas.Bool.{not-true, not-false}
+use Rattle.pcache_evict.specs.declared.eviction.policy.EvictionPolicy.TheVariants.{Lru}
 use Rattle.pcache_evict.specs.Recency.{moved}
 use Rattle.pcache_evict.proofs.Recency.{weight-moved}
 use Rattle.pcache_evict.proofs.eviction.recency.RecencyList.fits.Goals as goal
@@ -7,9 +8,9 @@ use Rattle.pcache_evict.proofs.eviction.recency.RecencyList.fits.Goals as goal
 pub returns-clause-inside : goal.returns-clause-inside
 returns-clause-inside g c = λ e.
     let whole = weight-moved c.args.item.now c.args.size c.args.self.now in
-    c.exceeds.ensures.within (not-true c.exceeds.result e) (moved c.args.item.now c.args.size c.args.self.now) (omega (arith, whole, c.requires.sum)) (omega (arith, c.requires.count))
+    c.exceeds.ensures.within Lru (not-true c.exceeds.result e) (moved c.args.item.now c.args.size c.args.self.now) (omega (arith, whole, c.requires.sum)) (omega (arith, c.requires.count))
 
 pub returns-clause-outside : goal.returns-clause-outside
 returns-clause-outside g c = λ e.
     let whole = weight-moved c.args.item.now c.args.size c.args.self.now in
-    c.exceeds.ensures.over (not-false c.exceeds.result e) (moved c.args.item.now c.args.size c.args.self.now) (omega (arith, whole, c.requires.sum)) (omega (arith, c.requires.count))
+    c.exceeds.ensures.over Lru (not-false c.exceeds.result e) (moved c.args.item.now c.args.size c.args.self.now) (omega (arith, whole, c.requires.sum)) (omega (arith, c.requires.count))

@@ -1,4 +1,5 @@
 use Rattle.std.proofs.Common.{◌≡◌, ap, subst, ◌∙◌, refl, arith, length}
+use Rattle.pcache_evict.specs.declared.eviction.policy.EvictionPolicy.TheVariants.{Lru}
 use Rattle.pcache_evict.specs.Recency.{Recency, weight}
 use Rattle.pcache_evict.specs.Listed.{IsOnce}
 use Rattle.pcache_evict.proofs.Recency.{weight_bound, weight-others, length-others}
@@ -30,4 +31,13 @@ returns g c =
     let parts = weight-others c.args.item.now c.args.self.now once in
     let many = ap (λ (l : Recency). length l) c.self.view_is in
     let longer = length-others c.args.item.now c.args.self.now once in
-    enough_above _ _ c.args.size _ _ _ c.walk.ensures refl (omega (arith, whole, parts)) (omega (arith, c.len.ensures.len, many, longer))
+    enough_above _ _ c.args.size _ _ _ (c.walk.ensures Lru) refl (omega (arith, whole, parts)) (omega (arith, c.len.ensures.len, many, longer))
+
+pub overflow_add-result : goal.overflow_add-result
+overflow_add-result g c =
+    let w = c.walk.ensures Lru in
+    let count = w.count in
+    let room = w.room in
+    let few = c.self.invariant.few in
+    let long = c.len.ensures.len in
+    omega arith

@@ -1,6 +1,7 @@
-use Rattle.std.proofs.Common.{[], ◌∙◌, ap, sym, arith, length}
+use Rattle.std.proofs.Common.{[], ◌∙◌, ap, sym, arith, length, refl}
 use Rattle.std.proofs.lemmas.List.{append-nil}
 use Rattle.pcache_evict.specs.Recency.{Recency, weight, others}
+use Rattle.pcache_evict.proofs.Chains.{walk-ends}
 use Rattle.pcache_evict.proofs.eviction.recency.RecencyList.walk.Goals as goal
 
 -- nothing was passed yet
@@ -17,3 +18,7 @@ loop-left-init g c =
       room = omega arith;
       fits = omega arith;
     }
+
+pub returns : goal.returns
+returns g c = λ policy.
+    walk-ends _ c.args.item.now c.args.self.now c.loop-left.left _ _ c.requires.sum c.requires.count c.loop-left.invariant (c.loop-left-test.ensures.small policy refl)

@@ -1,4 +1,6 @@
 use Rattle.std.proofs.Common.{arith, subst, sym}
+use Rattle.pcache_evict.specs.declared.eviction.policy.EvictionPolicy.TheVariants.{ShardedLru}
+use Rattle.pcache_evict.specs.Tracked.{limits_of}
 use Rattle.pcache_evict.specs.Recency.{IsWithinAsList}
 use Rattle.pcache_evict.specs.Shards.{ArePlaced, all}
 use Rattle.pcache_evict.proofs.Sharded.{placed-reweighed}
@@ -13,9 +15,9 @@ keep_limits-requires g c =
         within,
         (
           c.new.ensures.items,
-          enough-now (record { weight = c.self.inside.limit; watermark = c.self.inside.watermark }) g.row.N c.place_of-place.result _ c.reweigh.new.self
+          enough-now (limits_of ShardedLru c.self.inside.limit c.self.inside.watermark) g.row.N c.place_of-place.result _ c.reweigh.new.self
               (subst (ArePlaced g.row.N) (sym c.reweigh.ensures) (placed-reweighed g.row.N c.args.item.now c.args.size c.self.inside.shards c.len.ensures.placed)) within
-              (subst (λ s. IsWithinAsList (record { weight = c.self.inside.limit; watermark = c.self.inside.watermark }) (all s)) (sym c.reweigh.ensures) (c.fits-fits.ensures.inside c.if-fits.true)),
+              (subst (λ s. IsWithinAsList (limits_of ShardedLru c.self.inside.limit c.self.inside.watermark) (all s)) (sym c.reweigh.ensures) (c.fits-fits.ensures.inside c.if-fits.true)),
         ),
       ),
     )

@@ -1,4 +1,6 @@
 use Rattle.std.proofs.Common.{◌∙◌, sym, subst, refl, arith}
+use Rattle.pcache_evict.specs.declared.eviction.policy.EvictionPolicy.TheVariants.{ShardedLru}
+use Rattle.pcache_evict.specs.Tracked.{limits_of}
 use Rattle.pcache_evict.specs.Shards.{all}
 use Rattle.pcache_evict.specs.Chain.{chain}
 use Rattle.pcache_evict.proofs.Walks.{Pops, pops-more, pops-room}
@@ -7,7 +9,7 @@ use Rattle.pcache_evict.proofs.eviction.shards.RecencyShards.evict.Goals as goal
 
 pub push_reserved-requires : goal.push_reserved-requires
 push_reserved-requires g c =
-    let over = c.loop-watermark-test.ensures.over refl (all c.loop-watermark.self) c.weight.ensures.value c.len.ensures.value in
+    let over = c.loop-watermark-test.ensures.over ShardedLru refl (all c.loop-watermark.self) c.weight.ensures.value c.len.ensures.value in
     let room = pops-room _ _ _ _ _ c.loop-watermark.invariant.pops (λ i. over (inside-chain _ g.row.N c.args.place c.loop-watermark.self c.weight.ensures.placed.long c.requires.within i)) c.requires.room in
     omega (arith, c.loop-watermark.invariant.room, c.loop-watermark.out.ok.0)
 
@@ -18,15 +20,15 @@ pub loop-watermark-preserved : goal.loop-watermark-preserved
 loop-watermark-preserved g c =
     let i = c.loop-watermark.invariant in
     let p = c.in-Some.ensures.some in
-    let over = c.loop-watermark-test.ensures.over refl (all c.loop-watermark.self) c.weight.ensures.value c.len.ensures.value in
+    let over = c.loop-watermark-test.ensures.over ShardedLru refl (all c.loop-watermark.self) c.weight.ensures.value c.len.ensures.value in
     record {
-      runs = subst (λ out. RunsTo (record { weight = c.args.limit; watermark = c.args.watermark }) c.args.self.now out c.pop_first.new.self) (sym c.push_reserved.ensures.items)
+      runs = subst (λ out. RunsTo (limits_of ShardedLru c.args.limit c.args.watermark) c.args.self.now out c.pop_first.new.self) (sym c.push_reserved.ensures.items)
           (runs-more _ g.row.N c.args.place c.loop-watermark.out.items c.args.self.now c.loop-watermark.self c.pop_first.new.self c.in-Some.key i.runs over p);
-      pops = subst (Pops (record { weight = c.args.limit; watermark = c.args.watermark }) (chain g.row.N c.args.place c.args.self.now) (chain g.row.N c.args.place c.pop_first.new.self)) (sym c.push_reserved.ensures.items)
+      pops = subst (Pops (limits_of ShardedLru c.args.limit c.args.watermark) (chain g.row.N c.args.place c.args.self.now) (chain g.row.N c.args.place c.pop_first.new.self)) (sym c.push_reserved.ensures.items)
           (pops-more _ _ _ _ (c.in-Some.key, p.size) _ i.pops p.last (λ j. over (inside-chain _ g.row.N c.args.place c.loop-watermark.self c.weight.ensures.placed.long c.requires.within j)));
       lighter = let less = pop-weight _ _ _ _ _ p in let before = i.lighter in omega arith;
       room = c.push_reserved.ensures.capacity ∙ i.room;
     }
 
 pub returns-clause-runs : goal.returns-clause-runs
-returns-clause-runs g c = runs-done _ _ _ _ c.loop-watermark.invariant.runs (c.loop-watermark-test.ensures.within refl (all c.loop-watermark.self) c.weight.ensures.value c.len.ensures.value)
+returns-clause-runs g c = runs-done _ _ _ _ c.loop-watermark.invariant.runs (c.loop-watermark-test.ensures.within ShardedLru refl (all c.loop-watermark.self) c.weight.ensures.value c.len.ensures.value)

@@ -1,5 +1,7 @@
 use Rattle.std.proofs.Common.{◌≡◌, ◌≤◌, length}
 use Rattle.std.specs.Vec.{vec_capacity}
+use Rattle.pcache_evict.specs.declared.eviction.policy.EvictionPolicy.TheVariants.{ShardedLru}
+use Rattle.pcache_evict.specs.Tracked.{limits_of}
 use Rattle.pcache_evict.specs.Recency.{weight}
 use Rattle.pcache_evict.specs.Shards.{all}
 use Rattle.pcache_evict.specs.Chain.{chain}
@@ -10,8 +12,8 @@ use Rattle.pcache_evict.proofs.eviction.shards.RecencyShards.evict.Given as goal
 abbrev pub invariant-loop-watermark : goal.invariant-loop-watermark
 invariant-loop-watermark g l =
     record {
-      runs : RunsTo (record { weight = l.limit; watermark = l.watermark }) l.fn.self l.out.items l.self;
-      pops : Pops (record { weight = l.limit; watermark = l.watermark }) (chain g.row.N l.place l.fn.self) (chain g.row.N l.place l.self) l.out.items;
+      runs : RunsTo (limits_of ShardedLru l.limit l.watermark) l.fn.self l.out.items l.self;
+      pops : Pops (limits_of ShardedLru l.limit l.watermark) (chain g.row.N l.place l.fn.self) (chain g.row.N l.place l.self) l.out.items;
       lighter : weight (all l.self) ≤ weight (all l.fn.self);
       room : vec_capacity l.out ≡ vec_capacity l.fn.out;
     }

@@ -1,11 +1,12 @@
 use Rattle.std.proofs.Common.{arith, refl, subst, ◌+◌, ◌-◌, ◌≡◌}
+use Rattle.pcache_evict.specs.declared.eviction.policy.EvictionPolicy.TheVariants.{ShardedLru}
 use Rattle.pcache_evict.specs.Shards.{ArePlaced}
 use Rattle.pcache_evict.proofs.Chains.{room-none, room-stopped, room-whole, parts-others, second-fits}
 use Rattle.pcache_evict.proofs.eviction.shards.RecencyShards.room_for.Goals as goal
 
 pub returns-then-not-exceeds : goal.returns-then-not-exceeds
 returns-then-not-exceeds g c =
-    room-none g.row.N _ c.args.item.now c.args.size c.args.self.now (c.args.rest.0 + c.args.size) (c.args.rest.1 + 1) (subst (ArePlaced g.row.N) c.self.view_is c.self.invariant.placed) (c.exceeds.ensures.small c.if-not-exceeds.true) (omega (arith, c.requires.sum)) (omega (arith, c.requires.count))
+    room-none g.row.N _ c.args.item.now c.args.size c.args.self.now (c.args.rest.0 + c.args.size) (c.args.rest.1 + 1) (subst (ArePlaced g.row.N) c.self.view_is c.self.invariant.placed) (c.exceeds.ensures.small ShardedLru c.if-not-exceeds.true) (omega (arith, c.requires.sum)) (omega (arith, c.requires.count))
 
 pub walk-behind-requires : goal.walk-behind-requires
 walk-behind-requires g c =
@@ -20,7 +21,7 @@ walk-behind-requires g c =
 
 pub returns-then-not-exceeds-2 : goal.returns-then-not-exceeds-2
 returns-then-not-exceeds-2 g c =
-    room-stopped g.row.N _ c.args.item.now c.args.size c.args.self.now c.place_of-place.result _ c.walk-behind.result (subst (ArePlaced g.row.N) c.self.view_is c.self.invariant.placed) c.place_of-place.ensures.value c.walk-behind.ensures (c.exceeds-2.ensures.small c.if-not-exceeds-2.true) refl (omega (arith, c.requires.sum)) (omega (arith, c.requires.count))
+    room-stopped g.row.N _ c.args.item.now c.args.size c.args.self.now c.place_of-place.result _ c.walk-behind.result (subst (ArePlaced g.row.N) c.self.view_is c.self.invariant.placed) c.place_of-place.ensures.value c.walk-behind.ensures (c.exceeds-2.ensures.small ShardedLru c.if-not-exceeds-2.true) refl (omega (arith, c.requires.sum)) (omega (arith, c.requires.count))
 
 pub walk-end-requires : goal.walk-end-requires
 walk-end-requires g c =
@@ -34,4 +35,4 @@ walk-end-requires g c =
 pub returns : goal.returns
 returns g c =
     let same : c.place_of-place.result + 1 - 0 ≡ c.place_of-place.result + 1 = omega arith in
-    room-whole g.row.N _ c.args.item.now c.args.size c.args.self.now c.place_of-place.result (c.place_of-place.result + 1 - 0) _ c.walk-behind.result c.walk-end.result (subst (ArePlaced g.row.N) c.self.view_is c.self.invariant.placed) c.place_of-place.ensures.value c.walk-behind.ensures (c.exceeds-2.ensures.above c.if-not-exceeds-2.false) same c.walk-end.ensures refl (omega (arith, c.requires.sum)) (omega (arith, c.requires.count))
+    room-whole g.row.N _ c.args.item.now c.args.size c.args.self.now c.place_of-place.result (c.place_of-place.result + 1 - 0) _ c.walk-behind.result c.walk-end.result (subst (ArePlaced g.row.N) c.self.view_is c.self.invariant.placed) c.place_of-place.ensures.value c.walk-behind.ensures (c.exceeds-2.ensures.above ShardedLru c.if-not-exceeds-2.false) same c.walk-end.ensures refl (omega (arith, c.requires.sum)) (omega (arith, c.requires.count))

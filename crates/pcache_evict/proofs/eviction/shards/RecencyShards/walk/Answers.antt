@@ -1,4 +1,5 @@
 use Rattle.std.proofs.Common.{arith, sym, subst, length, ◌≤◌}
+use Rattle.pcache_evict.specs.declared.eviction.policy.EvictionPolicy.TheVariants.{ShardedLru}
 use Rattle.pcache_evict.specs.Recency.{weight, others}
 use Rattle.pcache_evict.specs.Tracked.{limits_of}
 use Rattle.pcache_evict.specs.Chain.{Walks}
@@ -7,7 +8,7 @@ use Rattle.pcache_evict.proofs.eviction.shards.RecencyShards.walk.Goals as goal
 
 pub returns-then-not-exceeds : goal.returns-then-not-exceeds
 returns-then-not-exceeds g c =
-    walk-stops _ c.args.item.now c.args.self.now c.args.from c.args.to c.loop-place.place c.args.start c.loop-place.walk c.loop-place.invariant.order (omega arith) c.loop-place.invariant.walks (c.exceeds.ensures.small c.if-not-exceeds.true)
+    walk-stops _ c.args.item.now c.args.self.now c.args.from c.args.to c.loop-place.place c.args.start c.loop-place.walk c.loop-place.invariant.order (omega arith) c.loop-place.invariant.walks (c.exceeds.ensures.small ShardedLru c.if-not-exceeds.true)
 
 pub walk-walk-requires-clause-sum : goal.walk-walk-requires-clause-sum
 walk-walk-requires-clause-sum g c =
@@ -33,7 +34,7 @@ pub loop-place-preserved : goal.loop-place-preserved
 loop-place-preserved g c =
     let i = c.loop-place.invariant in
     record {
-      walks = walk-next _ c.args.item.now c.args.self.now c.args.from c.loop-place.place c.args.start c.loop-place.walk c.walk-walk.result i.order i.walks (c.exceeds.ensures.above c.if-not-exceeds.false) (subst (λ l. Walks (limits_of c.args.limit c.args.watermark) c.args.item.now l c.loop-place.walk c.walk-walk.result) c.list-list.ensures c.walk-walk.ensures);
+      walks = walk-next _ c.args.item.now c.args.self.now c.args.from c.loop-place.place c.args.start c.loop-place.walk c.walk-walk.result i.order i.walks (c.exceeds.ensures.above ShardedLru c.if-not-exceeds.false) (subst (λ l. Walks (limits_of ShardedLru c.args.limit c.args.watermark) c.args.item.now l c.loop-place.walk c.walk-walk.result) c.list-list.ensures (c.walk-walk.ensures ShardedLru));
       order = let low = i.order in omega arith;
     }
 

@@ -1,5 +1,6 @@
 use Rattle.std.proofs.Common.{◌∙◌, sym, subst, ap, arith}
 use Rattle.std.specs.Vec.{vec_capacity}
+use Rattle.pcache_evict.specs.declared.eviction.policy.EvictionPolicy.TheVariants.{Lru}
 use Rattle.pcache_evict.specs.Recency.{incremented}
 use Rattle.pcache_evict.specs.Listed.{Listed, IsEnough, IsOnce}
 use Rattle.pcache_evict.specs.Tracked.{limits_of}
@@ -11,7 +12,7 @@ keep_limits-requires-clause-room g c =
     let less = incremented_less c.args.item.now c.args.delta c.args.max_weight c.self.inside.list c.allows.ensures.once (sym c.raise.ensures.was ∙ c.if-raise.true) in
     let short = less.1 in
     let inside = c.allows.ensures.inside c.if-allows.true (incremented c.args.item.now c.args.delta c.args.max_weight c.self.inside.list) less.0 (omega (arith, short)) in
-    subst (λ l. IsEnough (limits_of c.self.inside.limit c.self.inside.watermark) l (vec_capacity c.new.result)) (sym (c.raise.ensures.there c.if-raise.true)) (enough_inside _ _ _ inside)
+    subst (λ l. IsEnough (limits_of Lru c.self.inside.limit c.self.inside.watermark) l (vec_capacity c.new.result)) (sym (c.raise.ensures.there c.if-raise.true)) (enough_inside _ _ _ inside)
 
 pub returns-then-raise-clause-once : goal.returns-then-raise-clause-once
 returns-then-raise-clause-once g c = subst IsOnce (ap (λ (l : Listed). l.entries) c.self.view_is) c.allows.ensures.once

@@ -1,5 +1,6 @@
 use Rattle.std.proofs.Common.{sym, subst}
 use Rattle.std.specs.Vec.{vec_capacity}
+use Rattle.pcache_evict.specs.declared.eviction.policy.EvictionPolicy.TheVariants.{Lru}
 use Rattle.pcache_evict.specs.Recency.{moved}
 use Rattle.pcache_evict.specs.Listed.{IsEnough}
 use Rattle.pcache_evict.specs.Tracked.{limits_of}
@@ -10,4 +11,4 @@ pub keep_limits-requires-clause-room : goal.keep_limits-requires-clause-room
 keep_limits-requires-clause-room g c =
     let less = moved_less c.args.item c.args.size c.self.inside.list c.allows.ensures.once in
     let inside = c.allows.ensures.inside c.if-allows.true (moved c.args.item c.args.size c.self.inside.list) less.0 less.1 in
-    subst (λ l. IsEnough (limits_of c.self.inside.limit c.self.inside.watermark) l (vec_capacity c.new.result)) (sym c.in_ok-put.ensures.ok) (enough_inside _ _ _ inside)
+    subst (λ l. IsEnough (limits_of Lru c.self.inside.limit c.self.inside.watermark) l (vec_capacity c.new.result)) (sym c.in_ok-put.ensures.ok) (enough_inside _ _ _ inside)

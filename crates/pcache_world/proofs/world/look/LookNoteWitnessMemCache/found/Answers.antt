@@ -1,8 +1,4 @@
-use Rattle.std.proofs.Common.{◌≡◌, Some, refl, subst, ◌∙◌}
-use Rattle.pcache_meta.specs.Meta.{Meta}
-use Rattle.pcache_store.specs.Readers.{reader_of}
-use Rattle.pcache_history.specs.Ongoing.{pair_of}
-use Rattle.pcache_world.specs.Step.{IsAnswered}
+use Rattle.pcache_world.proofs.Words.{◌≡◌, Some, refl, subst, ◌∙◌, Meta, reader_of, pair_of, IsAnswered}
 use Rattle.pcache_world.proofs.Noted.{found-answered}
 use Rattle.pcache_world.proofs.world.look.LookNoteWitnessMemCache.found.Goals as goal
 

@@ -1,6 +1,4 @@
-use Rattle.std.proofs.Common.{IsSome, refl, subst, sym}
-use Rattle.pcache_history.specs.Ongoing.{Ongoing}
-use Rattle.pcache_history.specs.Taking.{taking}
+use Rattle.pcache_world.proofs.Words.{IsSome, refl, subst, sym, Ongoing, taking}
 use Rattle.pcache_world.proofs.world.puts.OpenPut.is_held.Goals as goal
 
 pub returns-clause-held : goal.returns-clause-held

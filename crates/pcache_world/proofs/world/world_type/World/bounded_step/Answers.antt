@@ -1,5 +1,5 @@
-use Rattle.pcache_history.proofs.Promised.{stays_within}
 use Rattle.pcache_history.proofs.SettlesLaw.{settles_always}
+use Rattle.pcache_world.proofs.Words.{stays_within}
 use Rattle.pcache_world.proofs.world.world_type.World.bounded_step.Goals as goal
 
 pub returns-clause-within : goal.returns-clause-within

@@ -1,4 +1,5 @@
-use Rattle.pcache_history.proofs.Promised.{finds_untouched, hands_on_unhidden, finishes_untouched, hits_the_last, stays_within, evicts_nothing_within, gives_where_none_waits}
+use Rattle.pcache_history.proofs.Promised.{finds_untouched, hands_on_unhidden, finishes_untouched, hits_the_last, evicts_nothing_within, gives_where_none_waits}
+use Rattle.pcache_world.proofs.Words.{stays_within}
 use Rattle.pcache_world.proofs.world.world_type.World.headline.Goals as goal
 
 pub returns-clause-finds : goal.returns-clause-finds

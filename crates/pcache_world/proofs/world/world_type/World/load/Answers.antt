@@ -1,9 +1,5 @@
-use Rattle.std.proofs.Common.{◌++◌, ◌∷◌, [], ◌∙◌, ap, sym, subst, refl, reverse, is_none, is_some, not, true, false, Option, Bool, ◌≡◌}
-use Rattle.pcache_history.specs.declared.call.Call.{Call}
+use Rattle.pcache_world.proofs.Words.{◌++◌, ◌∷◌, [], ◌∙◌, ap, sym, subst, refl, reverse, is_none, is_some, not, true, false, Option, Bool, ◌≡◌, Call, files_in, is_load, only_loads, Log, AnswersFiles, HasCause}
 use Rattle.pcache_history.specs.declared.call.FilesAct.TheVariants as F
-use Rattle.pcache_history.specs.Files.{files_in, is_load, only_loads}
-use Rattle.pcache_history.specs.Log.{Log}
-use Rattle.pcache_world.specs.FilesCalls.{AnswersFiles, HasCause}
 use Rattle.pcache_world.proofs.FilesCalls.{files-puts-step, load-late, load-leaves, load-sound, told-files}
 use Rattle.pcache_world.proofs.PutSound.{puts-same}
 use Rattle.pcache_world.proofs.Worlds.{sound-at, sound-same}

@@ -1,8 +1,5 @@
-use Rattle.std.proofs.Common.{rules, ◌++◌, ◌∷◌, [], ◌∙◌, ap, sym, subst, refl, reverse, is_none, is_some, not, true, false, Option, Bool, ◌≡◌, inl}
+use Rattle.pcache_world.proofs.Words.{rules, ◌++◌, ◌∷◌, [], ◌∙◌, ap, sym, subst, refl, reverse, is_none, is_some, not, true, false, Option, Bool, ◌≡◌, inl, only_loads, Log, AnswersFiles}
 use Rattle.pcache_history.specs.declared.call.FilesAct.TheVariants as F
-use Rattle.pcache_history.specs.Files.{only_loads}
-use Rattle.pcache_history.specs.Log.{Log}
-use Rattle.pcache_world.specs.FilesCalls.{AnswersFiles}
 use Rattle.pcache_world.proofs.FilesCalls.{files-puts-step, is-load-of, load-late, load-sound, unloaded-answers, unloaded-nowhere}
 use Rattle.pcache_world.proofs.PutSound.{puts-same}
 use Rattle.pcache_world.proofs.Worlds.{sound-same}

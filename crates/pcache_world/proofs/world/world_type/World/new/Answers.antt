@@ -1,5 +1,4 @@
-use Rattle.std.proofs.Common.{ap, sym, reverse}
-use Rattle.pcache_history.specs.Files.{only_loads}
+use Rattle.pcache_world.proofs.Words.{ap, sym, reverse, only_loads}
 use Rattle.pcache_world.proofs.PutSound.{puts-none}
 use Rattle.pcache_world.proofs.Worlds.{sound-new}
 use Rattle.pcache_world.proofs.world.world_type.World.new.Goals as goal

@@ -1,6 +1,5 @@
-use Rattle.std.proofs.Common.{◌≡◌, ◌∙◌, ◌++◌, ◌∷◌, [], ap, sym, subst, refl, length, arith, append_assoc, length-append, vec_len}
-use Rattle.std.specs.Vec.Iter.{into_iter_items}
-use Rattle.pcache_history.specs.Log.{AddsAll, HasLegal}
+use Rattle.std.proofs.Common.{append_assoc}
+use Rattle.pcache_world.proofs.Words.{◌≡◌, ◌∙◌, ◌++◌, ◌∷◌, [], ap, sym, subst, refl, length, arith, length-append, vec_len, into_iter_items, AddsAll, HasLegal}
 use Rattle.pcache_world.proofs.History.{adds-more}
 use Rattle.pcache_world.proofs.world.world_type.World.run.Goals as goal
 

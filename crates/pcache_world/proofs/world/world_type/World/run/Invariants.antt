@@ -1,7 +1,5 @@
-use Rattle.std.proofs.Common.{◌≡◌, ◌≤◌, ◌++◌, vec_len, length}
 use Rattle.std.specs.Vec.{vec_capacity}
-use Rattle.std.specs.Vec.Iter.{into_iter_items}
-use Rattle.pcache_history.specs.Log.{AddsAll, HasLegal}
+use Rattle.pcache_world.proofs.Words.{◌≡◌, ◌≤◌, ◌++◌, vec_len, length, into_iter_items, AddsAll, HasLegal}
 use Rattle.pcache_world.proofs.world.world_type.World.run.Given as goal
 
 abbrev pub invariant-loop-call : goal.invariant-loop-call

@@ -1,13 +1,7 @@
-use Rattle.std.proofs.Common.{rules, ◌++◌, ◌∷◌, [], ◌∙◌, ap, sym, subst, reverse, is_none}
-use Rattle.pcache_evict.specs.Tracked.{Tracked}
 use Rattle.pcache_files.specs.Folder.{AreSaved}
-use Rattle.pcache_history.specs.declared.call.Call.{Call}
+use Rattle.pcache_world.specs.FilesCalls.{IsSavedOf}
+use Rattle.pcache_world.proofs.Words.{rules, ◌++◌, ◌∷◌, [], ◌∙◌, ap, sym, subst, reverse, is_none, Tracked, Call, files_in, is_load, only_loads, tracked, Log, events_in, IsFilesReply, HasCause, HasSaved}
 use Rattle.pcache_history.specs.declared.call.FilesAct.TheVariants as F
-use Rattle.pcache_history.specs.Files.{files_in, is_load, only_loads}
-use Rattle.pcache_history.specs.Events.{tracked}
-use Rattle.pcache_history.specs.Log.{Log, events_in}
-use Rattle.pcache_history.specs.Rules.{IsFilesReply}
-use Rattle.pcache_world.specs.FilesCalls.{HasCause, HasSaved, IsSavedOf}
 use Rattle.pcache_world.proofs.FilesCalls.{files-puts-step, files-step, other-late, told-files}
 use Rattle.pcache_world.proofs.PutSound.{puts-same}
 use Rattle.pcache_world.proofs.Worlds.{sound-same, started-once}

@@ -1,9 +1,6 @@
-use Rattle.std.proofs.Common.{rules, ◌++◌, ◌∷◌, [], ◌∙◌, ap, sym, refl, reverse, is_none, inl}
-use Rattle.pcache_base.specs.declared.error.ErrorType.TheVariants.{Io}
+use Rattle.pcache_world.proofs.Words.{rules, ◌++◌, ◌∷◌, [], ◌∙◌, ap, sym, refl, reverse, is_none, inl, Io, only_loads, Log}
 use Rattle.pcache_history.specs.declared.call.FilesAct.TheVariants as F
 use Rattle.pcache_history.specs.declared.call.Reply.TheVariants as R
-use Rattle.pcache_history.specs.Files.{only_loads}
-use Rattle.pcache_history.specs.Log.{Log}
 use Rattle.pcache_world.proofs.FilesCalls.{files-puts-step, files-step, is-save-of, other-late}
 use Rattle.pcache_world.proofs.PutSound.{puts-same}
 use Rattle.pcache_world.proofs.Worlds.{sound-same, started-once}

@@ -1,7 +1,5 @@
-use Rattle.std.proofs.Common.{rules, ◌≡◌, ◌≤◌, ap, sym, subst, ◌∙◌, IfSome}
+use Rattle.pcache_world.proofs.Words.{rules, ◌≡◌, ◌≤◌, ap, sym, subst, ◌∙◌, IfSome, slots, Log, events_in}
 use Rattle.pcache_store.specs.Totals as totals
-use Rattle.pcache_history.specs.Events.{slots}
-use Rattle.pcache_history.specs.Log.{Log, events_in}
 use Rattle.pcache_world.proofs.StateTotals.{slots-is}
 use Rattle.pcache_world.proofs.world.world_type.World.slots.Goals as goal
 

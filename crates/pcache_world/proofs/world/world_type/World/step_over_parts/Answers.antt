@@ -1,8 +1,5 @@
-use Rattle.std.proofs.Common.{◌≡◌, subst, rules, ◌++◌, ◌∷◌, [], ◌∙◌, ap, sym, reverse, is_none}
-use Rattle.pcache_history.specs.Files.{only_loads}
-use Rattle.pcache_history.specs.Events.{evicted_by, tracked}
-use Rattle.pcache_history.specs.Log.{Log, events_in}
 use Rattle.pcache_history.proofs.LoadsLaw.{no-load}
+use Rattle.pcache_world.proofs.Words.{◌≡◌, subst, rules, ◌++◌, ◌∷◌, [], ◌∙◌, ap, sym, reverse, is_none, only_loads, evicted_by, tracked, Log, events_in}
 use Rattle.pcache_world.proofs.FilesCalls.{other-late}
 use Rattle.pcache_world.proofs.PutSound.{puts-same}
 use Rattle.pcache_world.proofs.Worlds.{evicted-step, puts-step, same-age, sound-same, sound-step, started-once}

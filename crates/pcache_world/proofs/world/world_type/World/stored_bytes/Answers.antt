@@ -1,7 +1,5 @@
-use Rattle.std.proofs.Common.{rules, ◌≡◌, ◌≤◌, ap, sym, subst, ◌∙◌}
+use Rattle.pcache_world.proofs.Words.{rules, ◌≡◌, ◌≤◌, ap, sym, subst, ◌∙◌, stored, Log, events_in}
 use Rattle.pcache_store.specs.Totals as totals
-use Rattle.pcache_history.specs.Events.{stored}
-use Rattle.pcache_history.specs.Log.{Log, events_in}
 use Rattle.pcache_world.proofs.StateTotals.{stored-is}
 use Rattle.pcache_world.proofs.world.world_type.World.stored_bytes.Goals as goal
 

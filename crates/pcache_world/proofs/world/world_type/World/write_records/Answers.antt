@@ -1,7 +1,4 @@
-use Rattle.std.proofs.Common.{rules, ◌≡◌, ◌∙◌, ap, reverse}
-use Rattle.std.specs.FinMap.{len}
-use Rattle.pcache_history.specs.Ongoing.{request_of}
-use Rattle.pcache_history.specs.Log.{Log}
+use Rattle.pcache_world.proofs.Words.{rules, ◌≡◌, ◌∙◌, ap, reverse, len, request_of, Log}
 use Rattle.pcache_world.proofs.Records.{records-none}
 use Rattle.pcache_world.proofs.world.world_type.World.write_records.Goals as goal
 

@@ -1,0 +1,58 @@
+-- Writes: what a call does to a cache, from p to q, with this result. The request is r before it and s after it (own).
+use Rattle.std.specs.Prelude.{[], ◌≡◌, ◌⊎◌, ℕ, Bool, true, List, Option, Some, IfErr, IfOk, IsSome, OnErr, OnOk, Result}
+use Rattle.pcache_base.specs.declared.error.ErrorType.{ErrorType}
+use Rattle.pcache_base.specs.declared.error.ErrorType.TheVariants.{OutOfMemory}
+use Rattle.pcache_lock.specs.declared.lock.status.LockStatus.TheVariants.{Done}
+use Rattle.pcache_request.specs.Failures.{FailsToBegin}
+use Rattle.pcache_request.specs.Finishing.{after_finish}
+use Rattle.pcache_request.specs.LockPasts.{end_deeds, settled_deeds}
+use Rattle.pcache_request.specs.NoBody.{LeavesNone}
+use Rattle.pcache_request.specs.Requests.{Request, begin_followed, settled, store_begun, write_begun}
+use Rattle.pcache_request.specs.StorePasts.{EndsRequestPast, writing_past}
+use Rattle.pcache_request.specs.WriteEnds.{Ends, EndsAs, evicted_after}
+use Rattle.pcache_request.specs.declared.cache.finish.FinishReport.{FinishReport}
+use Rattle.pcache_store.specs.Readers.{in_memory}
+use Rattle.pcache_store.specs.Refusals.{MayFailWrite}
+use Rattle.pcache_cache.specs.Parts.{Adds, MayEnd, Parts, takes_bytes, tracked_at_end, written_by, written_past}
+use Rattle.pcache_cache.specs.Room.{IfRoom, evicted_in}
+use Rattle.pcache_cache.specs.Strays.{LeavesNoStray}
+use Rattle.pcache_cache.specs.Weighing.{ending_weight, entered}
+
+-- the write begins
+pub record BeginsWrite (result : Result (Unit {0}) ErrorType) (r s : Request) (p q : Parts) : Type 0 where
+  pub request : OnOk result (s ≡ write_begun true true p.store r)
+  pub store : OnOk result (q.store ≡ store_begun true p.store r)
+  pub past : OnOk result (Adds (writing_past true p.store r) p.past q.past)
+  pub table : OnOk result (q.locks ≡ settled Done r.held p.locks)
+  pub deeds : OnOk result (Adds (settled_deeds Done r.held) p.deeds q.deeds)
+  pub err : IfErr result (λ e. FailsToBegin true p.store (Some p.past) p.locks (Some p.deeds) r e q.store (Some q.past) q.locks (Some q.deeds) s)
+  pub kind : IfErr result (λ e. (e ≡ OutOfMemory) ⊎ MayFailWrite p.store e)
+  pub something : OnErr result ((q.store ≡ p.store) ⊎ IsSome (begin_followed p.store r))
+  pub phase : s.phase ≡ r.phase
+  pub own : r.uses.eviction ≡ true → OnOk result (MayEnd q.store s)
+  pub rest : q ≡ record p { store = q.store; past = q.past; locks = q.locks; deeds = q.deeds }
+
+-- bytes are added to the write
+pub record Writes (result : Result Bool ErrorType) (bytes : List ℕ) (eof : Bool) (r s : Request) (p q : Parts) : Type 0 where
+  pub request : s ≡ r
+  pub written : IfOk result (λ b. b ≡ takes_bytes p.store r.write)
+  pub store : OnOk result (q.store ≡ written_by r.write bytes eof p.store)
+  pub past : OnOk result (Adds (written_past p.store r.write bytes eof) p.past q.past)
+  pub own : MayEnd p.store r → MayEnd q.store s
+  pub same : OnErr result (q ≡ p)
+  pub kind : IfErr result (λ e. e ≡ OutOfMemory)
+  pub rest : q ≡ record p { store = q.store; past = q.past }
+
+-- the write ends
+pub record EndsWrite (result : Result (Option FinishReport) ErrorType) (r s : Request) (p q : Parts) : Type 0 where
+  pub request : s ≡ after_finish r
+  pub ended :
+      EndsAs result (λ end. Ends in_memory r r.key r.write (entered p.weighing p.store r.write) p.limits end p.store q.store (tracked_at_end p r end) q.tracked p.locks q.locks
+      × EndsRequestPast in_memory r.key r.write end (Some p.past) (Some q.past)
+      × Adds (end_deeds r.write r.held end) p.deeds q.deeds
+      × (q.evicted ≡ evicted_after r r.key (entered p.weighing p.store r.write) (tracked_at_end p r end) p.evicted end))
+  pub only : LeavesNoStray r.key p q
+  pub room : IfRoom r.key (ending_weight p.weighing p.store r.write) p (evicted_in result ≡ [])
+  pub withdrawn : OnErr result (LeavesNone r.key r.write p.store q.store)
+  pub limits : q.limits ≡ p.limits
+  pub weighing : q.weighing ≡ p.weighing
