@@ -1,25 +1,28 @@
 //! Keys of entries, owned and borrowed.
+use crate::managers;
 use crate::rows::Told;
-use pcache_base::error::Result;
-use pcache_base::key::{CacheKey, CompactCacheKey};
+use pcache_base::key::CompactCacheKey;
 use pcache_evict::eviction::{CacheEntryId, CacheEntryKey, CacheEntryKeyRef};
 use std::alloc::Global;
 use std::fmt::Display;
 use std::hash::{DefaultHasher, Hash, Hasher};
+use test_rows::key_of;
 
 fn seven() -> CacheEntryId {
     CacheEntryId::new(7)
 }
 
-fn compact(alloc: Global, primary: &str) -> Result<CompactCacheKey> {
-    let primary = primary.as_bytes().to_vec(alloc)?;
-    let tag = String::from_str(alloc, "1")?;
-    CacheKey::new(primary, tag).to_compact()
+// The key with these primary bytes. If memory runs out, it is another one.
+fn compact(alloc: Global, primary: &[u8]) -> CompactCacheKey {
+    match key_of(alloc, primary, "1").to_compact() {
+        Ok(key) => key,
+        Err(_refused) => managers::key_of(alloc, 0, ""),
+    }
 }
 
 // The entry of a key with this number, or without one.
-fn entry(alloc: Global, primary: &str, id: Option<CacheEntryId>) -> Result<CacheEntryKey> {
-    Ok(CacheEntryKey::from_entry_id(compact(alloc, primary)?, id))
+fn entry(alloc: Global, primary: &[u8], id: Option<CacheEntryId>) -> CacheEntryKey {
+    CacheEntryKey::from_entry_id(compact(alloc, primary), id)
 }
 
 // A key, its only entry and its entry of a number, and the only entry of another key.
@@ -31,16 +34,13 @@ struct Entries {
     other: CacheEntryKey,
 }
 
-fn make_entries(alloc: Global) -> Result<Entries> {
-    let key = compact(alloc, "aa")?;
-    let only = entry(alloc, "aa", None)?;
-    let (seventh, other) = (entry(alloc, "aa", Some(seven()))?, entry(alloc, "b", None)?);
-    Ok(Entries {
-        key,
-        only,
-        seventh,
-        other,
-    })
+fn make_entries(alloc: Global) -> Entries {
+    Entries {
+        key: compact(alloc, b"aa"),
+        only: entry(alloc, b"aa", None),
+        seventh: entry(alloc, b"aa", Some(seven())),
+        other: entry(alloc, b"b", None),
+    }
 }
 
 fn hash_of<T: Hash>(value: &T) -> u64 {
@@ -72,10 +72,17 @@ fn have_their_parts(it: &Entries) -> bool {
         && *it.seventh.key() == it.key
 }
 
-fn refer(it: &Entries) -> bool {
+fn refers_to_only(it: &Entries) -> bool {
     CacheEntryKeyRef::key_only(&it.key) == CacheEntryKeyRef::from_entry_id(&it.key, None)
-        && CacheEntryKeyRef::from(&it.seventh)
-            == CacheEntryKeyRef::from_entry_id(&it.key, Some(seven()))
+}
+
+fn refers_to_seventh(it: &Entries) -> bool {
+    CacheEntryKeyRef::from(&it.seventh) == CacheEntryKeyRef::from_entry_id(&it.key, Some(seven()))
+}
+
+fn refer(it: &Entries) -> bool {
+    refers_to_only(it)
+        && refers_to_seventh(it)
         && *CacheEntryKeyRef::from(&it.seventh).key() == it.key
         && CacheEntryKeyRef::from(&it.seventh).entry_id() == Some(seven())
 }
@@ -95,10 +102,7 @@ fn hash_alike(it: &Entries) -> bool {
 
 // The entries of a key are ordered by their numbers, and one without a number comes first.
 fn stand_in_order(alloc: Global, it: &Entries) -> bool {
-    match entry(alloc, "aa", Some(CacheEntryId::new(8))) {
-        Ok(eighth) => it.seventh < eighth && stand_before(it),
-        Err(_refused) => false,
-    }
+    it.seventh < entry(alloc, b"aa", Some(CacheEntryId::new(8))) && stand_before(it)
 }
 
 fn stand_before(it: &Entries) -> bool {
@@ -107,26 +111,27 @@ fn stand_before(it: &Entries) -> bool {
         && it.only.cmp(&it.other) == it.other.cmp(&it.only).reverse()
 }
 
-fn prints_as<T: Display>(alloc: Global, it: &T, wanted: &str) -> bool {
-    let mut told = Told::new(alloc);
+fn prints_as<T: Display>(told: &mut Told, it: &T, wanted: &str) -> bool {
+    told.clear();
     told.shown(it);
     told.is(wanted)
 }
 
-fn print_their_numbers(alloc: Global, it: &Entries) -> bool {
+fn print_their_numbers(told: &mut Told, it: &Entries) -> bool {
     let only = "ac10f2aef117729f8dad056b3059eb7e, user_tag: 1";
     let seventh = "ac10f2aef117729f8dad056b3059eb7e, user_tag: 1, entry ID: 7";
-    prints_as(alloc, &it.only, only)
-        && prints_as(alloc, &it.seventh, seventh)
-        && prints_as(alloc, &CacheEntryKeyRef::from(&it.seventh), seventh)
+    prints_as(told, &it.only, only)
+        && prints_as(told, &it.seventh, seventh)
+        && prints_as(told, &CacheEntryKeyRef::from(&it.seventh), seventh)
 }
 
-fn prints_in_hexadecimal_digits(alloc: Global) -> bool {
+fn prints_in_hexadecimal_digits(alloc: Global, told: &mut Told) -> bool {
     let wanted = "ac10f2aef117729f8dad056b3059eb7e, user_tag: 1, entry ID: ff";
-    match entry(alloc, "aa", Some(CacheEntryId::new(255))) {
-        Ok(entry) => prints_as(alloc, &entry, wanted),
-        Err(_refused) => false,
-    }
+    prints_as(
+        told,
+        &entry(alloc, b"aa", Some(CacheEntryId::new(255))),
+        wanted,
+    )
 }
 
 fn comes_back(it: Entries) -> bool {
@@ -136,27 +141,21 @@ fn comes_back(it: Entries) -> bool {
 
 #[test]
 fn parts_come_back_and_references_refer(rt: HostRuntime) {
-    let is_good = match make_entries(rt.alloc()) {
-        Ok(it) => have_their_parts(&it) && refer(&it) && is_copied(&it) && comes_back(it),
-        Err(_refused) => false,
-    };
+    let it = make_entries(rt.alloc());
+    let is_good = have_their_parts(&it) && refer(&it) && is_copied(&it) && comes_back(it);
     assert!(rt; is_good && seven().get() == 7);
 }
 
 #[test]
 fn hashes_and_order(rt: HostRuntime) {
-    let is_good = match make_entries(rt.alloc()) {
-        Ok(it) => hash_alike(&it) && stand_in_order(rt.alloc(), &it),
-        Err(_refused) => false,
-    };
-    assert!(rt; is_good);
+    let it = make_entries(rt.alloc());
+    assert!(rt; hash_alike(&it) && stand_in_order(rt.alloc(), &it));
 }
 
 #[test]
 fn keys_print_their_numbers(rt: HostRuntime) {
-    let is_good = match make_entries(rt.alloc()) {
-        Ok(it) => print_their_numbers(rt.alloc(), &it),
-        Err(_refused) => false,
-    };
-    assert!(rt; is_good && prints_in_hexadecimal_digits(rt.alloc()));
+    let alloc = rt.alloc();
+    let mut told = Told::new(alloc);
+    let is_good = print_their_numbers(&mut told, &make_entries(alloc));
+    assert!(rt; is_good && prints_in_hexadecimal_digits(alloc, &mut told));
 }

@@ -22,6 +22,8 @@ mod random_locks;
 #[cfg(test)]
 mod random_publications;
 #[cfg(test)]
+mod room;
+#[cfg(test)]
 mod rows;
 #[cfg(test)]
 mod sharded_lru;

@@ -1,5 +1,4 @@
 //! A table of locks, call by call: a row names a slot, which holds a permit or a read lock.
-use crate::memory::key_of;
 use crate::rows::{Desk, Told, number, play, word};
 use pcache_base::error::Result;
 use pcache_base::fills::{UnusableFill, UnusableFills};
@@ -10,12 +9,13 @@ use pcache_base::reason::NoCacheReason;
 use pcache_lock::lock::cache_lock::CacheLock;
 use pcache_lock::lock::lock_core::LockCore;
 use pcache_lock::lock::outcome::{LockWaitOutcome, WaitOutcome};
-use pcache_lock::lock::permit::{LockStub, Locked, WritePermit};
+use pcache_lock::lock::permit::{LockStub, Locked, ReadLock, WritePermit};
 use pcache_lock::lock::status::LockStatus;
 use pcache_lock::lock::{CacheKeyLock, CacheKeyLockImpl};
 use std::alloc::Global;
 use std::process::Abort;
 use std::time::Duration;
+use test_rows::key_of;
 
 fn at(secs: u64) -> Moment {
     Moment::from_secs(secs)
@@ -31,8 +31,10 @@ const NINE: UnusableFill = UnusableFill {
     reason: "nine",
 };
 
-fn seven_and_nine(alloc: Global) -> Result<UnusableFills> {
-    Ok(UnusableFills::new(vec![in alloc; SEVEN, NINE]?))
+fn seven_and_nine(alloc: Global) -> UnusableFills {
+    let mut fills = Vec::new(alloc);
+    let _is_whole = fills.push(SEVEN).is_ok() && fills.push(NINE).is_ok();
+    UnusableFills::new(fills)
 }
 
 // Two keys and the empty one, and the fills that some readers cannot use.
@@ -46,18 +48,14 @@ struct Parts {
 }
 
 impl Parts {
-    fn new(alloc: Global) -> Result<Parts> {
-        let a = key_of(alloc, "a")?;
-        let b = key_of(alloc, "b")?;
-        let fills = seven_and_nine(alloc)?;
-        let empty = CacheKey::new(Vec::new(alloc), String::new(alloc));
-        Ok(Parts {
+    fn new(alloc: Global) -> Parts {
+        Parts {
             alloc,
-            a,
-            b,
-            empty,
-            fills,
-        })
+            a: key_of(alloc, b"a", "1"),
+            b: key_of(alloc, b"b", "1"),
+            empty: key_of(alloc, b"", ""),
+            fills: seven_and_nine(alloc),
+        }
     }
 
     fn key(&self, name: &str) -> &CacheKey {
@@ -153,34 +151,57 @@ fn tell_of_slot(
     match word(call, 1) {
         "asks" => ask(parts, lock, slot, call, told),
         "drops" => done(let_go(lock, slot.take()), told),
-        "releases" => done(release(parts, lock, slot, call), told),
-        "unlocks" => done(unlock(lock, slot, status(word(call, 2))), told),
-        "publishes" => told.say(publish(parts, lock, slot, tokens(word(call, 2)))),
-        "tells" => told.say(publish_by_table(parts, lock, slot, tokens(word(call, 2)))),
-        _ => tell_of_held(parts, lock, slot, call, told),
+        "releases" => done(release(parts, lock, slot.take(), call), told),
+        _ => match slot {
+            Some(Locked::Read(read)) => tell_of_read(parts, lock, read, call, told),
+            Some(Locked::Write(permit)) => tell_of_permit(parts.alloc, lock, permit, call, told),
+            None => told.say("wrong"),
+        },
     }
 }
 
-fn tell_of_held(
+fn tell_of_read(
     parts: &Parts,
     lock: &mut CacheLock,
-    slot: &mut Slot,
+    read: &mut ReadLock,
     call: &'static str,
     told: &mut Told,
 ) {
-    let now = at(number(call, 2));
+    let (alloc, now) = (parts.alloc, at(number(call, 2)));
     match word(call, 1) {
-        "polls" => poll(parts, lock, slot, None, now, told),
-        "polls-without" => poll(parts, lock, slot, Some(&parts.fills), now, told),
-        "waits" => wait(parts, lock, slot, now, told),
-        "waits-without" => wait_without(parts, lock, slot, now, told),
-        "was-polled" => told.yes_or_no(was_polled(slot)),
-        "is-stale" => told.yes_or_no(is_stale(slot)),
-        "is-locked" => told.yes_or_no(is_locked(lock, slot)),
-        "is-expired" => told.yes_or_no(is_expired(lock, slot, now)),
-        "status" => told.say(status_of(lock, slot, now)),
-        "own-status" => told.say(own_status(lock, slot, now)),
-        _ => told.say("no such call"),
+        "polls" => tell_answer(lock.poll_wait(alloc, read, None, now), told),
+        "polls-without" => {
+            tell_answer(lock.poll_wait(alloc, read, Some(&parts.fills), now), told);
+        }
+        "waits" => tell_outcome(read.wait(alloc, lock, now), told),
+        "waits-without" => {
+            let answer = read.wait_unless_published(alloc, lock, &parts.fills, now);
+            tell_answer(answer, told);
+        }
+        "was-polled" => told.yes_or_no(read.was_polled()),
+        "is-locked" => told.yes_or_no(read.locked(lock)),
+        "is-expired" => told.yes_or_no(read.expired(lock, now)),
+        "status" => told.say(lock.lock_status(read, now).as_str()),
+        "own-status" => told.say(read.lock_status(lock, now).as_str()),
+        _ => told.say("wrong"),
+    }
+}
+
+fn tell_of_permit(
+    alloc: Global,
+    lock: &mut CacheLock,
+    permit: &mut WritePermit,
+    call: &'static str,
+    told: &mut Told,
+) {
+    let text = word(call, 2);
+    match word(call, 1) {
+        "is-stale" => told.yes_or_no(permit.stale_writer()),
+        "own-status" => told.say(permit.lock_status(lock).as_str()),
+        "publishes" => told.done(permit.publish(alloc, lock, tokens(text))),
+        "tells" => told.done(lock.publish(alloc, permit, tokens(text))),
+        "unlocks" => done(unlock(lock, permit, status(text)), told),
+        _ => told.say("wrong"),
     }
 }
 
@@ -238,10 +259,10 @@ fn keep_both(hands: &mut Hands, permit: WritePermit, stub: LockStub) {
     let_go(&mut *hands.lock, hands.two.replace(Locked::Read(read)));
 }
 
-// Spends a permit, by a key and with a status.
-fn release(parts: &Parts, lock: &mut CacheLock, slot: &mut Slot, call: &'static str) -> bool {
+// Spends a permit, by a key and with a status. What else was held is let go.
+fn release(parts: &Parts, lock: &mut CacheLock, held: Slot, call: &'static str) -> bool {
     let reason = status(word(call, 3));
-    match slot.take() {
+    match held {
         Some(Locked::Write(permit)) if reason.is_reason() => {
             lock.release(parts.key(word(call, 2)), permit, reason);
             true
@@ -253,14 +274,12 @@ fn release(parts: &Parts, lock: &mut CacheLock, slot: &mut Slot, call: &'static 
     }
 }
 
-fn unlock(lock: &mut CacheLock, slot: &mut Slot, reason: LockStatus) -> bool {
-    match slot {
-        Some(Locked::Write(permit)) if reason.is_reason() => {
-            permit.unlock(lock, reason);
-            true
-        }
-        _ => false,
+fn unlock(lock: &mut CacheLock, permit: &mut WritePermit, reason: LockStatus) -> bool {
+    if !reason.is_reason() {
+        return false;
     }
+    permit.unlock(lock, reason);
+    true
 }
 
 fn tokens(words: &str) -> &'static [u64] {
@@ -268,71 +287,6 @@ fn tokens(words: &str) -> &'static [u64] {
         "9,7" => &[9, 7],
         "8,9" => &[8, 9],
         _ => &[],
-    }
-}
-
-fn publish(parts: &Parts, lock: &mut CacheLock, slot: &Slot, tokens: &[u64]) -> &'static str {
-    match slot {
-        Some(Locked::Write(permit)) => made(permit.publish(parts.alloc, lock, tokens)),
-        _ => "wrong",
-    }
-}
-
-fn publish_by_table(
-    parts: &Parts,
-    lock: &mut CacheLock,
-    slot: &Slot,
-    tokens: &[u64],
-) -> &'static str {
-    match slot {
-        Some(Locked::Write(permit)) => made(lock.publish(parts.alloc, permit, tokens)),
-        _ => "wrong",
-    }
-}
-
-fn made(call: Result<()>) -> &'static str {
-    match call {
-        Ok(()) => "ok",
-        Err(_refused) => "refused",
-    }
-}
-
-fn poll(
-    parts: &Parts,
-    lock: &mut CacheLock,
-    slot: &mut Slot,
-    fills: Option<&UnusableFills>,
-    now: Moment,
-    told: &mut Told,
-) {
-    match slot {
-        Some(Locked::Read(read)) => {
-            tell_answer(lock.poll_wait(parts.alloc, read, fills, now), told)
-        }
-        _ => told.say("wrong"),
-    }
-}
-
-fn wait(parts: &Parts, lock: &mut CacheLock, slot: &mut Slot, now: Moment, told: &mut Told) {
-    match slot {
-        Some(Locked::Read(read)) => tell_outcome(read.wait(parts.alloc, lock, now), told),
-        _ => told.say("wrong"),
-    }
-}
-
-fn wait_without(
-    parts: &Parts,
-    lock: &mut CacheLock,
-    slot: &mut Slot,
-    now: Moment,
-    told: &mut Told,
-) {
-    match slot {
-        Some(Locked::Read(read)) => tell_answer(
-            read.wait_unless_published(parts.alloc, lock, &parts.fills, now),
-            told,
-        ),
-        _ => told.say("wrong"),
     }
 }
 
@@ -356,60 +310,11 @@ fn tell_outcome(outcome: Poll<WaitOutcome>, told: &mut Told) {
     }
 }
 
-fn was_polled(slot: &Slot) -> bool {
-    match slot {
-        Some(Locked::Read(read)) => read.was_polled(),
-        _ => false,
-    }
-}
-
-fn is_stale(slot: &Slot) -> bool {
-    match slot {
-        Some(Locked::Write(permit)) => permit.stale_writer(),
-        _ => false,
-    }
-}
-
-fn is_locked(lock: &CacheLock, slot: &Slot) -> bool {
-    match slot {
-        Some(Locked::Read(read)) => read.locked(lock),
-        _ => false,
-    }
-}
-
-fn is_expired(lock: &CacheLock, slot: &Slot, now: Moment) -> bool {
-    match slot {
-        Some(Locked::Read(read)) => read.expired(lock, now),
-        _ => false,
-    }
-}
-
-fn status_of(lock: &CacheLock, slot: &Slot, now: Moment) -> &'static str {
-    match slot {
-        Some(Locked::Read(read)) => lock.lock_status(read, now).as_str(),
-        _ => "wrong",
-    }
-}
-
-// The status that a permit or a read lock has for itself.
-fn own_status(lock: &CacheLock, slot: &Slot, now: Moment) -> &'static str {
-    match slot {
-        Some(Locked::Write(permit)) => permit.lock_status(lock).as_str(),
-        Some(Locked::Read(read)) => read.lock_status(lock, now).as_str(),
-        None => "wrong",
-    }
-}
-
 // Plays rows over a table of locks.
 fn run(rt: &impl Abort, alloc: Global, lock: Box<CacheLock>, rows: &'static str) {
-    match Parts::new(alloc) {
-        Ok(parts) => {
-            let mut hands = Hands::new(lock, parts);
-            play(rt, alloc, &mut hands, rows);
-            hands.end();
-        }
-        Err(_refused) => assert!(rt; false),
-    }
+    let mut hands = Hands::new(lock, Parts::new(alloc));
+    play(rt, alloc, &mut hands, rows);
+    hands.end();
 }
 
 // Over a new one, whose permits are held for ten seconds at most.
@@ -651,9 +556,6 @@ fn is_good_in_a_box(alloc: Global, key: &CacheKey) -> bool {
 
 #[test]
 fn in_a_box_of_any_kind(rt: HostRuntime) {
-    let is_good = match key_of(rt.alloc(), "a") {
-        Ok(key) => is_good_in_a_box(rt.alloc(), &key),
-        Err(_refused) => false,
-    };
-    assert!(rt; is_good);
+    let key = key_of(rt.alloc(), b"a", "1");
+    assert!(rt; is_good_in_a_box(rt.alloc(), &key));
 }

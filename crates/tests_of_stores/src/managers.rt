@@ -1,68 +1,92 @@
-//! Managers by rows: the limits, and then the calls, each of an entry by its letter.
+//! Managers by rows: the limits, and then the calls.
 //!
-//! The result is the evicted entries, whether an entry that was used or looked for was tracked, then the list,
+//! An entry is named by the letter that its primary hash repeats; `a/2` is that of another user, and `a#1` the one with a number.
+//! A row tells which entries were evicted, `+` or `-` if an entry that was used or looked for was tracked or not, then the list, and
 //! then the totals.
-use crate::rows::{Desk, Told, other_seed, play, size, some_size, word};
+use crate::rows::{Told, size, some_number, some_size, word};
 use pcache_base::error::Result;
 use pcache_base::key::CompactCacheKey;
 use pcache_base::moment::Moment;
-use pcache_base::seed::Seed;
 use pcache_base::text::Text;
-use pcache_evict::eviction::{CacheEntryKey, EvictionManager, sharded_lru, simple_lru};
+use pcache_evict::eviction::{CacheEntryId, CacheEntryKey, EvictionManager};
 use std::alloc::Global;
-use std::process::Abort;
 
 /// The end of freshness that managers do not read.
 pub const NEVER_READ: Moment = Moment::EPOCH;
 
-/// The key whose primary hash repeats this byte.
-pub fn compact(alloc: Global, name: u8, tag: &str) -> Result<CompactCacheKey> {
-    Ok(CompactCacheKey {
-        primary: [name; 16],
-        variance: None,
-        user_tag: Text::new(String::from_str(alloc, tag)?),
-    })
+/// A manager of rows.
+pub trait Kept: EvictionManager + Drop {
+    /// Makes a call that only this kind of manager has.
+    fn tell(&mut self, alloc: Global, call: &'static str, told: &mut Told);
 }
 
-/// Its only entry.
-pub fn entry(alloc: Global, name: u8, tag: &str) -> Result<CacheEntryKey> {
-    Ok(CacheEntryKey::key_only(compact(alloc, name, tag)?))
-}
-
-/// The entry that a call names, of another user if the call says so.
-pub fn entry_of(alloc: Global, call: &'static str) -> Result<CacheEntryKey> {
-    let name = word(call, 1).as_bytes().first().copied().unwrap_or(0);
-    let tag = if word(call, 3) == "for-2" { "2" } else { "1" };
-    entry(alloc, name, tag)
-}
-
-/// Makes a call through the trait, and writes what was evicted.
-pub fn take<E: EvictionManager>(
-    alloc: Global,
-    manager: &mut E,
-    call: &'static str,
-    told: &mut Told,
-) {
-    match entry_of(alloc, call) {
-        Ok(entry) => take_of(manager, entry, call, told),
-        Err(refused) => told.refused(&refused),
+/// The entry that a word names.
+pub fn entry_named(alloc: Global, name: &'static str) -> CacheEntryKey {
+    match name.split_once("#") {
+        Some((key, number)) => {
+            CacheEntryKey::from_entry_id(key_named(alloc, key), id_of(some_number(number, 0)))
+        }
+        None => CacheEntryKey::from_entry_id(key_named(alloc, name), None),
     }
 }
 
+fn id_of(number: Option<u64>) -> Option<CacheEntryId> {
+    match number {
+        Some(number) => Some(CacheEntryId::new(number)),
+        None => None,
+    }
+}
+
+fn key_named(alloc: Global, name: &'static str) -> CompactCacheKey {
+    let (letter, tag) = name.split_once("/").unwrap_or((name, "1"));
+    key_of(alloc, letter.as_bytes().first().copied().unwrap_or(0), tag)
+}
+
+/// The key whose primary hash repeats this byte. If memory runs out, its tag is another one.
+pub fn key_of(alloc: Global, name: u8, tag: &str) -> CompactCacheKey {
+    let mut user_tag = String::new(alloc);
+    let _is_whole = user_tag.push_str(tag).is_ok();
+    CompactCacheKey {
+        primary: [name; 16],
+        variance: None,
+        user_tag: Text::new(user_tag),
+    }
+}
+
+// Makes calls, and tells the list and the totals.
+fn take_all<E: Kept>(alloc: Global, manager: &mut E, calls: &'static str, told: &mut Told) {
+    for call in calls.split(", ") {
+        take(alloc, manager, call, told);
+    }
+    told.say(" |");
+    tell_list(manager.entries(), told);
+    tell_totals(manager, told);
+}
+
+fn take<E: Kept>(alloc: Global, manager: &mut E, call: &'static str, told: &mut Told) {
+    match word(call, 0) {
+        "admit" | "raise" | "use" | "peek" | "remove" => {
+            take_of(manager, entry_named(alloc, word(call, 1)), call, told);
+        }
+        _ => manager.tell(alloc, call, told),
+    }
+}
+
+// Makes a call of the trait.
 fn take_of<E: EvictionManager>(
     manager: &mut E,
     entry: CacheEntryKey,
     call: &'static str,
     told: &mut Told,
 ) {
-    let size = size(call, 2);
+    let weight = size(call, 2);
     match word(call, 0) {
-        "admit" => tell_gone(manager.admit(entry, size, NEVER_READ), told),
+        "admit" => tell_gone(manager.admit(entry, weight, NEVER_READ), told),
         "raise" => tell_gone(
-            manager.increment_weight(&entry, size, some_size(call, 3)),
+            manager.increment_weight(&entry, weight, some_size(call, 3)),
             told,
         ),
-        "use" => tell_used(manager.access(&entry, size, NEVER_READ), told),
+        "use" => tell_used(manager.access(&entry, weight, NEVER_READ), told),
         "peek" => tell_used(Ok(manager.peek(&entry)), told),
         _ => manager.remove(&entry),
     }
@@ -77,25 +101,51 @@ fn tell_used(was_there: Result<bool>, told: &mut Told) {
 
 fn tell_gone(gone: Result<Vec<CacheEntryKey>>, told: &mut Told) {
     match gone {
-        Ok(gone) => tell_names(gone.as_slice(), told),
+        Ok(gone) => {
+            for entry in gone.as_slice() {
+                tell_name(entry, told);
+            }
+        }
         Err(refused) => told.refused(&refused),
     }
 }
 
-fn tell_names(entries: &[CacheEntryKey], told: &mut Told) {
-    for entry in entries {
-        told.letter(name_of(entry));
+/// Tells the name of an entry.
+pub fn tell_name(entry: &CacheEntryKey, told: &mut Told) {
+    let key = entry.key();
+    told.letter(char::from(key.primary[0]));
+    if key.user_tag.as_str() != "1" {
+        told.say("/");
+        told.say(key.user_tag.as_str());
+    }
+    if let Some(id) = entry.entry_id() {
+        told.say("#");
+        told.number(id.get());
     }
 }
 
-fn name_of(entry: &CacheEntryKey) -> char {
-    char::from(entry.key().primary[0])
+fn tell_list(entries: Result<Vec<(CacheEntryKey, usize)>>, told: &mut Told) {
+    match entries {
+        Ok(entries) => {
+            for (entry, weight) in entries.as_slice() {
+                told.say(" ");
+                tell_name(entry, told);
+                tell_weight(entry, *weight, told);
+            }
+        }
+        Err(refused) => told.refused(&refused),
+    }
 }
 
-// The list and the totals.
-fn tell_state<E: EvictionManager>(manager: &E, told: &mut Told) {
-    told.say(" |");
-    tell_list(manager.entries(), told);
+// A weight behind a name of more than a letter has a colon.
+fn tell_weight(entry: &CacheEntryKey, weight: usize, told: &mut Told) {
+    if entry.entry_id().is_some() || entry.key().user_tag.as_str() != "1" {
+        told.say(":");
+    }
+    told.shown(&weight);
+}
+
+fn tell_totals<E: EvictionManager>(manager: &E, told: &mut Told) {
     told.say(" | ");
     told.shown(&manager.total_items());
     told.say(" of ");
@@ -107,120 +157,14 @@ fn tell_state<E: EvictionManager>(manager: &E, told: &mut Told) {
     told.say(" went");
 }
 
-fn tell_list(entries: Result<Vec<(CacheEntryKey, usize)>>, told: &mut Told) {
-    match entries {
-        Ok(entries) => tell_weights(entries.as_slice(), told),
-        Err(refused) => told.refused(&refused),
-    }
-}
-
-fn tell_weights(entries: &[(CacheEntryKey, usize)], told: &mut Told) {
-    for (entry, size) in entries {
-        told.say(" ");
-        told.letter(name_of(entry));
-        told.shown(size);
-    }
-}
-
-// The simple manager, or the one in shards with one shard.
-#[derive(Drop)]
-struct Made {
-    alloc: Global,
-    seed: Seed,
-    in_shards: bool,
-}
-
-impl Desk for Made {
-    fn tell(&mut self, call: &'static str, told: &mut Told) {
-        let (limits, calls) = call.split_once(": ").unwrap_or((call, ""));
-        let limit = size(limits, 1);
-        let watermark = some_size(limits, 3);
-        if self.in_shards {
-            in_shards(
-                self.alloc,
-                sharded_lru::Manager::with_capacity_and_watermark(
-                    self.alloc, self.seed, limit, 4, watermark,
-                ),
-                calls,
-                told,
-            );
-        } else {
-            simply(
-                self.alloc,
-                simple_lru::Manager::new_with_watermark(self.alloc, self.seed, limit, watermark),
-                calls,
-                told,
-            );
+/// Makes the calls of a row over a manager that was just made.
+pub fn take_over<E: Kept>(alloc: Global, made: Result<E>, row: &'static str, told: &mut Told) {
+    match made {
+        Ok(mut manager) => {
+            let calls = row.split_once(": ").unwrap_or(("", row)).1;
+            take_all(alloc, &mut manager, calls, told);
         }
-    }
-}
-
-fn in_shards(
-    alloc: Global,
-    manager: Result<sharded_lru::Manager<1>>,
-    calls: &'static str,
-    told: &mut Told,
-) {
-    match manager {
-        Ok(mut manager) => take_all(alloc, &mut manager, calls, told),
         Err(refused) => told.refused(&refused),
-    }
-}
-
-fn simply(
-    alloc: Global,
-    manager: Result<simple_lru::Manager>,
-    calls: &'static str,
-    told: &mut Told,
-) {
-    match manager {
-        Ok(mut manager) if calls.starts_with("load") => {
-            load_all(alloc, &mut manager, calls, told);
-        }
-        Ok(mut manager) => take_all(alloc, &mut manager, calls, told),
-        Err(refused) => told.refused(&refused),
-    }
-}
-
-fn take_all<E: EvictionManager>(
-    alloc: Global,
-    manager: &mut E,
-    calls: &'static str,
-    told: &mut Told,
-) {
-    for call in calls.split(", ") {
-        take(alloc, manager, call, told);
-    }
-    tell_state(manager, told);
-}
-
-fn load_all(
-    alloc: Global,
-    manager: &mut simple_lru::Manager,
-    calls: &'static str,
-    told: &mut Told,
-) {
-    for call in calls.split(", ") {
-        if load(alloc, manager, call).is_err() {
-            told.say("refused");
-        }
-    }
-    tell_state(manager, told);
-}
-
-fn load(alloc: Global, manager: &mut simple_lru::Manager, call: &'static str) -> Result<()> {
-    manager.load_entry(entry_of(alloc, call)?, size(call, 2))
-}
-
-/// Plays rows over the simple manager, or over the one in shards with one shard, under two seeds.
-pub fn run(rt: &impl Abort, alloc: Global, in_shards: bool, rows: &'static str) {
-    for seed in [Seed::fixed(), other_seed()] {
-        let mut made = Made {
-            alloc,
-            seed,
-            in_shards,
-        };
-        play(rt, alloc, &mut made, rows);
     }
 }
 
@@ -238,7 +182,7 @@ pub const EVICTED: &str = "
     # too heavy for the limit
     limit 3: admit a 4 -> a | | 0 of 0, 1 of 4 went
     # another user's entry of the same key
-    limit 4: admit a 3, admit a 2 for-2 -> a | a2 | 1 of 2, 1 of 3 went
+    limit 4: admit a 3, admit a/2 2 -> a | a/2:2 | 1 of 2, 1 of 3 went
     # a purge, and then what another write stored
     limit 9: remove k, admit k 2, use k 2 -> + | k2 | 1 of 2, 0 of 0 went
     # a purge of what is only being written

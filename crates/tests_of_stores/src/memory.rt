@@ -1,19 +1,12 @@
 //! The store in memory, call by call.
-use crate::rows::{Desk, Told, other_seed, play, size, some_number, some_size, word};
-use bytes::Bytes;
-use http::StatusCode;
+use crate::room::keys::key_named;
+use crate::room::writers::tell_entry;
+use crate::room::{Kept, run as run_rows};
+use crate::rows::{Told, other_seed, word};
 use pcache_base::error::Result;
-use pcache_base::key::{CacheKey, CompactCacheKey};
-use pcache_base::moment::Moment;
-use pcache_base::poll::Poll;
 use pcache_base::seed::Seed;
-use pcache_evict::eviction::{CacheEntryId, CacheEntryKey};
-use pcache_meta::header::ResponseHeader;
-use pcache_meta::meta::CacheMeta;
-use pcache_store::memory::*;
-use pcache_store::storage::{
-    HandleHit, HandleMiss, MissFinishType, PurgeOutcome, PurgeTarget, PurgeType, Storage,
-};
+use pcache_meta::meta::spelled::SpelledMeta;
+use pcache_store::memory::{MemCache, MemMissHandler};
 use std::alloc::Global;
 use std::process::Abort;
 
@@ -21,464 +14,57 @@ mod ends;
 mod handlers;
 mod pieces;
 
-/// The key with these primary bytes.
-pub fn key_of(alloc: Global, name: &str) -> Result<CacheKey> {
-    let primary = name.as_bytes().to_vec(alloc)?;
-    Ok(CacheKey::new(primary, String::from_str(alloc, "1")?))
-}
-
-/// The meta of a response that is fresh until this second.
-pub fn meta_until(alloc: Global, fresh_until: u64) -> CacheMeta {
-    let header = ResponseHeader::build(alloc, StatusCode::OK);
-    let until = Moment::from_secs(fresh_until);
-    CacheMeta::new(until, Moment::EPOCH, 30, 30, header)
-}
-
-// A key with its compact form.
-#[derive(Drop)]
-struct Named {
-    key: CacheKey,
-    compact: CompactCacheKey,
-}
-
-fn name(alloc: Global, name: &str) -> Result<Named> {
-    let key = key_of(alloc, name)?;
-    let compact = key.to_compact()?;
-    Ok(Named { key, compact })
-}
-
-// The store, and two keys by their names.
-#[derive(Drop)]
-struct Parts {
-    alloc: Global,
-    store: MemCache,
-    a: Named,
-    b: Named,
-}
-
-impl Parts {
-    fn new(alloc: Global, seed: Seed) -> Result<Parts> {
-        let a = name(alloc, "a")?;
-        let b = name(alloc, "b")?;
-        let store = MemCache::new(alloc, seed);
-        Ok(Parts { alloc, store, a, b })
+impl Kept for MemCache {
+    fn number_of(writer: &MemMissHandler) -> u64 {
+        writer.number()
     }
 
-    // The store, and a key by its name.
-    fn with(&mut self, name: &str) -> (&mut MemCache, &Named) {
-        match name {
-            "b" => (&mut self.store, &self.b),
-            _ => (&mut self.store, &self.a),
-        }
-    }
-}
-
-type Writer = Option<MemMissHandler>;
-
-type Reader = Option<MemHitHandler>;
-
-// A store with the writers and readers that are open, by their numbers.
-struct Counter {
-    parts: Parts,
-    writer_1: Writer,
-    writer_2: Writer,
-    writer_3: Writer,
-    reader_1: Reader,
-    reader_2: Reader,
-    reader_3: Reader,
-    reader_4: Reader,
-}
-
-impl Counter {
-    fn new(parts: Parts) -> Counter {
-        Counter {
-            parts,
-            writer_1: None,
-            writer_2: None,
-            writer_3: None,
-            reader_1: None,
-            reader_2: None,
-            reader_3: None,
-            reader_4: None,
-        }
-    }
-
-    fn writer(&mut self, number: u64) -> (&mut Parts, &mut Writer) {
-        let parts = &mut self.parts;
-        match number {
-            1 => (parts, &mut self.writer_1),
-            2 => (parts, &mut self.writer_2),
-            _ => (parts, &mut self.writer_3),
-        }
-    }
-
-    fn reader(&mut self, number: u64) -> (&mut Parts, &mut Reader) {
-        let parts = &mut self.parts;
-        match number {
-            1 => (parts, &mut self.reader_1),
-            2 => (parts, &mut self.reader_2),
-            3 => (parts, &mut self.reader_3),
-            _ => (parts, &mut self.reader_4),
-        }
-    }
-
-    // Ends what is open.
-    fn close(&mut self) {
-        drop_writer(&mut self.parts, self.writer_1.take());
-        drop_writer(&mut self.parts, self.writer_2.take());
-        drop_writer(&mut self.parts, self.writer_3.take());
-        drop_reader(&mut self.parts, self.reader_1.take());
-        drop_reader(&mut self.parts, self.reader_2.take());
-        drop_reader(&mut self.parts, self.reader_3.take());
-        drop_reader(&mut self.parts, self.reader_4.take());
-    }
-
-    fn end(self) {
-        let Counter {
-            mut parts,
-            writer_1,
-            writer_2,
-            writer_3,
-            reader_1,
-            reader_2,
-            reader_3,
-            reader_4,
-        } = self;
-        drop_writer(&mut parts, writer_1);
-        drop_writer(&mut parts, writer_2);
-        drop_writer(&mut parts, writer_3);
-        drop_reader(&mut parts, reader_1);
-        drop_reader(&mut parts, reader_2);
-        drop_reader(&mut parts, reader_3);
-        drop_reader(&mut parts, reader_4);
-    }
-}
-
-fn drop_writer(parts: &mut Parts, writer: Writer) {
-    if let Some(writer) = writer {
-        writer.drop_write(&mut parts.store);
-    }
-}
-
-fn drop_reader(parts: &mut Parts, reader: Reader) {
-    if let Some(reader) = reader {
-        reader.let_go(&mut parts.store);
-    }
-}
-
-impl Desk for Counter {
-    fn tell(&mut self, call: &'static str, told: &mut Told) {
-        if call == "close" {
-            self.close();
-            told.say("ok");
-        } else if word(call, 1) == "joins" {
-            join(self, call, told);
-        } else {
-            match some_number(call, 0) {
-                Some(number) => tell_of_open(self, number, call, told),
-                None => tell_of_store(&mut self.parts, call, told),
+    fn tell(&mut self, alloc: Global, call: &'static str, told: &mut Told) {
+        match word(call, 0) {
+            "kept" => {
+                let key = key_named(alloc, word(call, 1));
+                tell_kept(self.spelled_meta(&key), told);
             }
+            "writes" => told.shown(&self.write_records()),
+            "shard-slots" => tell_slots(self, told),
+            "shard-writes" => tell_writes(self, told),
+            "total" => totals(self, told),
+            _ => told.say("no such call"),
         }
-    }
-}
-
-fn tell_of_open(counter: &mut Counter, number: u64, call: &'static str, told: &mut Told) {
-    match word(call, 1) {
-        "begins" | "writes" | "writes-last" | "finishes" | "gives-up" => {
-            let (parts, writer) = counter.writer(number);
-            tell_of_writer(parts, writer, call, told);
-        }
-        _ => {
-            let (parts, reader) = counter.reader(number);
-            tell_of_reader(parts, reader, call, told);
-        }
-    }
-}
-
-fn tell_of_writer(parts: &mut Parts, writer: &mut Writer, call: &'static str, told: &mut Told) {
-    let text = word(call, 2);
-    match word(call, 1) {
-        "begins" => begin(parts, writer, text, told),
-        "writes" => write(parts, writer, text, false, told),
-        "writes-last" => write(parts, writer, text, true, told),
-        "finishes" => finish(parts, writer.take(), told),
-        _ => give_up(parts, writer.take(), told),
-    }
-}
-
-fn tell_of_reader(parts: &mut Parts, reader: &mut Reader, call: &'static str, told: &mut Told) {
-    match word(call, 1) {
-        "looks" => look(parts, reader, word(call, 2), told),
-        "reads" => read(parts, reader, told),
-        "is-whole" => tell_whole(parts, reader, told),
-        "length" => tell_length(parts, reader, told),
-        "seeks" => seek(reader, size(call, 2), some_size(call, 3), told),
-        "ends" => end_reader(parts, reader.take(), told),
-        _ => told.say("no such call"),
-    }
-}
-
-fn tell_of_store(parts: &mut Parts, call: &'static str, told: &mut Told) {
-    let name = word(call, 1);
-    let number = some_number(call, 2);
-    match word(call, 0) {
-        "purge" => tell_removed(purge(parts, name), told),
-        "purge-exact" => tell_removed(purge_exact(parts, name, number), told),
-        "expire" => tell_removed(expire(parts, name, number.unwrap_or(0)), told),
-        "update" => tell_updated(update(parts, name, number.unwrap_or(0)), told),
-        "update-as" => tell_updated(update_as(parts, name, word(call, 2)), told),
-        "number" => tell_number(number_found(parts, name), told),
-        "kept" => tell_number(number_kept(parts, name), told),
-        "writes" => told.shown(&parts.store.write_records()),
-        "total" => totals(&parts.store, told),
-        _ => told.say("no such call"),
-    }
-}
-
-fn begin(parts: &mut Parts, writer: &mut Writer, name: &str, told: &mut Told) {
-    match begun(parts, name) {
-        Ok(begun) => {
-            drop_writer(parts, writer.replace(begun));
-            told.say("ok");
-        }
-        Err(refused) => told.refused(&refused),
-    }
-}
-
-fn begun(parts: &mut Parts, name: &str) -> Result<MemMissHandler> {
-    let alloc = parts.alloc;
-    let (store, named) = parts.with(name);
-    store.get_miss_handler(alloc, &named.key, &meta_until(alloc, 300))
-}
-
-fn write(parts: &mut Parts, writer: &mut Writer, text: &'static str, eof: bool, told: &mut Told) {
-    match writer {
-        Some(writer) if writer.at_eof(&parts.store) => told.say("at eof"),
-        Some(writer) => {
-            let bytes = Bytes::from_static(text.as_bytes());
-            told.done(writer.write_body(&mut parts.store, bytes, eof));
-        }
-        None => told.say("none open"),
-    }
-}
-
-fn finish(parts: &mut Parts, writer: Writer, told: &mut Told) {
-    match writer {
-        Some(writer) => tell_finished(writer.finish(&mut parts.store), told),
-        None => told.say("none open"),
-    }
-}
-
-fn tell_finished(end: Result<MissFinishType>, told: &mut Told) {
-    match end {
-        Ok(end) => told.named(&end),
-        Err(refused) => told.refused(&refused),
-    }
-}
-
-fn give_up(parts: &mut Parts, writer: Writer, told: &mut Told) {
-    told.say(if writer.is_some() { "ok" } else { "none open" });
-    drop_writer(parts, writer);
-}
-
-// What a look-up found: of a complete body the weight, and the end of freshness.
-fn found(
-    parts: &mut Parts,
-    place: &mut Reader,
-    found: Result<Option<(CacheMeta, MemHitHandler)>>,
-    told: &mut Told,
-) {
-    match found {
-        Ok(Some((meta, reader))) => {
-            tell_found(&meta, &reader, told);
-            drop_reader(parts, place.replace(reader));
-        }
-        Ok(None) => told.say("none"),
-        Err(refused) => told.refused(&refused),
-    }
-}
-
-fn tell_found(meta: &CacheMeta, reader: &MemHitHandler, told: &mut Told) {
-    if reader.should_count_access() && reader.can_seek() {
-        told.say("hit ");
-        told.shown(&reader.get_eviction_weight());
-    } else {
-        told.say("part");
-    }
-    told.say(" until ");
-    told.shown(&meta.fresh_until().secs());
-}
-
-fn look(parts: &mut Parts, place: &mut Reader, name: &str, told: &mut Told) {
-    let alloc = parts.alloc;
-    let (store, named) = parts.with(name);
-    let it = store.lookup(alloc, &named.key);
-    found(parts, place, it, told);
-}
-
-// A reader joins a write by the tag of its writer.
-fn join(counter: &mut Counter, call: &'static str, told: &mut Told) {
-    let (parts, writer) = counter.writer(some_number(call, 3).unwrap_or(0));
-    let it = joined(parts, writer, word(call, 2));
-    let (parts, place) = counter.reader(some_number(call, 0).unwrap_or(0));
-    found(parts, place, it, told);
-}
-
-fn joined(
-    parts: &mut Parts,
-    writer: &Writer,
-    name: &str,
-) -> Result<Option<(CacheMeta, MemHitHandler)>> {
-    let alloc = parts.alloc;
-    let tag = match writer {
-        Some(writer) => writer.streaming_write_tag(),
-        None => None,
-    };
-    let (store, named) = parts.with(name);
-    store.lookup_streaming_write(alloc, &named.key, tag)
-}
-
-fn read(parts: &mut Parts, reader: &mut Reader, told: &mut Told) {
-    match reader {
-        Some(reader) => tell_read(reader.read_body(parts.alloc, &mut parts.store), told),
-        None => told.say("none open"),
-    }
-}
-
-fn tell_read(read: Result<Poll<Option<Bytes>>>, told: &mut Told) {
-    match read {
-        Ok(Poll::Ready(Some(bytes))) => {
-            told.say("data ");
-            told.bytes(bytes.as_slice());
-        }
-        Ok(Poll::Ready(None)) => told.say("end"),
-        Ok(Poll::Pending) => told.say("pending"),
-        Err(refused) => told.refused(&refused),
-    }
-}
-
-// Whether all was given that was to be read: `whole` if so.
-fn tell_whole(parts: &Parts, reader: &Reader, told: &mut Told) {
-    match reader {
-        Some(reader) if reader.is_whole(&parts.store) => told.say("whole"),
-        Some(_) => told.say("not whole"),
-        None => told.say("none open"),
-    }
-}
-
-fn tell_length(parts: &Parts, reader: &Reader, told: &mut Told) {
-    match reader {
-        Some(reader) => told.named(&reader.body_length(&parts.store)),
-        None => told.say("none open"),
-    }
-}
-
-fn seek(reader: &mut Reader, start: usize, end: Option<usize>, told: &mut Told) {
-    match reader {
-        Some(reader) => told.done(reader.seek(start, end)),
-        None => told.say("none open"),
-    }
-}
-
-fn end_reader(parts: &mut Parts, reader: Reader, told: &mut Told) {
-    match reader {
-        Some(reader) => told.done(reader.finish(&mut parts.store)),
-        None => told.say("none open"),
-    }
-}
-
-fn tell_removed(outcome: Result<PurgeOutcome>, told: &mut Told) {
-    match outcome {
-        Ok(outcome) => told.named(&outcome),
-        Err(refused) => told.refused(&refused),
-    }
-}
-
-fn tell_updated(is_there: Result<bool>, told: &mut Told) {
-    match is_there {
-        Ok(is_there) => told.say(if is_there { "updated" } else { "absent" }),
-        Err(refused) => told.refused(&refused),
-    }
-}
-
-fn purge(parts: &mut Parts, name: &str) -> Result<PurgeOutcome> {
-    let (store, named) = parts.with(name);
-    store.purge(PurgeTarget::Active(&named.compact), PurgeType::Invalidation)
-}
-
-// Removes the entry of this number, or the key's only one.
-fn purge_exact(parts: &mut Parts, name: &str, id: Option<u64>) -> Result<PurgeOutcome> {
-    let (store, named) = parts.with(name);
-    let key = named.compact.copied()?;
-    let id = match id {
-        Some(id) => Some(CacheEntryId::new(id)),
-        None => None,
-    };
-    store.purge(
-        PurgeTarget::Exact(&CacheEntryKey::from_entry_id(key, id)),
-        PurgeType::Eviction,
-    )
-}
-
-fn expire(parts: &mut Parts, name: &str, now: u64) -> Result<PurgeOutcome> {
-    let alloc = parts.alloc;
-    let (store, named) = parts.with(name);
-    let now = Moment::from_secs(now);
-    store.expire(alloc, PurgeTarget::Active(&named.compact), now)
-}
-
-fn update(parts: &mut Parts, name: &str, fresh_until: u64) -> Result<bool> {
-    let alloc = parts.alloc;
-    let (store, named) = parts.with(name);
-    store.update_meta(alloc, &named.key, &meta_until(alloc, fresh_until))
-}
-
-// Sets the meta that is found of another key.
-fn update_as(parts: &mut Parts, name: &str, other: &str) -> Result<bool> {
-    match meta_found(parts, other)? {
-        Some(meta) => {
-            let alloc = parts.alloc;
-            let (store, named) = parts.with(name);
-            store.update_meta(alloc, &named.key, &meta)
-        }
-        None => Ok(false),
-    }
-}
-
-fn meta_found(parts: &mut Parts, name: &str) -> Result<Option<CacheMeta>> {
-    let alloc = parts.alloc;
-    let (store, named) = parts.with(name);
-    match store.lookup(alloc, &named.key)? {
-        Some((meta, reader)) => {
-            reader.let_go(store);
-            Ok(Some(meta))
-        }
-        None => Ok(None),
-    }
-}
-
-// The number in the meta that is found.
-fn number_found(parts: &mut Parts, name: &str) -> Result<Option<CacheEntryId>> {
-    match meta_found(parts, name)? {
-        Some(meta) => Ok(meta.entry_id()),
-        None => Ok(None),
     }
 }
 
 // The number in the meta that the store keeps of what it finds.
-fn number_kept(parts: &mut Parts, name: &str) -> Result<Option<CacheEntryId>> {
-    let (store, named) = parts.with(name);
-    match store.spelled_meta(&named.key)? {
-        Some(meta) => Ok(meta.entry_id()),
-        None => Ok(None),
+fn tell_kept(found: Result<Option<SpelledMeta>>, told: &mut Told) {
+    match found {
+        Ok(Some(meta)) => tell_entry(meta.entry_id(), told),
+        Ok(None) => told.say("none"),
+        Err(refused) => told.refused(&refused),
     }
 }
 
-fn tell_number(found: Result<Option<CacheEntryId>>, told: &mut Told) {
-    match found {
-        Ok(Some(id)) => told.shown(&id.get()),
-        Ok(None) => told.say("none"),
-        Err(refused) => told.refused(&refused),
+// How many slots there are in each shard that has one, and that there are no others.
+fn tell_slots(store: &MemCache, told: &mut Told) {
+    for shard in 0..16usize {
+        tell_shard(shard, store.shard_slots(shard), told);
+    }
+    told.say("no more");
+}
+
+// The same of records of writes.
+fn tell_writes(store: &MemCache, told: &mut Told) {
+    for shard in 0..16usize {
+        tell_shard(shard, store.shard_write_records(shard), told);
+    }
+    told.say("no more");
+}
+
+fn tell_shard(shard: usize, count: usize, told: &mut Told) {
+    if count > 0 {
+        told.shown(&count);
+        told.say(" in ");
+        told.shown(&shard);
+        told.say(", ");
     }
 }
 
@@ -493,18 +79,9 @@ fn totals(store: &MemCache, told: &mut Told) {
 
 // Plays the rows over two stores of their own, under two seeds, which return the same.
 fn run(rt: &impl Abort, alloc: Global, rows: &'static str) {
-    run_under(rt, alloc, Seed::fixed(), rows);
-    run_under(rt, alloc, other_seed(), rows);
-}
-
-fn run_under(rt: &impl Abort, alloc: Global, seed: Seed, rows: &'static str) {
-    match Parts::new(alloc, seed) {
-        Ok(parts) => {
-            let mut counter = Counter::new(parts);
-            play(rt, alloc, &mut counter, rows);
-            counter.end();
-        }
-        Err(_refused) => assert!(rt; false),
+    for seed in [Seed::fixed(), other_seed()] {
+        let store = MemCache::new(alloc, seed);
+        run_rows(rt, alloc, store, MemCache::new(alloc, seed), rows);
     }
 }
 

@@ -1,4 +1,4 @@
-// Random calls, against a plain list of all permits that were ever given.
+//! Random calls, against a plain list of all permits that were ever given.
 use pcache_base::key::CacheKey;
 use pcache_base::moment::Moment;
 use pcache_base::poll::Poll;
@@ -10,8 +10,8 @@ use pcache_lock::lock::status::LockStatus;
 use rand::rngs::StdRng;
 use rand::{RngExt, SeedableRng};
 use std::alloc::Global;
-use std::test::Fail;
 use std::time::Duration;
+use test_rows::key_of;
 
 const AGE: u64 = 40;
 
@@ -264,14 +264,28 @@ fn followed(
     }
 }
 
-#[test]
-fn random_calls_agree_with_a_plain_list(rt: HostRuntime) -> Result<(), Fail> {
-    let alloc = rt.alloc();
+// Makes 4,000 calls on both, and returns how many disagreed.
+fn disagreements(
+    alloc: Global,
+    lock: &mut CacheLock,
+    slow: &mut Slow,
+    hands: &mut Hands,
+    keys: &[CacheKey],
+) -> u32 {
     let mut rng = StdRng::seed_from_u64(20);
-    let mut keys = Vec::new(alloc);
-    for name in 0..8u8 {
-        keys.push(CacheKey::new(vec![in alloc; name]?, String::new(alloc)))?;
+    let mut count = 0u32;
+    let mut now = 100u64;
+    for _ in 0..4000 {
+        let later: u64 = rng.random_range(0..6);
+        now = now.saturating_add(later);
+        if !step(alloc, lock, slow, hands, keys, &mut rng, now) {
+            count = count.saturating_add(1);
+        }
     }
+    count
+}
+
+fn agree(alloc: Global, keys: &[CacheKey]) -> bool {
     let mut slow = Slow {
         given: Vec::new(alloc),
     };
@@ -280,25 +294,22 @@ fn random_calls_agree_with_a_plain_list(rt: HostRuntime) -> Result<(), Fail> {
         permits: Vec::new(alloc),
         readers: Vec::new(alloc),
     };
-    let mut disagreements = 0u32;
-    let mut now = 100u64;
-    for _ in 0..4000 {
-        let later: u64 = rng.random_range(0..6);
-        now = now.saturating_add(later);
-        if !step(
-            alloc,
-            &mut lock,
-            &mut slow,
-            &mut hands,
-            keys.as_slice(),
-            &mut rng,
-            now,
-        ) {
-            disagreements = disagreements.saturating_add(1);
-        }
-    }
+    let count = disagreements(alloc, &mut lock, &mut slow, &mut hands, keys);
     hands.end(&mut lock);
-    assert_eq!(rt; disagreements, 0);
-    assert!(rt; slow.given.len() > 400);
-    Ok(())
+    count == 0 && slow.given.len() > 400
+}
+
+// Eight keys, or fewer if memory runs out.
+fn eight_keys(alloc: Global) -> Vec<CacheKey> {
+    let mut keys = Vec::new(alloc);
+    for name in 0..8u8 {
+        let _is_whole = keys.push(key_of(alloc, [name].as_slice(), "")).is_ok();
+    }
+    keys
+}
+
+#[test]
+fn random_calls_agree_with_a_plain_list(rt: HostRuntime) {
+    let keys = eight_keys(rt.alloc());
+    assert!(rt; agree(rt.alloc(), keys.as_slice()));
 }

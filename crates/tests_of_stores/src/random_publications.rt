@@ -1,4 +1,4 @@
-// Random publications, against a plain look at each of them in turn.
+//! Random publications, against a plain look at each of them in turn.
 use pcache_base::fills::{UnusableFill, UnusableFills};
 use pcache_base::key::CacheKey;
 use pcache_base::moment::Moment;
@@ -10,31 +10,31 @@ use pcache_lock::lock::permit::{Locked, ReadLock, WritePermit};
 use rand::rngs::StdRng;
 use rand::{RngExt, SeedableRng};
 use std::alloc::Global;
-use std::test::Fail;
 use std::time::Duration;
+use test_rows::key_of;
 
-// A few tokens of few, so that they come again, also in one publication.
-fn some_tokens(alloc: Global, rng: &mut StdRng) -> Option<Vec<u64>> {
+// A few tokens of few, so that they come again, also in one publication. If memory runs out, there are fewer.
+fn some_tokens(alloc: Global, rng: &mut StdRng) -> Vec<u64> {
     let count: usize = rng.random_range(0..4);
-    let mut tokens = Vec::with_capacity(alloc, count).ok()?;
+    let mut tokens = Vec::new(alloc);
     for _ in 0..count {
         let token: u64 = rng.random_range(0..40);
-        tokens.push(token).ok()?;
+        let _is_whole = tokens.push(token).is_ok();
     }
-    Some(tokens)
+    tokens
 }
 
-fn some_fills(alloc: Global, rng: &mut StdRng) -> Option<UnusableFills> {
-    let tokens = some_tokens(alloc, rng)?;
-    let mut fills = Vec::with_capacity(alloc, tokens.len()).ok()?;
+fn some_fills(alloc: Global, rng: &mut StdRng) -> UnusableFills {
+    let tokens = some_tokens(alloc, rng);
+    let mut fills = Vec::new(alloc);
     for token in tokens.as_slice() {
         let fill = UnusableFill {
             token: *token,
             reason: "of no use",
         };
-        fills.push(fill).ok()?;
+        let _is_whole = fills.push(fill).is_ok();
     }
-    Some(UnusableFills::new(fills))
+    UnusableFills::new(fills)
 }
 
 // The first publication's match, looked for in each in turn.
@@ -65,9 +65,7 @@ fn publish(
     published: &mut Vec<Vec<u64>>,
     rng: &mut StdRng,
 ) -> bool {
-    let Some(tokens) = some_tokens(alloc, rng) else {
-        return false;
-    };
+    let tokens = some_tokens(alloc, rng);
     permit.publish(alloc, lock, tokens.as_slice()).is_ok() && published.push(tokens).is_ok()
 }
 
@@ -81,22 +79,30 @@ fn follows(
     published: &mut Vec<Vec<u64>>,
     rng: &mut StdRng,
 ) -> bool {
-    let Some(fills) = some_fills(alloc, rng) else {
-        return false;
-    };
+    let fills = some_fills(alloc, rng);
     let from = published.len().saturating_sub(1);
     let mut agrees = true;
     for _ in 0..5 {
         let told = told_plainly(published.as_slice(), from, &fills);
-        agrees &= match read.wait_unless_published(alloc, lock, &fills, Moment::EPOCH) {
-            Ok(answer) => says(answer, told),
-            Err(_refused) => false,
-        };
+        agrees &= is_told(alloc, lock, read, &fills, told);
         for _ in 0..3 {
             agrees &= publish(alloc, lock, permit, published, rng);
         }
     }
     agrees
+}
+
+fn is_told(
+    alloc: Global,
+    lock: &mut CacheLock,
+    read: &mut ReadLock,
+    fills: &UnusableFills,
+    told: Option<UnusableFill>,
+) -> bool {
+    match read.wait_unless_published(alloc, lock, fills, Moment::EPOCH) {
+        Ok(answer) => says(answer, told),
+        Err(_refused) => false,
+    }
 }
 
 // One more reader is made and ended.
@@ -176,12 +182,14 @@ fn agree_under_a_permit(
     }
 }
 
-#[test]
-fn readers_are_told_what_a_plain_look_finds(rt: HostRuntime) -> Result<(), Fail> {
-    let alloc = rt.alloc();
+fn agree(alloc: Global, key: &CacheKey) -> bool {
     let mut rng = StdRng::seed_from_u64(44);
-    let key = CacheKey::new(vec![in alloc; 1]?, String::new(alloc));
     let mut lock = CacheLock::new(alloc, Duration::from_secs(10));
-    assert!(rt; agree_under_a_permit(alloc, &mut lock, &key, &mut rng));
-    Ok(())
+    agree_under_a_permit(alloc, &mut lock, key, &mut rng)
+}
+
+#[test]
+fn readers_are_told_what_a_plain_look_finds(rt: HostRuntime) {
+    let key = key_of(rt.alloc(), b"\x01", "");
+    assert!(rt; agree(rt.alloc(), &key));
 }

@@ -1,20 +1,57 @@
 //! The manager with one list.
-use crate::managers::{COUNTED, EVICTED, NEVER_READ, compact, entry, run};
+use crate::managers::{COUNTED, EVICTED, Kept, NEVER_READ, entry_named, key_of, take_over};
+use crate::rows::{Desk, Told, other_seed, play, size, some_size, word};
 use pcache_base::error::Result;
 use pcache_base::seed::Seed;
 use pcache_evict::eviction::simple_lru::Manager;
 use pcache_evict::eviction::{CacheEntryId, CacheEntryKey, EvictionManager};
 use std::alloc::Global;
-use std::test::Fail;
+use std::process::Abort;
+
+impl Kept for Manager {
+    fn tell(&mut self, alloc: Global, call: &'static str, told: &mut Told) {
+        if word(call, 0) != "load" {
+            return told.say("no such call");
+        }
+        let entry = entry_named(alloc, word(call, 1));
+        if self.load_entry(entry, size(call, 2)).is_err() {
+            told.say("refused");
+        }
+    }
+}
+
+// What managers are made with.
+#[derive(Drop)]
+struct Simple {
+    alloc: Global,
+    seed: Seed,
+}
+
+impl Desk for Simple {
+    fn tell(&mut self, row: &'static str, told: &mut Told) {
+        let limits = row.split_once(": ").unwrap_or((row, "")).0;
+        let (limit, most) = (size(limits, 1), some_size(limits, 3));
+        let made = Manager::new_with_watermark(self.alloc, self.seed, limit, most);
+        take_over(self.alloc, made, row, told);
+    }
+}
+
+// Plays rows under two seeds.
+fn run(rt: &impl Abort, alloc: Global, rows: &'static str) {
+    for seed in [Seed::fixed(), other_seed()] {
+        let mut simple = Simple { alloc, seed };
+        play(rt, alloc, &mut simple, rows);
+    }
+}
 
 #[test]
 fn the_least_recent_go(rt: HostRuntime) {
-    run(&rt, rt.alloc(), false, EVICTED);
+    run(&rt, rt.alloc(), EVICTED);
 }
 
 #[test]
 fn weights_are_raised_and_the_watermark_bounds_the_number(rt: HostRuntime) {
-    run(&rt, rt.alloc(), false, COUNTED);
+    run(&rt, rt.alloc(), COUNTED);
 }
 
 const LISTED: &str = "
@@ -33,12 +70,29 @@ const LISTED: &str = "
 
 #[test]
 fn entries_are_listed_and_counted(rt: HostRuntime) {
-    run(&rt, rt.alloc(), false, LISTED);
+    run(&rt, rt.alloc(), LISTED);
 }
 
-fn admit(manager: &mut Manager, entry: &CacheEntryKey) -> Result<Vec<CacheEntryKey>> {
-    manager.admit(entry.copied()?, 1, NEVER_READ)
+// The first is evicted by the second call.
+const NUMBERS: &str = "
+    limit 1: admit a#1 1 -> | a#1:1 | 1 of 1, 0 of 0 went
+    limit 1: admit a#1 1, admit a#2 1 -> a#1 | a#2:1 | 1 of 1, 1 of 1 went";
+
+#[test]
+fn entries_of_one_key_are_told_apart(rt: HostRuntime) {
+    run(&rt, rt.alloc(), NUMBERS);
 }
+
+const TAGS: &str = "
+    limit 1: admit a 1 -> | a1 | 1 of 1, 0 of 0 went
+    limit 1: admit a 1, admit a/2 1 -> a | a/2:1 | 1 of 1, 1 of 1 went";
+
+#[test]
+fn tags_of_one_key_are_told_apart(rt: HostRuntime) {
+    run(&rt, rt.alloc(), TAGS);
+}
+
+type Boxed = Box<dyn EvictionManager + Send>;
 
 // Whether exactly this entry was evicted, or none.
 fn is_gone(gone: Result<Vec<CacheEntryKey>>, entry: Option<&CacheEntryKey>) -> bool {
@@ -48,85 +102,21 @@ fn is_gone(gone: Result<Vec<CacheEntryKey>>, entry: Option<&CacheEntryKey>) -> b
     }
 }
 
-// Two entries, and a manager with room for one of them.
-#[derive(Drop)]
-struct Two {
-    manager: Manager,
-    first: CacheEntryKey,
-    second: CacheEntryKey,
-}
-
-// Admits both, and returns whether exactly the first was evicted, at the second call.
-fn second_evicts_first(it: &mut Two) -> bool {
-    is_gone(admit(&mut it.manager, &it.first), None)
-        && is_gone(admit(&mut it.manager, &it.second), Some(&it.first))
-        && it.manager.total_size() == 1
-}
-
-fn identified(alloc: Global, number: u64) -> Result<CacheEntryKey> {
-    let key = compact(alloc, b'a', "1")?;
-    Ok(CacheEntryKey::identified(key, CacheEntryId::new(number)))
-}
-
-fn two_numbers(alloc: Global) -> Result<Two> {
-    let first = identified(alloc, 1)?;
-    let (second, manager) = (
-        identified(alloc, 2)?,
-        Manager::new(alloc, Seed::fixed(), 1)?,
-    );
-    Ok(Two {
-        manager,
-        first,
-        second,
-    })
-}
-
-fn two_tags(alloc: Global) -> Result<Two> {
-    let first = entry(alloc, b'a', "1")?;
-    let (second, manager) = (
-        entry(alloc, b'a', "2")?,
-        Manager::new(alloc, Seed::fixed(), 1)?,
-    );
-    Ok(Two {
-        manager,
-        first,
-        second,
-    })
-}
-
-fn are_told_apart(two: Result<Two>) -> bool {
-    match two {
-        Ok(mut two) => second_evicts_first(&mut two),
-        Err(_refused) => false,
-    }
-}
-
-#[test]
-fn entries_of_one_key_are_told_apart(rt: HostRuntime) {
-    assert!(rt; are_told_apart(two_numbers(rt.alloc())));
-}
-
-#[test]
-fn tags_of_one_key_are_told_apart(rt: HostRuntime) {
-    assert!(rt; are_told_apart(two_tags(rt.alloc())));
-}
-
-type Boxed = Box<dyn EvictionManager + Send>;
-
-// Admits both, by the trait.
-fn takes_both(boxed: &mut Boxed, a: &CacheEntryKey, b: &CacheEntryKey) -> bool {
-    let Ok(copy) = a.copied() else {
-        return false;
-    };
-    is_gone(boxed.admit(copy, 2, NEVER_READ), None)
+// Admits the one and uses the other, by the trait.
+fn takes_both(alloc: Global, boxed: &mut Boxed, b: &CacheEntryKey) -> bool {
+    is_gone(boxed.admit(entry_named(alloc, "a"), 2, NEVER_READ), None)
         && matches!(boxed.access(b, 1, NEVER_READ), Ok(false))
         && boxed.peek(b)
 }
 
 // Whether the one is evicted when the other's weight is raised.
-fn is_raised(boxed: &mut Boxed, a: &CacheEntryKey, b: &CacheEntryKey) -> bool {
-    is_gone(boxed.increment_weight(b, 3, None), Some(a))
-        && boxed.total_size() == 4
+fn is_raised(alloc: Global, boxed: &mut Boxed, b: &CacheEntryKey) -> bool {
+    let gone = boxed.increment_weight(b, 3, None);
+    is_gone(gone, Some(&entry_named(alloc, "a")))
+}
+
+fn has_counted(boxed: &Boxed) -> bool {
+    boxed.total_size() == 4
         && boxed.total_items() == 1
         && boxed.evicted_size() == 2
         && boxed.evicted_items() == 1
@@ -140,30 +130,48 @@ fn is_emptied(boxed: &mut Boxed, b: &CacheEntryKey) -> bool {
     }
 }
 
+fn is_one(alloc: Global, boxed: &mut Boxed) -> bool {
+    let b = entry_named(alloc, "b");
+    takes_both(alloc, boxed, &b)
+        && is_raised(alloc, boxed, &b)
+        && has_counted(boxed)
+        && is_emptied(boxed, &b)
+}
+
+fn is_one_in_a_box(alloc: Global, manager: Manager) -> bool {
+    match Box::new(alloc, manager) {
+        Ok(made) => {
+            let mut boxed: Boxed = made;
+            is_one(alloc, &mut boxed)
+        }
+        Err(_refused) => false,
+    }
+}
+
 #[test]
-fn a_boxed_manager_is_one(rt: HostRuntime) -> std::result::Result<(), Fail> {
-    let alloc = rt.alloc();
-    let mut boxed: Boxed = Box::new(alloc, Manager::new(alloc, Seed::fixed(), 4)?)?;
-    let (a, b) = (entry(alloc, b'a', "1")?, entry(alloc, b'b', "1")?);
-    let is_good = takes_both(&mut boxed, &a, &b)
-        && is_raised(&mut boxed, &a, &b)
-        && is_emptied(&mut boxed, &b);
+fn a_boxed_manager_is_one(rt: HostRuntime) {
+    let is_good = match Manager::new(rt.alloc(), Seed::fixed(), 4) {
+        Ok(manager) => is_one_in_a_box(rt.alloc(), manager),
+        Err(_refused) => false,
+    };
     assert!(rt; is_good);
-    Ok(())
 }
 
 // Admits 50,000 entries, if 5,000 have room.
 fn admits_all(alloc: Global, manager: &mut Manager) -> bool {
     for number in 0..50000u64 {
-        if admit_number(alloc, manager, number).is_err() {
+        if manager
+            .admit(numbered(alloc, number), 1, NEVER_READ)
+            .is_err()
+        {
             return false;
         }
     }
     manager.evicted_items() == 45000
 }
 
-fn admit_number(alloc: Global, manager: &mut Manager, number: u64) -> Result<Vec<CacheEntryKey>> {
-    manager.admit(identified(alloc, number)?, 1, NEVER_READ)
+fn numbered(alloc: Global, number: u64) -> CacheEntryKey {
+    CacheEntryKey::identified(key_of(alloc, b'a', "1"), CacheEntryId::new(number))
 }
 
 #[test]

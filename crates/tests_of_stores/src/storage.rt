@@ -1,32 +1,20 @@
 //! Targets of purges, and numbers of writes.
+use crate::managers::key_of;
 use crate::rows::Told;
-use pcache_base::error::{ErrorType, Result};
+use pcache_base::error::ErrorType;
 use pcache_base::key::CompactCacheKey;
-use pcache_base::text::Text;
 use pcache_evict::eviction::{CacheEntryId, CacheEntryKey, CacheEntryKeyRef};
 use pcache_store::storage::PurgeTarget;
 use pcache_store::storage::streaming_write::{U32WriteId, U64WriteId};
 use std::alloc::Global;
 
-fn compact(alloc: Global) -> Result<CompactCacheKey> {
-    Ok(CompactCacheKey {
-        primary: [0xab; 16],
-        variance: None,
-        user_tag: Text::new(String::from_str(alloc, "1")?),
-    })
+fn key(alloc: Global) -> CompactCacheKey {
+    key_of(alloc, 0xab, "1")
 }
 
-// A key, and its entry of number 42.
-#[derive(Drop)]
-struct Named {
-    key: CompactCacheKey,
-    entry: CacheEntryKey,
-}
-
-fn name(alloc: Global) -> Result<Named> {
-    let key = compact(alloc)?;
-    let entry = CacheEntryKey::identified(compact(alloc)?, CacheEntryId::new(42));
-    Ok(Named { key, entry })
+// The key's entry of number 42.
+fn entry(alloc: Global) -> CacheEntryKey {
+    CacheEntryKey::identified(key(alloc), CacheEntryId::new(42))
 }
 
 fn is_named(key: &CompactCacheKey, entry: &CacheEntryKey) -> bool {
@@ -35,44 +23,41 @@ fn is_named(key: &CompactCacheKey, entry: &CacheEntryKey) -> bool {
 }
 
 // Whether what is removed is the entry of number 42, of the one that a target names and of a key's active one.
-fn is_removed(alloc: Global) -> Result<bool> {
+fn is_removed(key: &CompactCacheKey, same: CompactCacheKey) -> bool {
     let id = CacheEntryId::new(42);
-    let key = compact(alloc)?;
-    let entry = CacheEntryKey::identified(compact(alloc)?, id);
-    let (target, active) = (PurgeTarget::Exact(&entry), PurgeTarget::Active(&key));
+    let entry = CacheEntryKey::identified(same, id);
+    let (target, active) = (PurgeTarget::Exact(&entry), PurgeTarget::Active(key));
     let removed = [
         target.removed_entry(None) == CacheEntryKeyRef::from(&entry),
         target.removed_entry(Some(id)) == CacheEntryKeyRef::from(&entry),
         active.removed_entry(Some(id)) == CacheEntryKeyRef::from(&entry),
     ];
-    Ok(removed == [true; 3] && is_named(&key, &entry))
+    removed == [true; 3]
 }
 
 #[test]
 fn a_removed_entry_is_the_one_named(rt: HostRuntime) {
-    assert!(rt; matches!(is_removed(rt.alloc()), Ok(true)));
+    let alloc = rt.alloc();
+    assert!(rt; is_removed(&key(alloc), key(alloc)) && is_named(&key(alloc), &entry(alloc)));
 }
 
-fn prints_as(alloc: Global, target: PurgeTarget<'_>, wanted: &str) -> bool {
-    let mut told = Told::new(alloc);
+fn prints_as(told: &mut Told, target: PurgeTarget<'_>, wanted: &str) -> bool {
+    told.clear();
     told.shown(&target);
     told.is(wanted)
 }
 
-fn are_printed(alloc: Global, it: &Named) -> bool {
+fn are_printed(told: &mut Told, key: &CompactCacheKey, entry: &CacheEntryKey) -> bool {
     let active = "active entry for abababababababababababababababab, user_tag: 1";
     let exact = "abababababababababababababababab, user_tag: 1, entry ID: 2a";
-    prints_as(alloc, PurgeTarget::Active(&it.key), active)
-        && prints_as(alloc, PurgeTarget::Exact(&it.entry), exact)
+    prints_as(told, PurgeTarget::Active(key), active)
+        && prints_as(told, PurgeTarget::Exact(entry), exact)
 }
 
 #[test]
 fn targets_are_printed(rt: HostRuntime) {
-    let is_good = match name(rt.alloc()) {
-        Ok(it) => are_printed(rt.alloc(), &it),
-        Err(_refused) => false,
-    };
-    assert!(rt; is_good);
+    let alloc = rt.alloc();
+    assert!(rt; are_printed(&mut Told::new(alloc), &key(alloc), &entry(alloc)));
 }
 
 fn long_of(bytes: &[u8]) -> Option<u64> {

@@ -1,7 +1,17 @@
 //! Writes in pieces of any length, against one plain text.
-use super::*;
+use crate::room::metas::meta_until;
+use bytes::Bytes;
+use pcache_base::error::Result;
+use pcache_base::key::CacheKey;
+use pcache_base::poll::Poll;
+use pcache_base::seed::Seed;
+use pcache_meta::meta::CacheMeta;
+use pcache_store::memory::{MemCache, MemHitHandler, MemMissHandler};
+use pcache_store::storage::{HandleHit, HandleMiss, Storage};
 use rand::rngs::StdRng;
 use rand::{RngExt, SeedableRng};
+use std::alloc::Global;
+use test_rows::key_of;
 
 // A store, and a write of it beside the plain text of the bytes that it got.
 #[derive(Drop)]
@@ -10,52 +20,58 @@ struct Plain {
     store: MemCache,
     text: Vec<u8>,
     rng: StdRng,
+    // Whether all that was written was taken, and all that was read was in the text.
+    agrees: bool,
+}
+
+// Up to 3,000 random bytes, most often a few.
+fn random_piece(alloc: Global, rng: &mut StdRng) -> Vec<u8> {
+    let small: bool = rng.random_range(0..3u32) > 0;
+    let len: usize = if small {
+        rng.random_range(0..60)
+    } else {
+        rng.random_range(0..3_000)
+    };
+    let mut piece = Vec::new(alloc);
+    for _ in 0..len {
+        let byte: u8 = rng.random_range(0..250);
+        let _is_whole = piece.push(byte).is_ok();
+    }
+    piece
+}
+
+fn large_piece(alloc: Global) -> Vec<u8> {
+    let mut piece = Vec::new(alloc);
+    for _ in 0..70_000u32 {
+        let _is_whole = piece.push(7).is_ok();
+    }
+    piece
 }
 
 // Hands a piece over.
-fn is_handed(
-    it: &mut Plain,
-    writer: &mut MemMissHandler,
-    piece: Vec<u8>,
-    eof: bool,
-) -> Result<bool> {
-    it.text.extend_from_slice(piece.as_slice())?;
-    let bytes = Bytes::from_vec(piece)?;
-    Ok(!writer.at_eof(&it.store) && writer.write_body(&mut it.store, bytes, eof).is_ok())
-}
-
-// Hands a piece of up to 3,000 random bytes over, most of them small.
-fn is_handed_over(it: &mut Plain, writer: &mut MemMissHandler, eof: bool) -> Result<bool> {
-    let small: bool = it.rng.random_range(0..3u32) > 0;
-    let len: usize = if small {
-        it.rng.random_range(0..60)
-    } else {
-        it.rng.random_range(0..3_000)
+fn hand(it: &mut Plain, writer: &mut MemMissHandler, piece: Vec<u8>, eof: bool) {
+    let is_noted = it.text.extend_from_slice(piece.as_slice()).is_ok();
+    let is_written = match Bytes::from_vec(piece) {
+        Ok(bytes) => writes(&mut it.store, writer, bytes, eof),
+        Err(_refused) => false,
     };
-    let mut piece = Vec::with_capacity(it.alloc, len)?;
-    for _ in 0..len {
-        let byte: u8 = it.rng.random_range(0..250);
-        piece.push(byte)?;
-    }
-    is_handed(it, writer, piece, eof)
+    it.agrees &= is_noted && is_written;
 }
 
-// Hands pieces over that nobody reads: first perhaps a large one, and three, of which the last may be the end.
-fn are_handed_over(
-    it: &mut Plain,
-    writer: &mut MemMissHandler,
-    is_large: bool,
-    eof: bool,
-) -> Result<bool> {
-    let mut handed = true;
-    if is_large {
-        let piece = vec![in it.alloc; 7u8; 70_000]?;
-        handed &= is_handed(it, writer, piece, false)?;
-    }
-    for number in 0..3u32 {
-        handed &= is_handed_over(it, writer, eof && number == 2)?;
-    }
-    Ok(handed)
+fn writes(store: &mut MemCache, writer: &mut MemMissHandler, bytes: Bytes, eof: bool) -> bool {
+    !writer.at_eof(store) && writer.write_body(store, bytes, eof).is_ok()
+}
+
+fn hand_random(it: &mut Plain, writer: &mut MemMissHandler, eof: bool) {
+    let piece = random_piece(it.alloc, &mut it.rng);
+    hand(it, writer, piece, eof);
+}
+
+// Hands three pieces over that nobody reads, of which the last may be the end.
+fn hand_three(it: &mut Plain, writer: &mut MemMissHandler, eof: bool) {
+    hand_random(it, writer, false);
+    hand_random(it, writer, false);
+    hand_random(it, writer, eof);
 }
 
 // Whether these bytes were read, or that there are none for now.
@@ -68,112 +84,96 @@ fn is_rest(read: Result<Poll<Option<Bytes>>>, rest: &[u8]) -> bool {
     }
 }
 
-// How far a reader is that was at this place, if it reads what the plain text has from there on.
-fn reads_on(it: &mut Plain, reader: &mut MemHitHandler, place: usize) -> Option<usize> {
+// Reads what the plain text has from a place on, and returns how far the reader is then.
+fn read_on(it: &mut Plain, reader: &mut MemHitHandler, place: usize) -> usize {
     let read = reader.read_body(it.alloc, &mut it.store);
     let rest = it.text.as_slice().get(place..).unwrap_or(&[]);
-    if is_rest(read, rest) {
-        Some(it.text.len())
-    } else {
-        None
-    }
+    it.agrees &= is_rest(read, rest);
+    it.text.len()
 }
 
 // Pieces and reads in turn, at random.
-fn are_read(it: &mut Plain, writer: &mut MemMissHandler, reader: &mut MemHitHandler) -> bool {
-    let mut place = Some(0usize);
+fn hand_and_read(it: &mut Plain, writer: &mut MemMissHandler, reader: &mut MemHitHandler) {
+    let mut place = 0usize;
     for _ in 0..30u32 {
-        if !matches!(is_handed_over(it, writer, false), Ok(true)) {
-            return false;
-        }
+        hand_random(it, writer, false);
         let reads: bool = it.rng.random_range(0..3u32) == 0;
-        if let Some(read) = place
-            && reads
-        {
-            place = reads_on(it, reader, read);
+        if reads {
+            place = read_on(it, reader, place);
         }
     }
-    match place {
-        Some(read) => reads_on(it, reader, read).is_some(),
-        None => false,
-    }
+    read_on(it, reader, place);
 }
 
-fn is_read_while_written(it: &mut Plain, key: &CacheKey, writer: &mut MemMissHandler) -> bool {
-    match it.store.lookup(it.alloc, key) {
+type Found = Result<Option<(CacheMeta, MemHitHandler)>>;
+
+fn read_while_written(it: &mut Plain, writer: &mut MemMissHandler, found: Found) {
+    match found {
         Ok(Some((_meta, mut reader))) => {
-            let read = are_read(it, writer, &mut reader);
+            hand_and_read(it, writer, &mut reader);
             reader.let_go(&mut it.store);
-            read
         }
-        _ => false,
+        _ => it.agrees = false,
     }
 }
 
-fn is_found_whole(it: &mut Plain, key: &CacheKey) -> bool {
-    match it.store.lookup(it.alloc, key) {
+fn read_whole(it: &mut Plain, found: Found) {
+    match found {
         Ok(Some((_meta, mut reader))) => {
-            let read = reads_on(it, &mut reader, 0).is_some();
+            read_on(it, &mut reader, 0);
             reader.let_go(&mut it.store);
-            read
         }
-        _ => false,
+        _ => it.agrees = false,
     }
 }
 
-// What a write is before anybody reads it: nothing, or some pieces, the first of them perhaps large.
-#[derive(Clone, Copy)]
-enum Before {
-    Nothing,
-    Pieces { is_large: bool },
+// Hands pieces over before a reader comes, while it reads, and after it left. What a write is before anybody reads it depends on
+// the seed: nothing, or some pieces, the first of them perhaps large.
+fn write_all(it: &mut Plain, key: &CacheKey, writer: &mut MemMissHandler, seed: u64) {
+    if seed % 3 == 1 {
+        let piece = large_piece(it.alloc);
+        hand(it, writer, piece, false);
+    }
+    if seed % 3 > 0 {
+        hand_three(it, writer, false);
+    }
+    let found = it.store.lookup(it.alloc, key);
+    read_while_written(it, writer, found);
+    hand_three(it, writer, true);
 }
 
-// Hands pieces over before a reader comes, while it reads, and after it left.
-fn are_written(
-    it: &mut Plain,
-    key: &CacheKey,
-    writer: &mut MemMissHandler,
-    before: Before,
-) -> Result<bool> {
-    let handed = match before {
-        Before::Nothing => true,
-        Before::Pieces { is_large } => are_handed_over(it, writer, is_large, false)?,
-    };
-    let read = is_read_while_written(it, key, writer);
-    Ok(handed && read && are_handed_over(it, writer, false, true)?)
+fn write_and_read(it: &mut Plain, key: &CacheKey, seed: u64) {
+    let begun = it
+        .store
+        .get_miss_handler(it.alloc, key, &meta_until(it.alloc, 300));
+    match begun {
+        Ok(mut writer) => {
+            write_all(it, key, &mut writer, seed);
+            it.agrees &= writer.finish(&mut it.store).is_ok();
+        }
+        Err(_refused) => it.agrees = false,
+    }
+    let found = it.store.lookup(it.alloc, key);
+    read_whole(it, found);
 }
 
-fn is_written_and_found(it: &mut Plain, key: &CacheKey, before: Before) -> Result<bool> {
-    let meta = meta_until(it.alloc, 300);
-    let mut writer = it.store.get_miss_handler(it.alloc, key, &meta)?;
-    let written = matches!(are_written(it, key, &mut writer, before), Ok(true));
-    writer.finish(&mut it.store)?;
-    Ok(written && is_found_whole(it, key))
-}
-
-fn all_are(alloc: Global, seed: u64) -> Result<bool> {
-    let key = key_of(alloc, "aa")?;
+fn agrees(alloc: Global, seed: u64) -> bool {
     let mut it = Plain {
         alloc,
         store: MemCache::new(alloc, Seed::fixed()),
         text: Vec::new(alloc),
         rng: StdRng::seed_from_u64(seed),
+        agrees: true,
     };
-    let before = match seed % 3 {
-        0 => Before::Nothing,
-        rest => Before::Pieces {
-            is_large: rest == 1,
-        },
-    };
-    is_written_and_found(&mut it, &key, before)
+    write_and_read(&mut it, &key_of(alloc, b"aa", "1"), seed);
+    it.agrees
 }
 
 #[test]
 fn a_write_in_pieces_is_one_text(rt: HostRuntime) {
-    let alloc = rt.alloc();
     let mut all = true;
     for seed in 0..8u64 {
-        all &= matches!(all_are(alloc, seed), Ok(true));
+        all &= agrees(rt.alloc(), seed);
     }
     assert!(rt; all);
 }
