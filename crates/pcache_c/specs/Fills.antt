@@ -1,14 +1,15 @@
 -- The fills that a request cannot use, and what the one that fills a key publishes of its fill: numbers, upstream's tokens (own).
-use Rattle.std.specs.Prelude.{◌≡◌, ◌≢◌, ℕ, List, [], Option, None, Some, IsSome, ⊤, map, option_map}
+use Rattle.std.specs.Prelude.{◌≡◌, ℕ, List, Option, None, Some, IsSome, ⊤, map, option_map, Ok, Err}
 use Rattle.pcache_base.specs.Key.{Key}
 use Rattle.pcache_base.specs.declared.error.ErrorType.{ErrorType}
-use Rattle.pcache_base.specs.declared.error.ErrorType.TheVariants.{OutOfMemory}
 use Rattle.pcache_base.specs.declared.fills.UnusableFill.{UnusableFill}
+use Rattle.pcache_cache.specs.Locking as locking
 use Rattle.pcache_cache.specs.Parts.{Parts}
-use Rattle.pcache_request.specs.LockUse.{permit_in, published_by}
+use Rattle.pcache_request.specs.LockUse.{permit_in}
+use Rattle.pcache_request.specs.declared.cache.report.LockName.{LockName}
 use Rattle.pcache_c.specs.Caches.{key_with}
 use Rattle.pcache_c.specs.Codes.{Outcome}
-use Rattle.pcache_c.specs.Requests.{IsUnchanged, KeepsButLocks, SaysKnown}
+use Rattle.pcache_c.specs.Requests.{IsUnchanged, SaysKnown}
 use Rattle.pcache_c.specs.declared.served.Open.{Open}
 
 -- fills have these tokens, in their order
@@ -23,17 +24,13 @@ key_without fills primary tag = record (key_with primary tag) { unusable = Some 
 
 pub record Published (tokens : List ℕ) (c d : Parts) (o p : Open) : Type 0 where
   pub held : IsSome (permit_in o.request.cache.held)
-  pub table : d.locks ≡ published_by tokens o.request.cache.held c.locks
-  pub parts : KeepsButLocks c d
+  pub published : Option LockName
+  pub takes : locking.Publishes (Ok published) tokens o.request.cache c d
   pub request : p ≡ o
 
 -- there was no memory for them
 pub record RefusesTokens (tokens : List ℕ) (c d : Parts) (o p : Open) (e : ErrorType) : Type 0 where
-  pub kind : e ≡ OutOfMemory
-  pub some : tokens ≢ []
-  pub held : IsSome (permit_in o.request.cache.held)
-  pub table : d.locks ≡ c.locks
-  pub parts : KeepsButLocks c d
+  pub takes : locking.Publishes (Err e) tokens o.request.cache c d
   pub request : p ≡ o
 
 -- where no permit is held, nothing is published

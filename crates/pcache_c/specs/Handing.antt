@@ -1,13 +1,15 @@
 -- What it is to hand the permit of a request to another request of the same cache (own).
 use Rattle.std.specs.Prelude.{◌≡◌, ◌≢◌, ℕ, Option, None, Some, IsSome}
+use Rattle.pcache_cache.specs.Locking as locking
 use Rattle.pcache_cache.specs.Parts.{Parts}
 use Rattle.pcache_lock.specs.Permits.{Permit}
-use Rattle.pcache_request.specs.LockUse.{handed, permit_in, table_handed, unheld}
+use Rattle.pcache_request.specs.LockUse.{permit_in, unheld}
 use Rattle.pcache_request.specs.Phases.{IsOn}
+use Rattle.pcache_request.specs.declared.cache.report.LockName.{LockName}
 use Rattle.pcache_c.specs.Codes.{Outcome, bad_handle}
 use Rattle.pcache_c.specs.Handles.{Turns}
 use Rattle.pcache_c.specs.Objects.{as_cache}
-use Rattle.pcache_c.specs.Requests.{KeepsButLocks, KeepsFound}
+use Rattle.pcache_c.specs.Requests.{KeepsFound}
 use Rattle.pcache_c.specs.Seats.{AreSet, IsSet, request_at}
 use Rattle.pcache_c.specs.declared.object.Object.{Object}
 use Rattle.pcache_c.specs.declared.seats.Seats.{Seats}
@@ -29,9 +31,8 @@ pub record Gives (permit : Permit) (o p : Open) : Type 0 where
 
 -- a permit is held by the request q, which is r since, and a lock that it held before is let go
 pub record Gets (permit : Permit) (c d : Parts) (q r : Open) : Type 0 where
-  pub request : r.request.cache ≡ handed permit q.request.cache
-  pub table : d.locks ≡ table_handed permit q.request.cache c.locks
-  pub parts : KeepsButLocks c d
+  pub let_go : Option LockName
+  pub takes : locking.TakesPermit let_go permit q.request.cache r.request.cache c d
   pub rest : KeepsFound q r
 
 -- the permit went from the first request to the second, and no other request changed

@@ -1,16 +1,18 @@
 -- How requests of a cache are opened and ended (own).
-use Rattle.std.specs.Prelude.{◌≡◌, ◌⊎◌, ℕ, List, [], Option, None, Some, true, false}
+use Rattle.std.specs.Prelude.{◌≡◌, ◌⊎◌, ℕ, [], Option, None, Some, true, false}
 use Rattle.std.specs.FinMap.{empty}
 use Rattle.pcache_base.specs.Key.{Key}
+use Rattle.pcache_cache.specs.Ending as ending
 use Rattle.pcache_cache.specs.Parts.{Parts}
 use Rattle.pcache_cache.specs.declared.weighing.Weighing.{Weighing}
 use Rattle.pcache_evict.specs.Tracked.{Evicted, Limits, Tracked}
 use Rattle.pcache_lock.specs.Locks.{no_locks}
-use Rattle.pcache_request.specs.Requests.{dropped_by, enabled_with, left_by, let_go_by, new_request, with_key}
+use Rattle.pcache_request.specs.Requests.{enabled_with, new_request, with_key}
+use Rattle.pcache_request.specs.declared.cache.report.LockName.{LockName}
 use Rattle.pcache_c.specs.Codes.{bad_handle, no_memory, ok}
 use Rattle.pcache_c.specs.Handles.{Turns}
 use Rattle.pcache_c.specs.Objects.{as_cache}
-use Rattle.pcache_c.specs.Requests.{KeepsManager, left_found, pair_found}
+use Rattle.pcache_c.specs.Requests.{LetsGoFound, pair_found}
 use Rattle.pcache_c.specs.Seats.{AreSame, IsGone, IsInRound, IsSet, request_at}
 use Rattle.pcache_c.specs.declared.object.Object.{Object}
 use Rattle.pcache_c.specs.declared.served.Open.{Open}
@@ -49,9 +51,10 @@ Opens key old new number code = Turns as_cache old new code (λ s t. OpensReques
 
 -- a request gives back what it holds: what a look-up found, its write, its reader and its lock
 pub record EndsRequest (c d : Parts) (o : Open) : Type 0 where
-  pub store : d.store ≡ left_by o.request.cache.reader (dropped_by o.request.cache.write (left_found (pair_found o) c.store))
-  pub table : d.locks ≡ let_go_by o.request.cache.held c.locks
-  pub parts : KeepsManager c d
+  pub between : Parts
+  pub lets_go : LetsGoFound (pair_found o) c between
+  pub let_go : Option LockName
+  pub takes : ending.EndsRequest let_go o.request.cache between d
 
 -- the request of a number is ended, if there is one
 abbrev pub EndsOpen : Option Open → Parts → Parts → ℕ → Type 0

@@ -1,39 +1,33 @@
 -- What the calls on a request do: c is the cache before and d after, o the request before and p after (own).
-use Rattle.std.specs.Prelude.{◌≡◌, ◌⊎◌, ◌/◌, ◌%◌, ℕ, List, [], ◌∷◌, ◌++◌, ◌↔◌, Bool, true, false, Option, None, Some, Result, Ok, Err, IfSome, IsSome, IsTrue, ⊤, cond, drop, is_some, length, min, option_map, take}
+use Rattle.std.specs.Prelude.{◌≡◌, ◌⊎◌, ◌/◌, ◌%◌, ℕ, List, [], ◌∷◌, ◌++◌, ◌↔◌, Bool, true, false, Option, None, Some, Result, Ok, Err, IfSome, IsSome, ⊤, cond, drop, is_some, length, min, option_map, take}
 use Rattle.std.specs.Int.{from_bool}
 use Rattle.std.specs.Option.{option_and_then}
-use Rattle.pcache_base.specs.Key.{slot}
 use Rattle.pcache_base.specs.declared.error.ErrorType.{ErrorType}
-use Rattle.pcache_base.specs.declared.error.ErrorType.TheVariants.{NumbersExhausted, OutOfMemory}
+use Rattle.pcache_base.specs.declared.error.ErrorType.TheVariants.{OutOfMemory}
 use Rattle.pcache_base.specs.declared.poll.Poll.{Poll}
 use Rattle.pcache_base.specs.declared.poll.Poll.TheVariants.{Pending, Ready}
 use Rattle.pcache_base.specs.declared.reason.NoCacheReason.{NoCacheReason}
-use Rattle.pcache_cache.specs.Parts as cached
-use Rattle.pcache_cache.specs.Renewing as renewing
-use Rattle.pcache_cache.specs.Weighing.{entered}
-use Rattle.pcache_cache.specs.Parts.{MayEnd, Parts, takes_bytes, tracked_at_end, written_by}
-use Rattle.pcache_lock.specs.Locks.{MayFailLock}
-use Rattle.pcache_lock.specs.declared.lock.status.LockStatus.TheVariants.{Done, GiveUp}
+use Rattle.pcache_cache.specs.Ending as ending
+use Rattle.pcache_cache.specs.Filling as filling
+use Rattle.pcache_cache.specs.Locking as locking
+use Rattle.pcache_cache.specs.Looking as looking
+use Rattle.pcache_cache.specs.Removing as removing
+use Rattle.pcache_cache.specs.Revalidating as revalidating
+use Rattle.pcache_lock.specs.declared.lock.outcome.LockWaitOutcome.{LockWaitOutcome}
+use Rattle.pcache_request.specs.declared.cache.report.LockName.{LockName}
+use Rattle.pcache_request.specs.declared.cache.report.ReleasedLock.{ReleasedLock}
+use Rattle.pcache_cache.specs.Parts.{MayEnd, Parts, takes_bytes}
 use Rattle.pcache_meta.specs.Header.{Header}
 use Rattle.pcache_meta.specs.Meta.{Meta}
-use Rattle.pcache_request.specs.Finishing.{after_finish}
-use Rattle.pcache_request.specs.LockUse.{MaySetLock, lock_used, read_in, unheld}
-use Rattle.pcache_request.specs.LockWaits.{table_waited, unusable_in, wait_result, waited}
-use Rattle.pcache_request.specs.NoBody.{LeavesNone}
-use Rattle.pcache_request.specs.Phases.{IsDisabled, IsFilling, IsOn, IsStale, MayFinishHit, MayLookUp, MayMiss, MayPurge}
-use Rattle.pcache_request.specs.Releasing.{MayDisable, MayRelease, disabled_for, status_for}
-use Rattle.pcache_request.specs.Renewals.{renewed, renewed_by}
-use Rattle.pcache_request.specs.Requests.{HoldsNothing, MayTakeMeta, MayWrite, Request, asks_for_hit, begin_followed, begun_for, counts_found, dropped_by, found_for, found_row, is_removed_by, left_by, length_by, missed, settled, store_found, store_writing, table_found, tracked_gone_for, whole_by, with_meta, without_reader, writing}
-use Rattle.pcache_request.specs.Stale.{MayRevalidate, uncacheable, updating}
-use Rattle.pcache_request.specs.Variants.{asks_unseen, hides_for, looked_for, looks_for_variance, same_variance, searched, seen_for, table_looked_for, table_varied, varied}
-use Rattle.pcache_request.specs.LockPasts.{end_deeds}
-use Rattle.pcache_request.specs.StorePasts.{EndsRequestPast}
-use Rattle.pcache_request.specs.WriteEnds.{Ends, EndsAs, evicted_after}
+use Rattle.pcache_request.specs.LockUse.{MaySetLock, lock_used, read_in}
+use Rattle.pcache_request.specs.Phases.{IsFilling, IsOn, IsStale, MayFinishHit, MayLookUp, MayMiss, MayPurge}
+use Rattle.pcache_request.specs.Releasing.{MayDisable, MayRelease}
+use Rattle.pcache_request.specs.Requests.{MayTakeMeta, MayWrite, Request, length_by, missed, whole_by, with_meta}
+use Rattle.pcache_request.specs.Stale.{MayRevalidate, updating}
+use Rattle.pcache_request.specs.Variants.{looks_for_variance, same_variance}
 use Rattle.pcache_request.specs.declared.cache.finish.FinishReport.{FinishReport}
 use Rattle.pcache_request.specs.declared.phase.HitStatus.{HitStatus}
-use Rattle.pcache_store.specs.Purge.{expire_outcome, expired_at, purge_outcome, purged_at}
-use Rattle.pcache_store.specs.Readers.{in_memory, reader_of}
-use Rattle.pcache_store.specs.Refusals.{MayFailWrite}
+use Rattle.pcache_store.specs.Readers.{reader_of}
 use Rattle.pcache_store.specs.Store.{Reader, Store, gives_piece, left, read_of, reader_after, sought}
 use Rattle.pcache_c.specs.Codes.{Outcome, bad_value, code_of, no_memory, nothing, ok, wrong_call}
 use Rattle.pcache_c.specs.Numbers.{held_number, outcome_number, phase_number}
@@ -58,16 +52,6 @@ SaysHeld c d o p out code = IsUnchanged c d o p × (code ≡ ok) × (out ≡ hel
 abbrev pub KeepsFound : Open → Open → Type 0
 KeepsFound o p = (p.found ≡ o.found) × (p.piece ≡ o.piece) × (p.next_byte ≡ o.next_byte)
 
--- of the cache, all but its store and its locks, or one of these, is as it was
-abbrev pub KeepsManager : Parts → Parts → Type 0
-KeepsManager c d = d ≡ record c { store = d.store; past = d.past; locks = d.locks; deeds = d.deeds }
-
-abbrev pub KeepsButStore : Parts → Parts → Type 0
-KeepsButStore c d = d ≡ record c { store = d.store; past = d.past }
-
-abbrev pub KeepsButLocks : Parts → Parts → Type 0
-KeepsButLocks c d = d ≡ record c { locks = d.locks; deeds = d.deeds }
-
 -- the pair that a look-up found
 abbrev pub pair_found : Open → Option (Meta × Reader)
 pair_found o = option_map (λ q. (q.0, reader_of q.1)) o.found
@@ -78,48 +62,26 @@ abbrev pub MayLook : Open → Type 0
 MayLook o = (o.found ≡ None) × MayLookUp o.request.cache.phase
 
 pub record Looked (now : ℕ) (c d : Parts) (o p : Open) (found : ℕ) : Type 0 where
-  pub says : found ≡ from_bool (is_some (seen_for c.store o.request.cache))
-  pub pair : pair_found p ≡ seen_for c.store o.request.cache
-  pub request : p.request.cache ≡ looked_for c.store c.locks o.request.cache
-  pub store : d.store ≡ searched c.store o.request.cache
-  pub table : d.locks ≡ table_looked_for c.store now o.request.cache c.locks
-  pub parts : KeepsManager c d
+  pub says : found ≡ from_bool (is_some p.found)
+  pub takes : looking.LooksUp (Ok p.found) now o.request.cache p.request.cache c d
   pub rest : (p.piece ≡ o.piece) × (p.next_byte ≡ o.next_byte)
 
-pub record RefusesLook (c d : Parts) (o p : Open) (e : ErrorType) : Type 0 where
-  pub kind : MayFailLock c.locks e
-  pub numbers : e ≡ NumbersExhausted → IsTrue (asks_unseen c.store o.request.cache)
-  pub something : IsSome (found_for c.store o.request.cache.key) ⊎ IsTrue o.request.cache.uses.lock
-  pub request : p.request.cache ≡ o.request.cache
+pub record RefusesLook (now : ℕ) (c d : Parts) (o p : Open) (e : ErrorType) : Type 0 where
+  pub takes : looking.LooksUp (Err e) now o.request.cache p.request.cache c d
   pub rest : KeepsFound o p
-  pub store : (d.store ≡ c.store) ⊎ (d.store ≡ searched c.store o.request.cache)
-  pub same : hides_for c.store o.request.cache ≡ false → d.store ≡ c.store
-  pub table : d.locks ≡ c.locks
-  pub parts : KeepsManager c d
 
 abbrev pub Looks : ℕ → Parts → Parts → Open → Open → ℕ → ℕ → Type 0
-Looks now c d o p found code = Outcome (MayLook o) (Looked now c d o p found) ⊥ (RefusesLook c d o p) (IsUnchanged c d o p) code
+Looks now c d o p found code = Outcome (MayLook o) (Looked now c d o p found) ⊥ (RefusesLook now c d o p) (IsUnchanged c d o p) code
 
 -- what a look-up found is taken; of what was read before, nothing is handed over any more
 
 pub record TakesPair (status : HitStatus) (now : ℕ) (m : Meta) (h : Reader) (c d : Parts) (o p : Open) : Type 0 where
-  pub request : p.request.cache ≡ found_row status m h c.locks o.request.cache
-  pub store : d.store ≡ store_found status h o.request.cache c.store
-  pub table : d.locks ≡ table_found status now o.request.cache c.locks
-  pub tracked : d.tracked ≡ c.tracked
-  pub rest : (d.weighing ≡ c.weighing) × (d.limits ≡ c.limits) × (d.evicted ≡ c.evicted)
+  pub takes : looking.TakesFound (Ok tt) status m h now o.request.cache p.request.cache c d
   pub none : p.found ≡ None
   pub piece : p.piece ≡ []
 
-pub record RefusesPair (status : HitStatus) (h : Reader) (c d : Parts) (o p : Open) (e : ErrorType) : Type 0 where
-  pub kind : MayFailLock c.locks e
-  pub numbers : e ≡ NumbersExhausted → IsTrue (asks_for_hit status o.request.cache)
-  pub something : IsTrue (counts_found status h o.request.cache) ⊎ IsTrue (asks_for_hit status o.request.cache)
-  pub request : p.request.cache ≡ o.request.cache
-  pub store : d.store ≡ left c.store h
-  pub table : d.locks ≡ c.locks
-  pub tracked : d.tracked ≡ c.tracked
-  pub rest : (d.weighing ≡ c.weighing) × (d.limits ≡ c.limits) × (d.evicted ≡ c.evicted)
+pub record RefusesPair (status : HitStatus) (now : ℕ) (m : Meta) (h : Reader) (c d : Parts) (o p : Open) (e : ErrorType) : Type 0 where
+  pub takes : looking.TakesFound (Err e) status m h now o.request.cache p.request.cache c d
   pub none : p.found ≡ None
   pub piece : (p.piece ≡ o.piece) × (p.next_byte ≡ o.next_byte)
 
@@ -130,13 +92,12 @@ OnPair (Some q) does = does q.0 q.1
 
 abbrev pub Takes : HitStatus → ℕ → Parts → Parts → Open → Open → ℕ → Type 0
 Takes status now c d o p code = Outcome (MayLookUp o.request.cache.phase) (OnPair (pair_found o) (λ m h. TakesPair status now m h c d o p))
-    ((o.found ≡ None) × IsUnchanged c d o p) (λ e. OnPair (pair_found o) (λ m h. RefusesPair status h c d o p e)) (IsUnchanged c d o p) code
+    ((o.found ≡ None) × IsUnchanged c d o p) (λ e. OnPair (pair_found o) (λ m h. RefusesPair status now m h c d o p e)) (IsUnchanged c d o p) code
 
 -- what a look-up found is let go
 
 pub record LetsGo (h : Reader) (c d : Parts) (o p : Open) : Type 0 where
-  pub store : d.store ≡ left c.store h
-  pub parts : KeepsButStore c d
+  pub takes : looking.LetsGo h c d
   pub request : p ≡ record o { found = None }
 
 abbrev pub Passes : Parts → Parts → Open → Open → ℕ → Type 0
@@ -149,8 +110,8 @@ pub record LooksFor (variance : List ℕ) (m : Meta) (h : Reader) (c d : Parts) 
   pub says : same ≡ from_bool (same_variance m.variance (Some variance))
   pub request : p.request.cache ≡ looks_for_variance variance m o.request.cache
   pub found : p.found ≡ cond (same_variance m.variance (Some variance)) o.found None
-  pub store : d.store ≡ cond (same_variance m.variance (Some variance)) c.store (left c.store h)
-  pub parts : KeepsButStore c d
+  pub stays : same_variance m.variance (Some variance) ≡ true → d ≡ c
+  pub goes : same_variance m.variance (Some variance) ≡ false → looking.LetsGo h c d
   pub rest : (p.piece ≡ o.piece) × (p.next_byte ≡ o.next_byte)
 
 abbrev pub LooksForVariant : List ℕ → Parts → Parts → Open → Open → ℕ → ℕ → Type 0
@@ -187,10 +148,7 @@ CopyOf m (Err code) = ((code ≡ nothing) × (m ≡ None)) ⊎ ((code ≡ no_mem
 -- a stale body is renewed by the meta of an answer that says that it is good
 
 pub record Renewed (result : Result Bool ErrorType) (m : Meta) (c d : Parts) (o p : Open) : Type 0 where
-  pub request : p.request.cache ≡ renewed m o.request.cache
-  pub renews : renewing.Renews c.weighing c.limits (renewed_by m o.request.cache.meta) o.request.cache.key result (renewing.stock c) (renewing.stock d)
-  pub table : d.locks ≡ settled Done o.request.cache.held c.locks
-  pub parts : d ≡ record c { store = d.store; past = d.past; tracked = d.tracked; evicted = d.evicted; locks = d.locks; deeds = d.deeds }
+  pub takes : revalidating.Revalidates result m o.request.cache p.request.cache c d
   pub rest : KeepsFound o p
 
 -- if it fails, there was no memory for a copy of the meta, or for what the cache does
@@ -209,9 +167,8 @@ abbrev pub MayServeOn : NoCacheReason → Open → Type 0
 MayServeOn why o = MayRevalidate o.request.cache × MayRelease why o.request.cache.held
 
 pub record ServedOn (h : Header) (why : NoCacheReason) (c d : Parts) (o p : Open) : Type 0 where
-  pub request : p.request.cache ≡ uncacheable h why o.request.cache
-  pub table : d.locks ≡ settled (status_for (λ text. GiveUp) why) o.request.cache.held c.locks
-  pub parts : KeepsButLocks c d
+  pub released : Option LockName
+  pub takes : revalidating.ServesUncacheable released h why o.request.cache p.request.cache c d
   pub rest : KeepsFound o p
 
 abbrev pub ServesOn : Header → NoCacheReason → Parts → Parts → Open → Open → ℕ → Type 0
@@ -221,9 +178,8 @@ ServesOn h why c d o p code = Outcome (MayServeOn why o) (ServedOn h why c d o p
 -- what the response varies on is set
 
 pub record Varied (variance : Option (List ℕ)) (c d : Parts) (o p : Open) : Type 0 where
-  pub request : p.request.cache ≡ varied variance o.request.cache
-  pub table : d.locks ≡ table_varied variance o.request.cache c.locks
-  pub parts : KeepsButLocks c d
+  pub released : Option LockName
+  pub takes : revalidating.Varies released variance o.request.cache p.request.cache c d
   pub rest : KeepsFound o p
 
 abbrev pub Varies : Option (List ℕ) → Parts → Parts → Open → Open → ℕ → Type 0
@@ -231,37 +187,18 @@ Varies variance c d o p code = Outcome (MayWrite o.request.cache) (Varied varian
 
 -- the write begins, and the request reads it
 
-abbrev pub begun_by : Open → Store → Store
-begun_by o s = begun_for o.request.cache.key o.request.cache.meta s
-
 pub record Begun (c d : Parts) (o p : Open) : Type 0 where
-  pub request : p.request.cache ≡ writing true c.store.next (Some c.store.next) (begun_by o c.store) o.request.cache
-  pub store : d.store ≡ store_writing true c.store.next o.request.cache c.store
-  pub table : d.locks ≡ settled Done o.request.cache.held c.locks
-  pub parts : KeepsManager c d
+  pub takes : filling.BeginsWrite (Ok tt) o.request.cache p.request.cache c d
   pub found : p.found ≡ o.found
   pub piece : p.piece ≡ []
 
--- the write began, and there was no memory for a reader of it
-pub record HalfBegun (c d : Parts) (o p : Open) : Type 0 where
-  pub request : p.request.cache ≡ record o.request.cache { write = Some c.store.next; entry = Some c.store.next; held = None }
-  pub store : d.store ≡ begun_by o c.store
-  pub table : d.locks ≡ settled Done o.request.cache.held c.locks
-  pub parts : KeepsManager c d
-  pub rest : KeepsFound o p
-
+-- it did not begin, or began and there was no memory for a reader of it
 pub record NotBegun (c d : Parts) (o p : Open) (e : ErrorType) : Type 0 where
-  pub why : MayFailWrite c.store e
-  pub request : p.request.cache ≡ o.request.cache
-  pub store : d.store ≡ c.store
-  pub table : d.locks ≡ c.locks
-  pub parts : KeepsManager c d
+  pub takes : filling.BeginsWrite (Err e) o.request.cache p.request.cache c d
   pub rest : KeepsFound o p
 
 abbrev pub Begins : Parts → Parts → Open → Open → ℕ → Type 0
-Begins c d o p code = Outcome (MayWrite o.request.cache) (Begun c d o p) ⊥
-    (λ e. (NotBegun c d o p e ⊎ ((e ≡ OutOfMemory) × HalfBegun c d o p)) × ((d.store ≡ c.store) ⊎ IsSome (begin_followed c.store o.request.cache)))
-    (IsUnchanged c d o p) code
+Begins c d o p code = Outcome (MayWrite o.request.cache) (Begun c d o p) ⊥ (NotBegun c d o p) (IsUnchanged c d o p) code
 
 -- bytes are added to the write: the wrong call where there is no write, or its last bytes were said
 
@@ -271,8 +208,7 @@ MayAdd c o = IsFilling o.request.cache.phase × (takes_bytes c.store o.request.c
 pub record Adds (bytes : List ℕ) (eof : Bool) (c d : Parts) (o p : Open) (code : ℕ) : Type 0 where
   pub request : p.request.cache ≡ o.request.cache
   pub rest : KeepsFound o p
-  pub store : code ≡ ok → d.store ≡ written_by o.request.cache.write bytes eof c.store
-  pub parts : KeepsButStore c d
+  pub takes : code ≡ ok → filling.Writes (Ok true) bytes eof o.request.cache p.request.cache c d
   pub may : code ≡ ok → MayAdd c o
   pub phase : (¬ IsFilling o.request.cache.phase) → code ≡ wrong_call
   pub wrong : code ≡ wrong_call → ¬ MayAdd c o
@@ -285,14 +221,7 @@ MayEndWrite c o = IsFilling o.request.cache.phase × MayEnd c.store o.request.ca
 
 -- what the call of the cache answered, and what that leaves
 pub record EndsSo (result : Result (Option FinishReport) ErrorType) (c d : Parts) (o p : Open) : Type 0 where
-  pub request : p.request.cache ≡ after_finish o.request.cache
-  pub ended : EndsAs result (λ e. Ends in_memory o.request.cache o.request.cache.key o.request.cache.write (entered c.weighing c.store o.request.cache.write)
-      c.limits e c.store d.store (tracked_at_end c o.request.cache e) d.tracked c.locks d.locks
-      × EndsRequestPast in_memory o.request.cache.key o.request.cache.write e (Some c.past) (Some d.past)
-      × cached.Adds (end_deeds o.request.cache.write o.request.cache.held e) c.deeds d.deeds
-      × (d.evicted ≡ evicted_after o.request.cache o.request.cache.key (entered c.weighing c.store o.request.cache.write) (tracked_at_end c o.request.cache e) c.evicted e))
-  pub limits : d.limits ≡ c.limits
-  pub weighing : d.weighing ≡ c.weighing
+  pub takes : filling.EndsWrite result o.request.cache p.request.cache c d
   pub rest : KeepsFound o p
 
 -- its entry weighs so much, and so many entries were evicted for it
@@ -301,7 +230,7 @@ Stored size evicted c d o p = (f : FinishReport) × (size ≡ f.size) × (evicte
 
 abbrev pub Finishes : ℕ → ℕ → Parts → Parts → Open → Open → ℕ → Type 0
 Finishes size evicted c d o p code = Outcome (MayEndWrite c o) (Stored size evicted c d o p) (EndsSo (Ok None) c d o p)
-    (λ e. EndsSo (Err e) c d o p × LeavesNone o.request.cache.key o.request.cache.write c.store d.store) (IsUnchanged c d o p) code
+    (λ e. EndsSo (Err e) c d o p) (IsUnchanged c d o p) code
 
 -- the body is read on: what was read and found no room comes first, and then what the reader gives
 
@@ -441,9 +370,7 @@ pub record Seeks (start end : ℕ) (o p : Open) (code : ℕ) : Type 0 where
 -- the reader is ended
 
 pub record HitEnded (c d : Parts) (o p : Open) : Type 0 where
-  pub request : p.request.cache ≡ without_reader o.request.cache
-  pub store : d.store ≡ left_by o.request.cache.reader c.store
-  pub parts : KeepsButStore c d
+  pub takes : looking.EndsHit (Ok tt) o.request.cache p.request.cache c d
   pub found : p.found ≡ o.found
   pub piece : p.piece ≡ []
 
@@ -457,22 +384,17 @@ abbrev pub MayWait : Open → Type 0
 MayWait o = IsOn o.request.cache.phase × IsSome (read_in o.request.cache.held)
 
 pub record Waited (now : ℕ) (c d : Parts) (o p : Open) (outcome : ℕ) : Type 0 where
-  pub says : outcome ≡ outcome_number (wait_result c.locks now o.request.cache.held o.request.cache)
-  pub request : p.request.cache ≡ waited c.locks now o.request.cache.held o.request.cache
-  pub table : d.locks ≡ table_waited c.locks now o.request.cache.held o.request.cache
-  pub parts : KeepsButLocks c d
+  pub answer : Poll LockWaitOutcome
+  pub says : outcome ≡ outcome_number answer
+  pub takes : locking.Waits (Ok answer) now o.request.cache p.request.cache c d
   pub rest : KeepsFound o p
 
-pub record RefusesWait (c d : Parts) (o p : Open) (e : ErrorType) : Type 0 where
-  pub kind : e ≡ OutOfMemory
-  pub unusable : IsSome (unusable_in o.request.cache.key)
-  pub request : p.request.cache ≡ o.request.cache
+pub record RefusesWait (now : ℕ) (c d : Parts) (o p : Open) (e : ErrorType) : Type 0 where
+  pub takes : locking.Waits (Err e) now o.request.cache p.request.cache c d
   pub rest : KeepsFound o p
-  pub table : d.locks ≡ c.locks
-  pub parts : KeepsButLocks c d
 
 abbrev pub Waits : ℕ → ℕ → Parts → Parts → Open → Open → ℕ → Type 0
-Waits now outcome c d o p code = Outcome (MayWait o) (Waited now c d o p outcome) ⊥ (RefusesWait c d o p) (IsUnchanged c d o p) code
+Waits now outcome c d o p code = Outcome (MayWait o) (Waited now c d o p outcome) ⊥ (RefusesWait now c d o p) (IsUnchanged c d o p) code
 
 -- how long a request waits at most, over all its waits, is set before it asks for a lock
 
@@ -494,9 +416,8 @@ SaysWaited c d o p secs nanos code = IsUnchanged c d o p × SaysTime o.request.c
 -- what is held is released
 
 pub record Released (why : NoCacheReason) (c d : Parts) (o p : Open) : Type 0 where
-  pub request : p.request.cache ≡ unheld o.request.cache
-  pub table : d.locks ≡ settled (status_for (λ text. GiveUp) why) o.request.cache.held c.locks
-  pub parts : KeepsButLocks c d
+  pub released : Option ReleasedLock
+  pub takes : locking.Releases released why o.request.cache p.request.cache c d
   pub rest : KeepsFound o p
 
 abbrev pub Releases : NoCacheReason → Parts → Parts → Open → Open → ℕ → Type 0
@@ -505,17 +426,16 @@ Releases why c d o p code = Outcome (MayRelease why o.request.cache.held) (IsSom
 
 -- caching is turned off, and all that is held is given back
 
-abbrev pub left_found : Option (Meta × Reader) → Store → Store
-left_found None s = s
-left_found (Some q) s = left s q.1
+-- what a look-up found is let go, if it found something
+abbrev pub LetsGoFound : Option (Meta × Reader) → Parts → Parts → Type 0
+LetsGoFound None c d = d ≡ c
+LetsGoFound (Some q) c d = looking.LetsGo q.1 c d
 
 pub record TurnedOff (why : NoCacheReason) (c d : Parts) (o p : Open) : Type 0 where
-  pub request : p.request.cache ≡ disabled_for why o.request.cache
-  pub off : IsDisabled p.request.cache.phase
-  pub held : HoldsNothing p.request.cache
-  pub store : d.store ≡ left_by o.request.cache.reader (dropped_by o.request.cache.write (left_found (pair_found o) c.store))
-  pub table : d.locks ≡ settled (status_for (λ text. GiveUp) why) o.request.cache.held c.locks
-  pub rest : (d.weighing ≡ c.weighing) × (d.tracked ≡ c.tracked) × (d.limits ≡ c.limits) × (d.evicted ≡ c.evicted)
+  pub between : Parts
+  pub lets_go : LetsGoFound (pair_found o) c between
+  pub released : Option LockName
+  pub takes : ending.Disables released why o.request.cache p.request.cache between d
   pub none : p.found ≡ None
   pub piece : p.piece ≡ []
 
@@ -524,35 +444,22 @@ TurnsOff why c d o p code = Outcome (MayDisable why o.request.cache) (TurnedOff 
 
 -- what stands under the key is removed, or expires
 
-abbrev pub slot_in : Open → Option ℕ
-slot_in o = option_map slot o.request.cache.key
-
 pub record Purged (c d : Parts) (o p : Open) (was : ℕ) : Type 0 where
-  pub says : was ≡ from_bool (is_removed_by (purge_outcome true c.store (slot_in o)))
-  pub store : d.store ≡ purged_at c.store (slot_in o)
-  pub tracked : d.tracked ≡ tracked_gone_for o.request.cache.uses.eviction o.request.cache.key (purge_outcome true c.store (slot_in o)) c.tracked
-  pub rest : (d.weighing ≡ c.weighing) × (d.limits ≡ c.limits) × (d.evicted ≡ c.evicted) × (d.locks ≡ c.locks)
-  pub request : p.request.cache ≡ o.request.cache
+  pub there : Bool
+  pub says : was ≡ from_bool there
+  pub takes : removing.Purges (Ok there) o.request.cache p.request.cache c d
   pub found : KeepsFound o p
 
 pub record Expired (now : ℕ) (c d : Parts) (o p : Open) (was : ℕ) : Type 0 where
-  pub says : was ≡ from_bool (is_removed_by (expire_outcome c.store (slot_in o)))
-  pub store : d.store ≡ expired_at now c.store (slot_in o)
-  pub tracked : d.tracked ≡ tracked_gone_for o.request.cache.uses.eviction o.request.cache.key (expire_outcome c.store (slot_in o)) c.tracked
-  pub rest : (d.weighing ≡ c.weighing) × (d.limits ≡ c.limits) × (d.evicted ≡ c.evicted) × (d.locks ≡ c.locks)
-  pub request : p.request.cache ≡ o.request.cache
-  pub found : KeepsFound o p
-
-pub record RefusesRemoval (c d : Parts) (o p : Open) (e : ErrorType) : Type 0 where
-  pub kind : e ≡ OutOfMemory
-  pub store : d.store ≡ c.store
-  pub tracked : d.tracked ≡ c.tracked
-  pub rest : (d.weighing ≡ c.weighing) × (d.limits ≡ c.limits) × (d.evicted ≡ c.evicted) × (d.locks ≡ c.locks)
-  pub request : p.request.cache ≡ o.request.cache
+  pub there : Bool
+  pub says : was ≡ from_bool there
+  pub takes : removing.Expires (Ok there) now o.request.cache p.request.cache c d
   pub found : KeepsFound o p
 
 abbrev pub Purges : ℕ → Parts → Parts → Open → Open → ℕ → Type 0
-Purges was c d o p code = Outcome (MayPurge o.request.cache.phase) (Purged c d o p was) ⊥ (RefusesRemoval c d o p) (IsUnchanged c d o p) code
+Purges was c d o p code = Outcome (MayPurge o.request.cache.phase) (Purged c d o p was) ⊥
+    (λ e. removing.Purges (Err e) o.request.cache p.request.cache c d × KeepsFound o p) (IsUnchanged c d o p) code
 
 abbrev pub Expires : ℕ → ℕ → Parts → Parts → Open → Open → ℕ → Type 0
-Expires now was c d o p code = Outcome (MayPurge o.request.cache.phase) (Expired now c d o p was) ⊥ (RefusesRemoval c d o p) (IsUnchanged c d o p) code
+Expires now was c d o p code = Outcome (MayPurge o.request.cache.phase) (Expired now c d o p was) ⊥
+    (λ e. removing.Expires (Err e) now o.request.cache p.request.cache c d × KeepsFound o p) (IsUnchanged c d o p) code

@@ -5,7 +5,7 @@ ghost use Rattle.pcache_store.specs.Readers.{reader_of};
 ghost use Rattle.pcache_c.specs.AnyManagers.{evicted_in, limits_in, tracked_in};
 ghost use Rattle.pcache_c.specs.Counts.{nothing_counted};
 ghost use Rattle.pcache_c.specs.Opening.{EndsNumber, EndsRequest, IsNew, OpensRequest, new_cache};
-ghost use Rattle.pcache_c.specs.Requests.{KeepsButStore, left_found};
+ghost use Rattle.pcache_c.specs.Requests.{LetsGoFound};
 ghost use Rattle.pcache_c.specs.Seats.{request_at, round_at};
 
 use crate::any_manager::AnyManager;
@@ -56,9 +56,7 @@ impl Open {
 
 /// Lets go what a look-up found.
 pub(crate) fn let_go(cache: &mut AnyCache, found: Option<(CacheMeta, MemHitHandler)>)
-    ensures store { cache.new.store
-        ≡ left_found (option_map (λ q. (q.0, reader_of q.1)) found) cache.old.store }
-    ensures rest { KeepsButStore cache.old cache.new }
+    ensures { LetsGoFound (option_map (λ q. (q.0, reader_of q.1)) found) cache.old cache.new }
 {
     if let Some((_meta, hit)) = found {
         cache.let_go(hit);

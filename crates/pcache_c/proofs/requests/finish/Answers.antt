@@ -8,11 +8,5 @@ returns-in-Ok-Some c =
       c.in-Ok-Some.report,
       refl,
       search rules,
-      record {
-        request = c.finish_miss_handler.ensures.takes.request;
-        ended = rw c.in-Ok-Some.field-0-is at c.in-Ok-Some.ensures.takes.ended;
-        limits = c.finish_miss_handler.ensures.takes.limits;
-        weighing = c.finish_miss_handler.ensures.takes.weighing;
-        rest = (refl, refl, refl);
-      },
+      record { takes = rw c.in-Ok-Some.field-0-is at c.in-Ok-Some.ensures.takes; rest = (refl, refl, refl) },
     )
