@@ -28,8 +28,9 @@ pub use policy::EvictionPolicy;
 ///
 /// A contract sees the map from entries to weights, the limits on their sum and number, and the
 /// policy that the entries go by; and the order of the entries, as the manager shows it, with the
-/// rules by which calls change it. Calls fail only when memory runs out, and a failed call leaves the entries and their weights; the order
-/// of those that were looked at to find one that goes may have changed.
+/// rules by which calls change it. Calls fail only when memory runs out, and a failed call leaves
+/// the entries and their weights; the order of those that were looked at to find one that goes may
+/// have changed.
 pub trait EvictionManager: Drop {
     /// The entries, with their weights.
     ghost tracked: { Self → Tracked };
