@@ -1,16 +1,7 @@
 -- The text of a head that is written is a spelling of that head.
-use Rattle.std.proofs.Common.{◌≡◌, ℕ, List, [], ◌∷◌, ◌++◌, map, refl, sym, ap, ◌∙◌, append_assoc}
-use Rattle.std.specs.Prelude.{All, IfOk, OnOk, Result, Ok, Err}
-use Rattle.std.specs.Global.{Vec}
-use Rattle.std.specs.List.{flat_map}
-use Rattle.std.proofs.lemmas.List.Concat.{flat_map-cons}
-use Rattle.std.proofs.lemmas.List.Elements.{All-cons}
-use Rattle.http.specs.StatusCode.{IsStatusCode}
-use Rattle.http_header.specs.FieldValue.{FieldValue}
-use Rattle.http_header.specs.HeaderMap.{Entries, append, append_all, pairs, entry_pairs, IsHeaderMap}
-use Rattle.pcache_meta.specs.Header.{Fields, shown, shown_entry, shown_fields}
-use Rattle.pcache_meta.specs.HeaderText.{Field, IsField, field_line, fields_of, header_text, header_written, shown_lines, SpellsHeader}
+use Rattle.pcache_meta.specs.HeaderText.{field_line, header_text, header_written}
 use Rattle.pcache_meta.specs.declared.header.ResponseHeader.{ResponseHeader}
+use Rattle.pcache_meta.proofs.Words.{◌≡◌, ℕ, List, [], ◌∷◌, ◌++◌, map, refl, sym, ap, ◌∙◌, append_assoc, All, IfOk, OnOk, Result, Ok, Err, Vec, flat_map, flat_map-cons, All-cons, IsStatusCode, FieldValue, Entries, append, append_all, pairs, entry_pairs, IsHeaderMap, Fields, shown, shown_entry, shown_fields, Field, IsField, fields_of, shown_lines, SpellsHeader}
 use Rattle.pcache_meta.proofs.HeaderMaps.{shown-append, FitsMap-shown}
 use Rattle.pcache_meta.proofs.RoundTrip.{append_all-pairs}
 

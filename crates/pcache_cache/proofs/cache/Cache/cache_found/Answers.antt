@@ -1,8 +1,6 @@
-use Rattle.std.proofs.Common.{subst, sym, Some, refl, rules}
 use Rattle.pcache_store.specs.Readers.{reader_of}
-use Rattle.pcache_cache.specs.Parts.{IsKept}
+use Rattle.pcache_cache.proofs.Words.{subst, sym, Some, refl, rules, IsKept, found_deeds}
 use Rattle.pcache_cache.proofs.Kept.{kept_found, slots_taken}
-use Rattle.pcache_request.specs.LockPasts.{found_deeds}
 use Rattle.pcache_cache.proofs.Adding.{found_keeps}
 use Rattle.pcache_cache.proofs.Unlocking.{if_done, none_kept}
 use Rattle.pcache_cache.proofs.Only.{only_slots}

@@ -1,5 +1,4 @@
-use Rattle.std.proofs.Common.{Some}
-use Rattle.pcache_request.specs.LockPasts.{waited_deeds}
+use Rattle.pcache_cache.proofs.Words.{Some, waited_deeds}
 use Rattle.pcache_cache.proofs.Adding.{waited_keeps}
 use Rattle.pcache_cache.proofs.Unlocking.{if_done, none_kept}
 use Rattle.pcache_cache.proofs.cache.Cache.cache_lock_wait.Goals as goal

@@ -1,7 +1,6 @@
 use Rattle.pcache_request.specs.Admissions.{decision_taken}
+use Rattle.pcache_cache.proofs.Words.{Some, looked_with_deeds}
 use Rattle.pcache_cache.proofs.Kept.{kept_looked_with}
-use Rattle.std.proofs.Common.{Some}
-use Rattle.pcache_request.specs.LockPasts.{looked_with_deeds}
 use Rattle.pcache_cache.proofs.Adding.{looked_with_keeps}
 use Rattle.pcache_cache.proofs.Unlocking.{if_done, none_kept}
 use Rattle.pcache_cache.proofs.cache.Cache.cache_lookup.Goals as goal

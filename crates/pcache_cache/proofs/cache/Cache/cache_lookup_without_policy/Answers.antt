@@ -1,6 +1,5 @@
 use Rattle.pcache_cache.proofs.Kept.{kept_looked}
-use Rattle.std.proofs.Common.{Some}
-use Rattle.pcache_request.specs.LockPasts.{looked_deeds}
+use Rattle.pcache_cache.proofs.Words.{Some, looked_deeds}
 use Rattle.pcache_cache.proofs.Adding.{looked_keeps}
 use Rattle.pcache_cache.proofs.Unlocking.{if_done, none_kept}
 use Rattle.pcache_cache.proofs.cache.Cache.cache_lookup_without_policy.Goals as goal

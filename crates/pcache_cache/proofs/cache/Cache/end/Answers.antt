@@ -1,6 +1,5 @@
 use Rattle.pcache_cache.proofs.Kept.{kept_ended}
-use Rattle.std.proofs.Common.{Some}
-use Rattle.pcache_request.specs.LockPasts.{let_go_deeds}
+use Rattle.pcache_cache.proofs.Words.{Some, let_go_deeds}
 use Rattle.pcache_cache.proofs.Adding.{let_go_keeps}
 use Rattle.pcache_cache.proofs.Unlocking.{once_done, none_kept}
 use Rattle.pcache_cache.proofs.cache.Cache.end.Goals as goal

@@ -1,10 +1,7 @@
-use Rattle.std.proofs.Common.{ap, subst, sym, ◌∙◌, Some, refl, rules}
-use Rattle.pcache_cache.specs.Weighing.{ending_weight}
-use Rattle.pcache_cache.specs.Parts.{IsKept, MayEnd, Parts}
+use Rattle.pcache_cache.proofs.Words.{ap, subst, sym, ◌∙◌, Some, refl, rules, ending_weight, IsKept, MayEnd, Parts, HasRoom, beside}
 use Rattle.pcache_cache.proofs.Ended.{kept_finished, same-number}
 use Rattle.pcache_cache.proofs.Unlocking.{if_ended}
 use Rattle.pcache_cache.proofs.Ways.{each_end}
-use Rattle.pcache_cache.specs.Room.{HasRoom, beside}
 use Rattle.pcache_cache.proofs.Only.{only_finished}
 use Rattle.pcache_cache.proofs.Room.{finish_calm}
 use Rattle.pcache_cache.proofs.cache.Cache.finish_miss_handler.Goals as goal

@@ -1,5 +1,4 @@
-use Rattle.std.proofs.Common.{Some}
-use Rattle.pcache_request.specs.LockPasts.{published_deeds}
+use Rattle.pcache_cache.proofs.Words.{Some, published_deeds}
 use Rattle.pcache_cache.proofs.Adding.{published_keeps}
 use Rattle.pcache_cache.proofs.Unlocking.{if_done, none_kept}
 use Rattle.pcache_cache.proofs.cache.Cache.lock_publish_fill_tokens.Goals as goal

@@ -1,5 +1,4 @@
-use Rattle.std.proofs.Common.{subst, sym, rules}
-use Rattle.pcache_cache.specs.Parts.{IsKept}
+use Rattle.pcache_cache.proofs.Words.{subst, sym, rules, IsKept}
 use Rattle.pcache_cache.proofs.Kept.{kept_removed}
 use Rattle.pcache_cache.proofs.Only.{only_removed}
 use Rattle.pcache_cache.proofs.cache.Cache.purge.Goals as goal

@@ -1,7 +1,4 @@
-use Rattle.std.proofs.Common.{Some}
-use Rattle.pcache_request.specs.Releasing.{status_for}
-use Rattle.pcache_lock.specs.declared.lock.status.LockStatus.TheVariants.{GiveUp}
-use Rattle.pcache_request.specs.LockPasts.{settled_deeds}
+use Rattle.pcache_cache.proofs.Words.{Some, status_for, GiveUp, settled_deeds}
 use Rattle.pcache_cache.proofs.Adding.{settled_keeps}
 use Rattle.pcache_cache.proofs.Unlocking.{once_done, none_kept}
 use Rattle.pcache_cache.proofs.cache.Cache.release_write_lock.Goals as goal

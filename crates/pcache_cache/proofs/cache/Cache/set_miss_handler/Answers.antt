@@ -1,7 +1,7 @@
 use Rattle.pcache_cache.proofs.Kept.{kept_beginning}
 use Rattle.pcache_cache.proofs.Own.{beginning_own}
 use Rattle.pcache_cache.proofs.Unlocking.{if_begun}
-use Rattle.std.proofs.Common.{Some, refl, rules}
+use Rattle.pcache_cache.proofs.Words.{Some, refl, rules}
 use Rattle.pcache_cache.proofs.cache.Cache.set_miss_handler.Goals as goal
 
 pub invariant_of-self : goal.invariant_of-self

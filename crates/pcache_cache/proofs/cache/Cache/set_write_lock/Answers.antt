@@ -1,5 +1,4 @@
-use Rattle.std.proofs.Common.{Some}
-use Rattle.pcache_request.specs.LockPasts.{handed_deeds}
+use Rattle.pcache_cache.proofs.Words.{Some, handed_deeds}
 use Rattle.pcache_cache.proofs.Adding.{handed_keeps}
 use Rattle.pcache_cache.proofs.Unlocking.{once_done, none_kept}
 use Rattle.pcache_cache.proofs.cache.Cache.set_write_lock.Goals as goal

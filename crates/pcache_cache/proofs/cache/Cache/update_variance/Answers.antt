@@ -1,5 +1,4 @@
-use Rattle.std.proofs.Common.{Some}
-use Rattle.pcache_request.specs.LockPasts.{varied_deeds}
+use Rattle.pcache_cache.proofs.Words.{Some, varied_deeds}
 use Rattle.pcache_cache.proofs.Adding.{varied_keeps}
 use Rattle.pcache_cache.proofs.Unlocking.{once_done, none_kept}
 use Rattle.pcache_cache.proofs.cache.Cache.update_variance.Goals as goal

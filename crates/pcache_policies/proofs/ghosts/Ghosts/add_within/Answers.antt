@@ -1,6 +1,4 @@
-use Rattle.std.proofs.Common.{◌∷◌, ◌∙◌, take, ap}
-use Rattle.pcache_policies.specs.Queue.{seen_of}
-use Rattle.pcache_policies.specs.S3Fifo.{forgotten}
+use Rattle.pcache_policies.proofs.Words.{◌∷◌, ◌∙◌, take, ap, seen_of, forgotten}
 use Rattle.pcache_policies.proofs.GhostKeys.{none-rest, added}
 use Rattle.pcache_policies.proofs.ghosts.Ghosts.add_within.Goals as goal
 

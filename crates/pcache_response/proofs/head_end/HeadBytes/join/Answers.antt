@@ -1,4 +1,4 @@
-use Rattle.std.proofs.Common.{◌+◌, ◌++◌, length, refl}
+use Rattle.pcache_response.proofs.Words.{◌+◌, ◌++◌, length, refl}
 use Rattle.pcache_response.proofs.Joins.{joined_open, joined_ended}
 use Rattle.pcache_response.proofs.Ends.{cuts_end, unfinished_from}
 use Rattle.pcache_response.proofs.head_end.HeadBytes.join.Goals as goal

@@ -1,5 +1,4 @@
-use Rattle.std.proofs.Common.{◌++◌, ◌∙◌, ap, sym}
-use Rattle.std.proofs.lemmas.List.{append-nil}
+use Rattle.pcache_store.proofs.Words.{◌++◌, ◌∙◌, ap, sym, append-nil}
 use Rattle.pcache_store.proofs.Pieces.{put_next, put_all}
 use Rattle.pcache_store.proofs.memory.draft_text.append.Goals as goal
 

@@ -1,6 +1,4 @@
-use Rattle.std.proofs.Common.{◌+◌, ap, subst, sym, ◌∙◌, [], length}
-use Rattle.std.proofs.lemmas.List.{get_or_default}
-use Rattle.pcache_evict.specs.Recency.{Recency}
+use Rattle.pcache_evict.proofs.Words.{◌+◌, ap, subst, sym, ◌∙◌, [], length, get_or_default, Recency}
 use Rattle.pcache_evict.proofs.Cuts.{LensOf, lens-none, lens-more, lens-done}
 use Rattle.pcache_evict.proofs.eviction.shards.RecencyShards.lens.Goals as goal
 

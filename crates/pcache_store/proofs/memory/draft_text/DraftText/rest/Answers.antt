@@ -1,6 +1,4 @@
-use Rattle.std.proofs.Common.{◌++◌, ◌-◌, ◌∙◌, ap, length, refl, sym}
-use Rattle.std.specs.List.{concat}
-use Rattle.std.proofs.lemmas.Result.{IfOk-weaker}
+use Rattle.pcache_store.proofs.Words.{◌++◌, ◌-◌, ◌∙◌, ap, length, refl, sym, concat, IfOk-weaker}
 use Rattle.pcache_store.proofs.Pieces.{rest_of_tail, rest_of_last, rest_of_pieces, skips, within, empty_tail}
 use Rattle.pcache_store.proofs.memory.draft_text.DraftText.rest.Goals as goal
 
