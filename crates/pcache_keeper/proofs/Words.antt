@@ -30,7 +30,7 @@ pub use mir.Syntax.{a_type, dnil, named}
 pub use mir.Val.{Val, vptr, vunit}
 pub use seplogic.Ra.Ura.{Ura}
 pub use types.ByLocal.{alloc_all, free_all, get, look_at, pass_all, sets}
-pub use types.Kit.{!, await, by, check, done, drop, feq_i, fjoin, fjoin3, fsplit, fsplit3, given, keep, later, learn, move, pick, qed, raw, show, some, split, use0, use1, use2, ‵, ◌$◌, ◌∵◌, ◌⊛◌}
+pub use types.Kit.{ !, await, by, check, done, drop, feq_i, fjoin, fjoin3, fsplit, fsplit3, given, keep, later, learn, move, pick, qed, raw, show, some, split, use0, use1, use2, ‵, ◌$◌, ◌∵◌, ◌⊛◌}
 pub use types.Logic.{Logic, sem}
 pub use types.Owned.{basic}
 pub use types.Part.{agg}
