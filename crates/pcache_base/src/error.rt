@@ -48,8 +48,8 @@ pub struct Error {
     kind: ErrorType,
 }
 
-/// What a call that can fail returns.
-pub type Result<T> = std::result::Result<T, Error>;
+/// What a call that can fail returns; `E` is `AllocError` where it fails only when memory runs out.
+pub type Result<T, E = Error> = std::result::Result<T, E>;
 
 impl Model for Error {
     ghost use Rattle.pcache_base.specs.declared.error.ErrorType.{ErrorType};
