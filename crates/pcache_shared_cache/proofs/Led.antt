@@ -38,7 +38,7 @@ purged {result} {r} {s} {p} {q} row = record {
   limits = ap (λ (x : Parts). x.limits) row.rest;
   weighing = ap (λ (x : Parts). x.weighing) row.rest;
   age = ap (λ (x : Parts). x.locks.age_timeout) row.rest;
-  past = grew_if result (purged_past r.key) p.past q.past (kept_by_notes p.past (option_map (λ k. Purged (slot k)) r.key)) row.past (err_ap (λ (x : Parts). x.past) result q p row.same);
+  past = grew_if result (purged_past r.key) p.past q.past (kept_by_notes p.past (option_map (λ k. Purged (slot k)) r.key)) row.takes.past (err_ap (λ (x : Parts). x.past) result q p row.same);
   deeds = grew_same p.deeds q.deeds (ap (λ (x : Parts). x.deeds) row.rest);
 }
 
@@ -47,7 +47,7 @@ expired {result} {now} {r} {s} {p} {q} row = record {
   limits = ap (λ (x : Parts). x.limits) row.rest;
   weighing = ap (λ (x : Parts). x.weighing) row.rest;
   age = ap (λ (x : Parts). x.locks.age_timeout) row.rest;
-  past = grew_if result (expired_past now r.key) p.past q.past (kept_by_notes p.past (expiry_noted now (option_map slot r.key))) row.past (err_ap (λ (x : Parts). x.past) result q p row.same);
+  past = grew_if result (expired_past now r.key) p.past q.past (kept_by_notes p.past (expiry_noted now (option_map slot r.key))) row.takes.past (err_ap (λ (x : Parts). x.past) result q p row.same);
   deeds = grew_same p.deeds q.deeds (ap (λ (x : Parts). x.deeds) row.rest);
 }
 
@@ -64,19 +64,19 @@ grew_as : {A : Type 0} (p q : List A) (x : Option (List A)) → Some q ≡ x →
 grew_as p q x is grew = subst (GrewFrom (Some p)) (sym is) grew
 
 looked_past : (result : Result (Option (Meta × MemHitHandler)) ErrorType) (now : ℕ) (r s : Request) (p q : Parts) → LooksUp result now r s p q → Grew p.past q.past
-looked_past (Ok f) now r s p q row = grew_by (searched_past p.store r) p.past q.past (searched_keeps (kept_by_notes p.past) p.store r) row.past
+looked_past (Ok f) now r s p q row = grew_by (searched_past p.store r) p.past q.past (searched_keeps (kept_by_notes p.past) p.store r) row.takes.past
 looked_past (Err e) now r s p q row = ⊎_elim (λ same. grew_as p.past q.past (Some p.past) same.1 (grew_not p.past))
-    (λ gone. grew_as p.past q.past (searched_past p.store r (Some p.past)) gone.1 (searched_keeps (kept_by_notes p.past) p.store r (Some p.past) (grew_not p.past))) row.left
+    (λ gone. grew_as p.past q.past (searched_past p.store r (Some p.past)) gone.1 (searched_keeps (kept_by_notes p.past) p.store r (Some p.past) (grew_not p.past))) row.takes.left
 
 looked_table : (result : Result (Option (Meta × MemHitHandler)) ErrorType) (now : ℕ) (r s : Request) (p q : Parts) → LooksUp result now r s p q → Grew p.deeds q.deeds
-looked_table (Ok f) now r s p q row = grew_by (looked_deeds p.store now p.locks r) p.deeds q.deeds (looked_keeps (kept_by_deeds p.deeds) p.store now p.locks r) row.deeds
-looked_table (Err e) now r s p q row = grew_same p.deeds q.deeds row.same_deeds
+looked_table (Ok f) now r s p q row = grew_by (looked_deeds p.store now p.locks r) p.deeds q.deeds (looked_keeps (kept_by_deeds p.deeds) p.store now p.locks r) row.takes.deeds
+looked_table (Err e) now r s p q row = grew_same p.deeds q.deeds row.takes.same_deeds
 
 pub looked : {result : Result (Option (Meta × MemHitHandler)) ErrorType} {now : ℕ} {r s : Request} {p q : Parts} → LooksUp result now r s p q → Leads p q
 looked {result} {now} {r} {s} {p} {q} row = record {
   limits = ap (λ (x : Parts). x.limits) row.rest;
   weighing = ap (λ (x : Parts). x.weighing) row.rest;
-  age = age_if result p.locks (table_looked_for p.store now r p.locks) q.locks row.table (age_looked p.store now r p.locks) row.same_table;
+  age = age_if result p.locks (table_looked_for p.store now r p.locks) q.locks row.takes.table (age_looked p.store now r p.locks) row.takes.same_table;
   past = looked_past result now r s p q row;
   deeds = looked_table result now r s p q row;
 }
@@ -88,11 +88,11 @@ grew_either (Err e) f h p q keeps keeps' ok err = grew_by h p q keeps' err
 
 pub taken : {result : Result (Unit {0}) ErrorType} {status : HitStatus} {m : Meta} {h : Reader} {now : ℕ} {r s : Request} {p q : Parts} → TakesFound result status m h now r s p q → Leads p q
 taken {result} {status} {m} {h} {now} {r} {s} {p} {q} row = record {
-  limits = row.limits;
-  weighing = row.weighing;
-  age = age_if result p.locks (table_found status now r p.locks) q.locks row.table (age_found status now r p.locks) row.same_table;
-  past = grew_either result (taken_past status h r) (noted (leave_noted h)) p.past q.past (taken_keeps (kept_by_notes p.past) status h r) (kept_by_notes p.past (leave_noted h)) row.past row.left_past;
-  deeds = grew_if result (found_deeds status now p.locks r) p.deeds q.deeds (found_keeps (kept_by_deeds p.deeds) status now p.locks r) row.deeds row.same_deeds;
+  limits = ap (λ (x : Parts). x.limits) row.rest;
+  weighing = ap (λ (x : Parts). x.weighing) row.rest;
+  age = age_if result p.locks (table_found status now r p.locks) q.locks row.takes.table (age_found status now r p.locks) row.takes.same_table;
+  past = grew_either result (taken_past status h r) (noted (leave_noted h)) p.past q.past (taken_keeps (kept_by_notes p.past) status h r) (kept_by_notes p.past (leave_noted h)) row.takes.past row.takes.left_past;
+  deeds = grew_if result (found_deeds status now p.locks r) p.deeds q.deeds (found_keeps (kept_by_deeds p.deeds) status now p.locks r) row.takes.deeds row.takes.same_deeds;
 }
 
 pub let_go : {h : Reader} {p q : Parts} → LetsGo h p q → Leads p q
