@@ -1,11 +1,13 @@
 pub mod Admissions
 pub mod Alone
 pub mod Digest
+pub mod Ending
 pub mod Failures
 pub mod Finishing
 pub mod LockPasts
 pub mod LockUse
 pub mod LockWaits
+pub mod Locking
 pub mod LookUps
 pub mod Looking
 pub mod NoBody
@@ -25,3 +27,4 @@ pub mod StorePasts
 pub mod Variants
 pub mod Witnesses
 pub mod WriteEnds
+pub mod Writing

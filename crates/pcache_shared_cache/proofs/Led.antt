@@ -117,27 +117,27 @@ pub request_ended : {result : Option LockName} {r : Request} {p q : Parts} → E
 request_ended {result} {r} {p} {q} row = record {
   limits = ap (λ (x : Parts). x.limits) row.rest;
   weighing = ap (λ (x : Parts). x.weighing) row.rest;
-  age = age_as p.locks (let_go_by r.held p.locks) q.locks row.table (age_let_go r.held p.locks);
-  past = grew_by (λ l. left_past r.reader (dropped_past r.write l)) p.past q.past (λ x is. left_keeps (kept_by_notes p.past) r.reader (dropped_past r.write x) (dropped_keeps (kept_by_notes p.past) r.write x is)) row.past;
-  deeds = grew_by (let_go_deeds r.held) p.deeds q.deeds (let_go_keeps (kept_by_deeds p.deeds) r.held) row.deeds;
+  age = age_as p.locks (let_go_by r.held p.locks) q.locks row.takes.table (age_let_go r.held p.locks);
+  past = grew_by (λ l. left_past r.reader (dropped_past r.write l)) p.past q.past (λ x is. left_keeps (kept_by_notes p.past) r.reader (dropped_past r.write x) (dropped_keeps (kept_by_notes p.past) r.write x is)) row.takes.gives.past;
+  deeds = grew_by (let_go_deeds r.held) p.deeds q.deeds (let_go_keeps (kept_by_deeds p.deeds) r.held) row.takes.deeds;
 }
 
 pub disabled : {result : Option LockName} {reason : NoCacheReason} {r s : Request} {p q : Parts} → Disables result reason r s p q → Leads p q
 disabled {result} {reason} {r} {s} {p} {q} row = record {
   limits = ap (λ (x : Parts). x.limits) row.rest;
   weighing = ap (λ (x : Parts). x.weighing) row.rest;
-  age = settled_at (status_for (λ text. GiveUp) reason) r.held p.locks q.locks row.table;
-  past = grew_by (λ l. left_past r.reader (dropped_past r.write l)) p.past q.past (λ x is. left_keeps (kept_by_notes p.past) r.reader (dropped_past r.write x) (dropped_keeps (kept_by_notes p.past) r.write x is)) row.past;
-  deeds = grew_by (settled_deeds (status_for (λ text. GiveUp) reason) r.held) p.deeds q.deeds (settled_keeps (kept_by_deeds p.deeds) (status_for (λ text. GiveUp) reason) r.held) row.deeds;
+  age = settled_at (status_for (λ text. GiveUp) reason) r.held p.locks q.locks row.takes.settles.table;
+  past = grew_by (λ l. left_past r.reader (dropped_past r.write l)) p.past q.past (λ x is. left_keeps (kept_by_notes p.past) r.reader (dropped_past r.write x) (dropped_keeps (kept_by_notes p.past) r.write x is)) row.takes.gives.past;
+  deeds = grew_by (settled_deeds (status_for (λ text. GiveUp) reason) r.held) p.deeds q.deeds (settled_keeps (kept_by_deeds p.deeds) (status_for (λ text. GiveUp) reason) r.held) row.takes.settles.deeds;
 }
 
 pub asked_on : {result : Result (Poll LockWaitOutcome) ErrorType} {now : ℕ} {r s : Request} {p q : Parts} → Waits result now r s p q → Leads p q
 asked_on {result} {now} {r} {s} {p} {q} row = record {
   limits = ap (λ (x : Parts). x.limits) row.rest;
   weighing = ap (λ (x : Parts). x.weighing) row.rest;
-  age = age_if result p.locks (table_waited p.locks now r.held r) q.locks row.table (age_waited p.locks now r.held r) (err_ap (λ (x : Parts). x.locks) result q p row.same);
+  age = age_if result p.locks (table_waited p.locks now r.held r) q.locks row.takes.table (age_waited p.locks now r.held r) (err_ap (λ (x : Parts). x.locks) result q p row.same);
   past = grew_same p.past q.past (ap (λ (x : Parts). x.past) row.rest);
-  deeds = grew_if result (waited_deeds p.locks now r.held r) p.deeds q.deeds (waited_keeps (kept_by_deeds p.deeds) p.locks now r.held r) row.deeds (err_ap (λ (x : Parts). x.deeds) result q p row.same);
+  deeds = grew_if result (waited_deeds p.locks now r.held r) p.deeds q.deeds (waited_keeps (kept_by_deeds p.deeds) p.locks now r.held r) row.takes.deeds (err_ap (λ (x : Parts). x.deeds) result q p row.same);
 }
 
 -- what is held of a lock is given back with this status, and nothing else is done
@@ -151,27 +151,27 @@ settled_on status r p q table deeds rest = record {
 }
 
 pub released : {result : Option ReleasedLock} {reason : NoCacheReason} {r s : Request} {p q : Parts} → Releases result reason r s p q → Leads p q
-released {result} {reason} {r} {s} {p} {q} row = settled_on (status_for (λ text. GiveUp) reason) r p q row.table row.deeds row.rest
+released {result} {reason} {r} {s} {p} {q} row = settled_on (status_for (λ text. GiveUp) reason) r p q row.takes.settles.table row.takes.settles.deeds row.rest
 
 pub served_on : {result : Option LockName} {h : Header} {reason : NoCacheReason} {r s : Request} {p q : Parts} → ServesUncacheable result h reason r s p q → Leads p q
-served_on {result} {h} {reason} {r} {s} {p} {q} row = settled_on (status_for (λ text. GiveUp) reason) r p q row.table row.deeds row.rest
+served_on {result} {h} {reason} {r} {s} {p} {q} row = settled_on (status_for (λ text. GiveUp) reason) r p q row.settles.table row.settles.deeds row.rest
 
 pub permit_taken : {result : Option LockName} {permit : WritePermit} {r s : Request} {p q : Parts} → TakesPermit result permit r s p q → Leads p q
 permit_taken {result} {permit} {r} {s} {p} {q} row = record {
   limits = ap (λ (x : Parts). x.limits) row.rest;
   weighing = ap (λ (x : Parts). x.weighing) row.rest;
-  age = age_as p.locks (table_handed permit r p.locks) q.locks row.table (age_handed permit r p.locks);
+  age = age_as p.locks (table_handed permit r p.locks) q.locks row.takes.table (age_handed permit r p.locks);
   past = grew_same p.past q.past (ap (λ (x : Parts). x.past) row.rest);
-  deeds = grew_by (handed_deeds permit r) p.deeds q.deeds (handed_keeps (kept_by_deeds p.deeds) permit r) row.deeds;
+  deeds = grew_by (handed_deeds permit r) p.deeds q.deeds (handed_keeps (kept_by_deeds p.deeds) permit r) row.takes.deeds;
 }
 
 pub published : {result : Result (Option LockName) ErrorType} {tokens : List ℕ} {r : Request} {p q : Parts} → Publishes result tokens r p q → Leads p q
 published {result} {tokens} {r} {p} {q} row = record {
   limits = ap (λ (x : Parts). x.limits) row.rest;
   weighing = ap (λ (x : Parts). x.weighing) row.rest;
-  age = age_if result p.locks (published_by tokens r.held p.locks) q.locks row.table (age_published tokens r.held p.locks) (err_ap (λ (x : Parts). x.locks) result q p row.same);
+  age = age_if result p.locks (published_by tokens r.held p.locks) q.locks row.takes.table (age_published tokens r.held p.locks) (err_ap (λ (x : Parts). x.locks) result q p row.same);
   past = grew_same p.past q.past (ap (λ (x : Parts). x.past) row.rest);
-  deeds = grew_if result (published_deeds tokens r.held) p.deeds q.deeds (published_keeps (kept_by_deeds p.deeds) tokens r.held) row.deeds (err_ap (λ (x : Parts). x.deeds) result q p row.same);
+  deeds = grew_if result (published_deeds tokens r.held) p.deeds q.deeds (published_keeps (kept_by_deeds p.deeds) tokens r.held) row.takes.deeds (err_ap (λ (x : Parts). x.deeds) result q p row.same);
 }
 
 pub renewed_body : {result : Result Bool ErrorType} {m : Meta} {r s : Request} {p q : Parts} → Revalidates result m r s p q → Leads p q
@@ -187,24 +187,24 @@ pub varied_on : {result : Option LockName} {variance : Option (List ℕ)} {r s :
 varied_on {result} {variance} {r} {s} {p} {q} row = record {
   limits = ap (λ (x : Parts). x.limits) row.rest;
   weighing = ap (λ (x : Parts). x.weighing) row.rest;
-  age = age_as p.locks (table_varied variance r p.locks) q.locks row.table (age_varied variance r p.locks);
+  age = age_as p.locks (table_varied variance r p.locks) q.locks row.takes.table (age_varied variance r p.locks);
   past = grew_same p.past q.past (ap (λ (x : Parts). x.past) row.rest);
-  deeds = grew_by (varied_deeds variance r) p.deeds q.deeds (varied_keeps (kept_by_deeds p.deeds) variance r) row.deeds;
+  deeds = grew_by (varied_deeds variance r) p.deeds q.deeds (varied_keeps (kept_by_deeds p.deeds) variance r) row.takes.deeds;
 }
 
 begun_notes : (result : Result (Unit {0}) ErrorType) (r s : Request) (p q : Parts) → BeginsWrite result r s p q → Grew p.past q.past
-begun_notes (Ok a) r s p q row = grew_by (writing_past true p.store r) p.past q.past (writing_keeps (kept_by_notes p.past) true p.store r) row.past
+begun_notes (Ok a) r s p q row = grew_by (writing_past true p.store r) p.past q.past (writing_keeps (kept_by_notes p.past) true p.store r) row.takes.past
 begun_notes (Err e) r s p q row = ⊎_elim (λ same. grew_as p.past q.past (Some p.past) same.2 (grew_not p.past))
-    (λ gone. grew_as p.past q.past (begun_past p.store r (Some p.past)) gone.2 (begun_keeps (kept_by_notes p.past) p.store r (Some p.past) (grew_not p.past))) row.err
+    (λ gone. grew_as p.past q.past (begun_past p.store r (Some p.past)) gone.2 (begun_keeps (kept_by_notes p.past) p.store r (Some p.past) (grew_not p.past))) row.takes.err
 
 begun_deeds : (result : Result (Unit {0}) ErrorType) (r s : Request) (p q : Parts) → BeginsWrite result r s p q → Grew p.deeds q.deeds
-begun_deeds (Ok a) r s p q row = grew_by (settled_deeds Done r.held) p.deeds q.deeds (settled_keeps (kept_by_deeds p.deeds) Done r.held) row.deeds
+begun_deeds (Ok a) r s p q row = grew_by (settled_deeds Done r.held) p.deeds q.deeds (settled_keeps (kept_by_deeds p.deeds) Done r.held) row.takes.deeds
 begun_deeds (Err e) r s p q row = ⊎_elim (λ same. grew_as p.deeds q.deeds (Some p.deeds) same.4 (grew_not p.deeds))
-    (λ gone. grew_as p.deeds q.deeds (settled_deeds Done r.held (Some p.deeds)) gone.4 (settled_keeps (kept_by_deeds p.deeds) Done r.held (Some p.deeds) (grew_not p.deeds))) row.err
+    (λ gone. grew_as p.deeds q.deeds (settled_deeds Done r.held (Some p.deeds)) gone.4 (settled_keeps (kept_by_deeds p.deeds) Done r.held (Some p.deeds) (grew_not p.deeds))) row.takes.err
 
 begun_age : (result : Result (Unit {0}) ErrorType) (r s : Request) (p q : Parts) → BeginsWrite result r s p q → HasAgeOf p.locks q.locks
-begun_age (Ok a) r s p q row = settled_at Done r.held p.locks q.locks row.table
-begun_age (Err e) r s p q row = ⊎_elim (λ same. age_as p.locks p.locks q.locks same.3 refl) (λ gone. settled_at Done r.held p.locks q.locks gone.3) row.err
+begun_age (Ok a) r s p q row = settled_at Done r.held p.locks q.locks row.takes.table
+begun_age (Err e) r s p q row = ⊎_elim (λ same. age_as p.locks p.locks q.locks same.3 refl) (λ gone. settled_at Done r.held p.locks q.locks gone.3) row.takes.err
 
 pub begun : {result : Result (Unit {0}) ErrorType} {r s : Request} {p q : Parts} → BeginsWrite result r s p q → Leads p q
 begun {result} {r} {s} {p} {q} row = record {

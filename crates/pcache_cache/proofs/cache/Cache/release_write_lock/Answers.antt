@@ -6,5 +6,5 @@ use Rattle.pcache_cache.proofs.cache.Cache.release_write_lock.Goals as goal
 pub invariant_of-self : goal.invariant_of-self
 invariant_of-self g c = (
   c.self.invariant.0,
-  once_done (settled_deeds (status_for (λ text. GiveUp) c.args.reason) c.args.request.now.cache.held) (Some c.self.inside.lock.past) (Some c.release_write_lock.new.lock.past) (settled_keeps none_kept (status_for (λ text. GiveUp) c.args.reason) c.args.request.now.cache.held) c.release_write_lock.ensures.deeds c.self.invariant.1,
+  once_done (settled_deeds (status_for (λ text. GiveUp) c.args.reason) c.args.request.now.cache.held) (Some c.self.inside.lock.past) (Some c.release_write_lock.new.lock.past) (settled_keeps none_kept (status_for (λ text. GiveUp) c.args.reason) c.args.request.now.cache.held) c.release_write_lock.ensures.releases.settles.deeds c.self.invariant.1,
 )
