@@ -1,17 +1,15 @@
 -- Writes: what a call does to a cache, from p to q, with this result. The request is r before it and s after it (own).
-use Rattle.std.specs.Prelude.{[], ◌≡◌, ℕ, Bool, true, List, Option, Some, IfErr, IfOk, OnErr, OnOk, Result}
+use Rattle.std.specs.Prelude.{[], ◌≡◌, ℕ, Bool, true, List, Option, IfErr, IfOk, OnErr, OnOk, Result}
 use Rattle.pcache_base.specs.declared.error.ErrorType.{ErrorType}
 use Rattle.pcache_base.specs.declared.error.ErrorType.TheVariants.{OutOfMemory}
 use Rattle.pcache_request.specs.Finishing.{after_finish}
-use Rattle.pcache_request.specs.LockPasts.{end_deeds}
 use Rattle.pcache_request.specs.NoBody.{LeavesNone}
 use Rattle.pcache_request.specs.Requests.{Request}
-use Rattle.pcache_request.specs.StorePasts.{EndsRequestPast}
-use Rattle.pcache_request.specs.WriteEnds.{Ends, EndsAs, evicted_after}
+use Rattle.pcache_request.specs.WriteEnds.{EndsAs}
 use Rattle.pcache_request.specs.declared.cache.finish.FinishReport.{FinishReport}
 use Rattle.pcache_store.specs.Readers.{in_memory}
 use Rattle.pcache_request.specs.Writing as writing
-use Rattle.pcache_cache.specs.Parts.{Adds, MayEnd, Parts, locks_of, store_of, takes_bytes, tracked_at_end, written_by, written_past}
+use Rattle.pcache_cache.specs.Parts.{Adds, MayEnd, Parts, locks_of, manager_of, store_of, takes_bytes, tracked_at_end, written_by, written_past}
 use Rattle.pcache_cache.specs.Room.{IfRoom, evicted_in}
 use Rattle.pcache_cache.specs.Strays.{LeavesNoStray}
 use Rattle.pcache_cache.specs.Weighing.{ending_weight, entered}
@@ -37,11 +35,7 @@ pub record Writes (result : Result Bool ErrorType) (bytes : List ℕ) (eof : Boo
 -- the write ends
 pub record EndsWrite (result : Result (Option FinishReport) ErrorType) (r s : Request) (p q : Parts) : Type 0 where
   pub request : s ≡ after_finish r
-  pub ended :
-      EndsAs result (λ end. Ends in_memory r r.key r.write (entered p.weighing p.store r.write) p.limits end p.store q.store (tracked_at_end p r end) q.tracked p.locks q.locks
-      × EndsRequestPast in_memory r.key r.write end (Some p.past) (Some q.past)
-      × Adds (end_deeds r.write r.held end) p.deeds q.deeds
-      × (q.evicted ≡ evicted_after r r.key (entered p.weighing p.store r.write) (tracked_at_end p r end) p.evicted end))
+  pub ended : EndsAs result (λ end. writing.Finishes in_memory r (entered p.weighing p.store r.write) (tracked_at_end p r end) end (store_of p) (store_of q) (manager_of p) (manager_of q) (locks_of p) (locks_of q))
   pub only : LeavesNoStray r.key p q
   pub room : IfRoom r.key (ending_weight p.weighing p.store r.write) p (evicted_in result ≡ [])
   pub withdrawn : OnErr result (LeavesNone r.key r.write p.store q.store)

@@ -16,6 +16,7 @@ pub mod Predictions
 pub mod Releasing
 pub mod Removals
 pub mod Renewals
+pub mod Renewing
 pub mod Replacing
 pub mod Reports
 pub mod Requests

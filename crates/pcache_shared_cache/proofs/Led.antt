@@ -178,9 +178,9 @@ pub renewed_body : {result : Result Bool ErrorType} {m : Meta} {r s : Request} {
 renewed_body {result} {m} {r} {s} {p} {q} row = record {
   limits = ap (λ (x : Parts). x.limits) row.rest;
   weighing = ap (λ (x : Parts). x.weighing) row.rest;
-  age = settled_at Done r.held p.locks q.locks row.table;
+  age = settled_at Done r.held p.locks q.locks row.settles.table;
   past = renews_keeps (kept_by_notes p.past) p.weighing p.limits (renewed_by m r.meta) r.key result (stock p) (stock q) row.renews (grew_not p.past);
-  deeds = grew_by (settled_deeds Done r.held) p.deeds q.deeds (settled_keeps (kept_by_deeds p.deeds) Done r.held) row.deeds;
+  deeds = grew_by (settled_deeds Done r.held) p.deeds q.deeds (settled_keeps (kept_by_deeds p.deeds) Done r.held) row.settles.deeds;
 }
 
 pub varied_on : {result : Option LockName} {variance : Option (List ℕ)} {r s : Request} {p q : Parts} → Varies result variance r s p q → Leads p q
@@ -226,9 +226,9 @@ pub ended : {result : Result (Option FinishReport) ErrorType} {r s : Request} {p
 ended {result} {r} {s} {p} {q} row = record {
   limits = row.limits;
   weighing = row.weighing;
-  age = ended_any result row.ended (λ how is. age_ended in_memory r r.key r.write (entered p.weighing p.store r.write) p.limits how p.store q.store (tracked_at_end p r how) q.tracked p.locks q.locks is.0);
-  past = ended_any result row.ended (λ how is. ends_request_keeps (kept_by_notes p.past) in_memory r.key r.write how (Some p.past) (Some q.past) is.1 (grew_not p.past));
-  deeds = ended_any result row.ended (λ how is. grew_by (end_deeds r.write r.held how) p.deeds q.deeds (end_keeps (kept_by_deeds p.deeds) r.write r.held how) is.2);
+  age = ended_any result row.ended (λ how is. age_ended in_memory r r.key r.write (entered p.weighing p.store r.write) p.limits how p.store q.store (tracked_at_end p r how) q.tracked p.locks q.locks is.ends);
+  past = ended_any result row.ended (λ how is. ends_request_keeps (kept_by_notes p.past) in_memory r.key r.write how (Some p.past) (Some q.past) is.past (grew_not p.past));
+  deeds = ended_any result row.ended (λ how is. grew_by (end_deeds r.write r.held how) p.deeds q.deeds (end_keeps (kept_by_deeds p.deeds) r.write r.held how) is.deeds);
 }
 
 -- nothing changed

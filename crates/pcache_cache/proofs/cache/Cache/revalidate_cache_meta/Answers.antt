@@ -26,8 +26,7 @@ returns g c =
         only = λ of its only. only_renewed of inside.weighing (g.M.EvictionManager.limits inside.manager) c.in-Some-Some.meta.now key c.set_meta.result _ _ c.set_meta.ensures.renews
             (λ b there. numbered inside.store.state inside.store.past c.headline.ensures.bodies c.headline.ensures.kept (slot key) b there) (subst (IsItsKey of) (sym keyed) its) only;
         room = with_key;
-        table = search rules;
-        deeds = search rules;
+        settles = search rules;
         rest = search rules;
       };
     })
