@@ -5,6 +5,10 @@ use Rattle.std.specs.FinMap.{code}
 use Rattle.pcache_evict.specs.LimitsCode.{limits_code}
 use Rattle.pcache_evict.specs.Tracked.{Limits, Tracked}
 use Rattle.pcache_evict.specs.contracts.eviction.entry_key.CacheEntryKey as key_row
+use Rattle.pcache_lock.specs.Past.{Known as KnownLocks}
+use Rattle.pcache_lock.specs.PastCode.{known_code as known_locks}
+use Rattle.pcache_store.specs.Notes.{Known as KnownStore}
+use Rattle.pcache_store.specs.NotesCode.{known_code as known_store}
 use Rattle.pcache_cache.specs.Parts.{Parts}
 use Rattle.pcache_cache.specs.contracts.weighing.Weighing as weighing_row
 use Rattle.pcache_cache.specs.declared.weighing.Weighing.{Weighing}
