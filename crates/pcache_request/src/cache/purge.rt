@@ -53,7 +53,7 @@ fn remove_key<S: Storage, E: EvictionManager>(
         ≡ purge_outcome S.guarantees.numbers (S.state storage.old) (Some (slot key.now))) }
     ensures untracked { IfOk result (λ r.
         r.untracked ≡ untracked is_used (compact_of key.now) r.outcome) }
-    ensures takes { Purges result S.guarantees.numbers is_used (Some key.now)
+    ensures purges { Purges result S.guarantees.numbers is_used (Some key.now)
         (store_side S.state S.past storage.old) (store_side S.state S.past storage.new)
         (manager_side E.tracked E.limits E.evicted eviction.old)
         (manager_side E.tracked E.limits E.evicted eviction.new) }
@@ -83,7 +83,7 @@ impl<S: Storage> HttpCache<S> {
         ensures there { IfOk result (λ there. there
             ≡ is_removed_by (purge_outcome S.guarantees.numbers (S.state storage.old)
             (option_map slot self.old.key))) }
-        ensures takes { Purges result S.guarantees.numbers self.old.uses.eviction self.old.key
+        ensures purges { Purges result S.guarantees.numbers self.old.uses.eviction self.old.key
             (store_side S.state S.past storage.old) (store_side S.state S.past storage.new)
             (manager_side E.tracked E.limits E.evicted eviction.old)
             (manager_side E.tracked E.limits E.evicted eviction.new) }
@@ -106,7 +106,7 @@ impl<S: Storage> HttpCache<S> {
             (option_map slot self.old.key)) }
         ensures untracked { IfOk result (λ r.
             r.untracked ≡ untracked_for self.old.uses.eviction self.old.key r.outcome) }
-        ensures takes { Purges result S.guarantees.numbers self.old.uses.eviction self.old.key
+        ensures purges { Purges result S.guarantees.numbers self.old.uses.eviction self.old.key
             (store_side S.state S.past storage.old) (store_side S.state S.past storage.new)
             (manager_side E.tracked E.limits E.evicted eviction.old)
             (manager_side E.tracked E.limits E.evicted eviction.new) }
@@ -129,7 +129,7 @@ impl<S: Storage> HttpCache<S> {
         ensures there { IfOk result (λ there. there
             ≡ is_removed_by (purge_outcome S.guarantees.numbers (S.state storage.old)
             (option_map slot self.old.key))) }
-        ensures takes { Purges result S.guarantees.numbers self.old.uses.eviction self.old.key
+        ensures purges { Purges result S.guarantees.numbers self.old.uses.eviction self.old.key
             (store_side S.state S.past storage.old) (store_side S.state S.past storage.new)
             (manager_side E.tracked E.limits E.evicted eviction.old)
             (manager_side E.tracked E.limits E.evicted eviction.new) }
@@ -152,7 +152,7 @@ impl<S: Storage> HttpCache<S> {
             (option_map slot self.old.key)) }
         ensures untracked { IfOk result (λ r.
             r.untracked ≡ untracked_for self.old.uses.eviction self.old.key r.outcome) }
-        ensures takes { Purges result S.guarantees.numbers self.old.uses.eviction self.old.key
+        ensures purges { Purges result S.guarantees.numbers self.old.uses.eviction self.old.key
             (store_side S.state S.past storage.old) (store_side S.state S.past storage.new)
             (manager_side E.tracked E.limits E.evicted eviction.old)
             (manager_side E.tracked E.limits E.evicted eviction.new) }
@@ -173,7 +173,7 @@ impl<S: Storage> HttpCache<S> {
         ensures same { self.new ≡ self.old }
         ensures there { IfOk result (λ there. there
             ≡ is_removed_by (expire_outcome (S.state storage.old) (option_map slot self.old.key))) }
-        ensures takes { Expires result now self.old.uses.eviction self.old.key
+        ensures expires { Expires result now self.old.uses.eviction self.old.key
             (store_side S.state S.past storage.old) (store_side S.state S.past storage.new)
             (manager_side E.tracked E.limits E.evicted eviction.old)
             (manager_side E.tracked E.limits E.evicted eviction.new) }
@@ -196,7 +196,7 @@ impl<S: Storage> HttpCache<S> {
             r.outcome ≡ expire_outcome (S.state storage.old) (option_map slot self.old.key)) }
         ensures untracked { IfOk result (λ r.
             r.untracked ≡ untracked_for self.old.uses.eviction self.old.key r.outcome) }
-        ensures takes { Expires result now self.old.uses.eviction self.old.key
+        ensures expires { Expires result now self.old.uses.eviction self.old.key
             (store_side S.state S.past storage.old) (store_side S.state S.past storage.new)
             (manager_side E.tracked E.limits E.evicted eviction.old)
             (manager_side E.tracked E.limits E.evicted eviction.new) }

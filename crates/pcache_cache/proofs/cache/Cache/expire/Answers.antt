@@ -7,8 +7,8 @@ pub invariant_of-self : goal.invariant_of-self
 invariant_of-self g c =
     let limits = g.M.EvictionManager.limits c.self.inside.manager in
     let tracked = g.M.EvictionManager.tracked c.self.inside.manager in (
-      subst (λ l. IsKept c.self.inside.weighing l (g.M.EvictionManager.tracked c.expire.new.eviction) c.expire.new.storage.state) (sym c.expire.ensures.takes.limits)
-          (kept_expired c.self.inside.weighing limits tracked (g.M.EvictionManager.tracked c.expire.new.eviction) c.self.inside.store.state c.expire.new.storage.state c.args.request.now.cache.uses.eviction c.args.request.now.cache.key c.args.now c.expire.result c.expire.ensures.takes.store c.expire.ensures.takes.tracked c.expire.ensures.takes.same_store c.expire.ensures.takes.same_tracked c.self.invariant.0),
+      subst (λ l. IsKept c.self.inside.weighing l (g.M.EvictionManager.tracked c.expire.new.eviction) c.expire.new.storage.state) (sym c.expire.ensures.expires.limits)
+          (kept_expired c.self.inside.weighing limits tracked (g.M.EvictionManager.tracked c.expire.new.eviction) c.self.inside.store.state c.expire.new.storage.state c.args.request.now.cache.uses.eviction c.args.request.now.cache.key c.args.now c.expire.result c.expire.ensures.expires.store c.expire.ensures.expires.tracked c.expire.ensures.expires.same_store c.expire.ensures.expires.same_tracked c.self.invariant.0),
       c.self.invariant.1,
     )
 
@@ -23,8 +23,8 @@ returns g c =
       takes = record {
         request = e.same;
         there = e.there;
-        takes = e.takes;
-        only = λ of its only. only_expired of inside.weighing (tracked inside.manager) (tracked call.new.eviction) inside.store.state call.new.storage.state r.uses.eviction r.key c.args.now call.result e.takes.store e.takes.tracked e.takes.same_store e.takes.same_tracked only;
+        takes = e.expires;
+        only = λ of its only. only_expired of inside.weighing (tracked inside.manager) (tracked call.new.eviction) inside.store.state call.new.storage.state r.uses.eviction r.key c.args.now call.result e.expires.store e.expires.tracked e.expires.same_store e.expires.same_tracked only;
         same = search rules;
         rest = search rules;
       };

@@ -7,8 +7,8 @@ pub invariant_of-self : goal.invariant_of-self
 invariant_of-self g c =
     let limits = g.M.EvictionManager.limits c.self.inside.manager in
     let tracked = g.M.EvictionManager.tracked c.self.inside.manager in (
-      subst (λ l. IsKept c.self.inside.weighing l (g.M.EvictionManager.tracked c.purge.new.eviction) c.purge.new.storage.state) (sym c.purge.ensures.takes.limits)
-          (kept_removed c.self.inside.weighing limits tracked (g.M.EvictionManager.tracked c.purge.new.eviction) c.self.inside.store.state c.purge.new.storage.state c.args.request.now.cache.uses.eviction c.args.request.now.cache.key c.purge.result c.purge.ensures.takes.store c.purge.ensures.takes.tracked c.purge.ensures.takes.same_store c.purge.ensures.takes.same_tracked c.self.invariant.0),
+      subst (λ l. IsKept c.self.inside.weighing l (g.M.EvictionManager.tracked c.purge.new.eviction) c.purge.new.storage.state) (sym c.purge.ensures.purges.limits)
+          (kept_removed c.self.inside.weighing limits tracked (g.M.EvictionManager.tracked c.purge.new.eviction) c.self.inside.store.state c.purge.new.storage.state c.args.request.now.cache.uses.eviction c.args.request.now.cache.key c.purge.result c.purge.ensures.purges.store c.purge.ensures.purges.tracked c.purge.ensures.purges.same_store c.purge.ensures.purges.same_tracked c.self.invariant.0),
       c.self.invariant.1,
     )
 
@@ -23,8 +23,8 @@ returns g c =
       takes = record {
         request = e.same;
         there = e.there;
-        takes = e.takes;
-        only = λ uses of its only. only_removed of inside.weighing (tracked inside.manager) (tracked call.new.eviction) inside.store.state call.new.storage.state r.uses.eviction r.key call.result e.takes.store e.takes.tracked e.takes.same_store e.takes.same_tracked uses its only;
+        takes = e.purges;
+        only = λ uses of its only. only_removed of inside.weighing (tracked inside.manager) (tracked call.new.eviction) inside.store.state call.new.storage.state r.uses.eviction r.key call.result e.purges.store e.purges.tracked e.purges.same_store e.purges.same_tracked uses its only;
         same = search rules;
         rest = search rules;
       };
