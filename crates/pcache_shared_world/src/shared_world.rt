@@ -25,6 +25,7 @@ pub struct SharedWorld<M: EvictionManager, P: PutPolicy, K: Mark> {
     pub(crate) alloc: Global,
     pub(crate) room: Room,
     pub(crate) desk: Mutex<Desk<M, P, K>>,
+    // Room for what `close` hands out, so that it takes no memory.
     out: Vec<Vec<Receipt>>,
     ghost room_is: { room.shared.table_id ≡ K.opened.table },
     ghost word: { 0 < K.opened.table.words },
@@ -55,6 +56,7 @@ impl<M: EvictionManager, P: PutPolicy, K: Mark> SharedWorld<M, P, K> {
             world,
             shares: count,
         } = opening;
+        // Made now, so that `close` neither fails nor waits.
         let out = Vec::with_capacity(alloc, count)?;
         let mut shares = Vec::with_capacity(alloc, count)?;
         let mut made = 0;
@@ -146,6 +148,9 @@ impl<M: EvictionManager, P: PutPolicy, K: Mark> SharedWorld<M, P, K> {
             mut keeper,
             of: _,
         } = desk.into_inner();
+        // As many shares as were made are all of them: each carries the mark, cannot be copied and
+        // has one part of that number. So none can be missing here, and one that was dropped bars
+        // the close.
         for share in shares {
             let Share {
                 receipts,

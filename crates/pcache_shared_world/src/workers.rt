@@ -47,6 +47,8 @@ pub fn run_workers<
     ensures refused { OnErr result ((shares.new ≡ shares.old)
         ⊎ (EachRuns RunsWhole scripts.now shares.old shares.new → ⊥)) }
 {
+    // Counted before any thread begins, so that at the end it is known which scripts ran whole. A
+    // flag that the threads set would say nothing: no contract knows what an atomic holds.
     let before = counts_of(shared.alloc, shares)?;
     let workers = shares.len();
     if workers == 0 {
