@@ -78,6 +78,8 @@ impl<K: Mark> Share<K> {
         // receipt.
         self.receipts.reserve(1)?;
         let Ok(copy) = call.copied() else {
+            // The only refusal there is. The error of a call that lends may own nothing, as an
+            // `Error` would.
             return Err(AllocError);
         };
         let made = shared

@@ -106,6 +106,8 @@ impl<M: EvictionManager, P: PutPolicy, K: Mark> SharedWorld<M, P, K> {
     ) -> Result<&'a Reply, AllocError>
         ensures* added { sem 𝓛 (ends_added K.row K.Mark share.entry call result) }
     {
+        // The share comes first: what a call that lends leaves can be stated only of its first
+        // parameter.
         share.made(rt, shared, call)
     }
 
@@ -115,6 +117,8 @@ impl<M: EvictionManager, P: PutPolicy, K: Mark> SharedWorld<M, P, K> {
         ensures value { HasReached K.opened.log (λ log. result ≡ stored (events_in log)) }
         ensures within { result ≤ K.opened.log.limits.weight }
     {
+        // Of some state since the opening, as far as the contract knows: who asks hands in nothing
+        // that was seen, so that it is the present one is only tested.
         self.desk.lock(rt).stored_bytes()
     }
 

@@ -85,6 +85,8 @@ fn run_script<M: EvictionManager, P: PutPolicy, K: Mark, G: Gate, R: Wait>(
 {
     for index in 0..script.len() {
         gate.enter(worker, index);
+        // The script is only lent, and a call is given away: the history has it, and a receipt its
+        // copy.
         let Ok(call) = script[index].copied() else {
             return Err(AllocError);
         };
