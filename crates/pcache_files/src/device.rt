@@ -198,6 +198,7 @@ impl<T> Counted<T> {
         ensures device { self.new.device ≡ self.old.device }
         ensures counted { self.new.failures ≡ (self.old.failures + 1) % 2 ^ 64 }
     {
+        // It wraps, so that no reader has to fail because its count is full.
         self.failures = self.failures.wrapping_add(1);
         Error::new(ErrorType::Io)
     }
@@ -211,6 +212,7 @@ impl<T> Counted<T> {
         ensures counted { result ≡ Io → self.new.failures ≡ (self.old.failures + 1) % 2 ^ 64 }
         ensures uncounted { result ≡ OutOfMemory → self.new.failures ≡ self.old.failures }
     {
+        // No device is blamed for that.
         if is_lack_of_memory(error) {
             return Error::new(ErrorType::OutOfMemory);
         }
@@ -268,6 +270,8 @@ impl<T: TriedRead> CountedRead for Counted<T> {
             match self.device.try_read(buf) {
                 Ok(count) => return Ok(count),
                 Err(error) => {
+                    // Made again, and not counted; after 2^64 - 1 interruptions it has failed,
+                    // since every loop has to end.
                     if !is_interrupted(&error) {
                         return Err(self.refuse(&error));
                     }

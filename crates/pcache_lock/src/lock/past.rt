@@ -26,6 +26,8 @@ unsafe impl Send for Past {}
 
 /// What a call did, told by what it was passed and what it returned.
 #[derive(Drop)]
+// With what the call returned, so that laws read the list alone and play no table again. A call
+// that failed is no note: what it asked for matters to nobody later.
 pub enum Note<'a> {
     /// The lock of a key was asked for, and one was given.
     Asked {
