@@ -36,10 +36,10 @@ pub(crate) fn policy_of(number: u32) -> Option<Policy>
     }
 }
 
+// No type parameter of the cache, which would make four kinds of objects.
 /// A manager of one of the policies. It is no boxed trait object, since a function that makes one and hands it out proves less
 /// than it says; nor two `Either`s in one another, whose making and dropping is too much for a check.
 #[derive(Drop)]
-// Nor is it a type parameter of the cache, which would make four kinds of objects.
 pub enum AnyManager {
     /// What was used least recently goes.
     Lru(simple_lru::Manager),

@@ -10,11 +10,11 @@ use crate::object::Object;
 use pcache_request::phase::HitStatus;
 use std::alloc::Global;
 
+// Beside the cache and not in it, since upstream's has no counts: they are made where a call ends,
+// by its code.
 /// What a cache has counted since it was made. A count stops at the largest number.
 #[repr(C)]
 #[derive(Clone, Copy)]
-// Beside the cache and not in it, since upstream's has no counts: they are made where a call ends,
-// by its code.
 pub struct PcacheCounted {
     /// Takes of what a look-up found, as fresh.
     pub hits: u64,

@@ -101,6 +101,7 @@ fn write_part<S: Storage>(
         return Err(Error::new(SPENT));
     }
     let BodyPart { bytes, is_last } = part;
+    // For the report. It shares the bytes, and copies none.
     let copy = bytes.clone()?;
     writer.write_body(storage, bytes, is_last)?;
     Ok(Some(Written {

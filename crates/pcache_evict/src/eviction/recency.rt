@@ -412,6 +412,7 @@ impl<S: BuildHasher + Copy + Drop> RecencyList<S> {
         ensures evicts { Evicts (limits_of Lru limit watermark) self.old self.new out.new.items }
         ensures gone { result ≡ min (weight self.old - weight self.new) (2 ^ 64 - 1) }
     {
+        // By exact sums: only the totals of what was evicted stop at the largest number.
         let before = self.weight();
         while exceeds(self.weight(), self.len(), limit, watermark) {
             let Some((key, _)) = self.pop_last() else {

@@ -85,6 +85,7 @@ impl<const N: usize, S: BuildHasher + Copy + Drop> Manager<N, S> {
             alloc,
             limit,
             watermark,
+            // Without the capacity, which promises nothing: lists grow as they are filled.
             shards: RecencyShards::new(alloc, seed)?,
             evicted_size: 0,
             evicted_items: 0,

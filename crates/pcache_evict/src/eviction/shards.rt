@@ -35,6 +35,7 @@ fn is_full(count: usize) -> bool
 /// Each move takes one look-up.
 #[derive(Drop)]
 pub(super) struct RecencyShards<S: BuildHasher, const N: usize> {
+    // In a vector, since a list takes memory when it is made.
     lists: Vec<RecencyList<S>>,
     weight: u128,
     items: usize,
@@ -192,6 +193,8 @@ impl<S: BuildHasher + Copy + Drop, const N: usize> RecencyShards<S, N> {
         ensures kind { IfErr result (λ e. e ≡ OutOfMemory) }
         ensures err { OnErr result (self.new ≡ self.old) }
     {
+        // Entries only come in at the backs, so that the lists can be cut back without memory. A
+        // copy of all shards for each shard's file would cost their number squared.
         let lens = self.lens(alloc)?;
         if let Err(refused) = self.join_each(entries) {
             self.cut(&lens);
@@ -454,7 +457,7 @@ impl<S: BuildHasher + Copy + Drop, const N: usize> RecencyShards<S, N> {
     {
         let _ = &self.lists; // for the prover: there are `N` lists, and `N` is not 0
         // Keys are hashes, so evictions take from all lists alike. The list of the new entry comes
-        // last, so that this entry is the last to go. No contract promises this order.
+        // last, so that this entry is the last to go.
         let behind = self.first_of(place + 1, N);
         if behind.is_some() {
             return behind;

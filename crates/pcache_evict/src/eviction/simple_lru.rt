@@ -179,6 +179,7 @@ impl<S: BuildHasher + Copy + Drop> Manager<S> {
     pub fn remove(&mut self, item: &CacheEntryKey)
         ensures { self.new ≡ record self.old { entries = others item.now self.old.entries } }
     {
+        // No eviction, so the totals of what was evicted stay.
         self.list.remove(item);
     }
 

@@ -22,10 +22,10 @@ pub struct FinishReport {
     pub failed_purges: usize,
 }
 
-/// The outcome of the end of a request's write.
-#[derive(Debug, Drop)]
 // Apart from the plain result, for callers who keep a history: a body that was withdrawn was there
 // for a moment.
+/// The outcome of the end of a request's write.
+#[derive(Debug, Drop)]
 pub enum WriteEnd {
     /// There was no write.
     Nothing,

@@ -34,11 +34,11 @@ use pcache_meta::meta::spelled::SpelledMeta;
 use std::alloc::Global;
 use std::marker::Model;
 
+// No `Storage` itself: its readers and handlers are those of `MemCache`, and of a type that handles
+// two storages each call would be ambiguous.
 /// The data of a store in memory: the slots by key, and the records of writes. A contract sees them as
 /// the record `Store`.
 #[derive(Drop)]
-// No `Storage` itself: its readers and handlers are those of `MemCache`, and of a type that handles
-// two storages each call would be ambiguous.
 pub(super) struct BareStore {
     alloc: Global,
     slots: Slots,

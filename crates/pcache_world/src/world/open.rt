@@ -110,6 +110,7 @@ impl<P: PutPolicy> Open<P> {
     {
         match &mut self.kind {
             Kind::Request(request) => request.put_permit(lock, permit),
+            // A put is handed no permit: it waits on nobody, and asks for no lock.
             Kind::Put(put) => {
                 put.is_held(); // for the prover: it is a put, which only fills its key
                 unreachable!()
