@@ -172,7 +172,7 @@ impl<M: EvictionManager, K> Cache<M, K> {
         ensures { IsTrue result ↔ MayEnd self.now.store request.now.cache }
     {
         // A test of the store, since a fact about the store cannot be one of the request's type.
-        // Straight code needs it not: the begin of a write and each piece say that it holds after
+        // Straight code does without it: the begin of a write and each piece say that it holds after
         // them.
         request.cache.uses().eviction && is_own_write(&self.store, &request.cache)
     }
