@@ -75,6 +75,8 @@ impl Error {
     }
 }
 
+// By hand and not by `thiserror`: what that derives has no contract, so that a `?` would lose the
+// kind of the error in each clause that names one.
 impl fmt::Display for Error {
     fn fmt<W: fmt::Write>(&self, f: &mut fmt::Formatter<W>) -> fmt::Result {
         f.write_str(self.kind.as_str())

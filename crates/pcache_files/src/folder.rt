@@ -101,6 +101,8 @@ pub(crate) fn replace_file<R: NamedFiles>(
     make_folder(files, dir)?;
     'suffixes: for step in 0..SUFFIXES {
         let temporary = temporary_path(alloc, dir, name, suffix.wrapping_add(step))?;
+        // Never a file that existed: two programs that save into one folder each write their own,
+        // and what a killed one left bars no later save.
         match files.make_at(temporary.as_str()) {
             Ok(file) => {
                 return put_in_place(files, file, temporary.as_str(), path.as_str(), bytes);
@@ -152,6 +154,7 @@ fn put_in_place<R: NamedFiles>(
 {
     let placed = write_and_rename(files, file, temporary, path, bytes);
     if placed.is_err() {
+        // So that a full disk has its room again.
         let _removed = files.remove_at(temporary);
     }
     placed
@@ -171,6 +174,8 @@ fn write_and_rename<R: NamedFiles>(
     ensures unsaved { IsErrOf result Io → IsUnsaved (R.refuses files.now) R.File.write_fails }
     ensures kinds { IfErr result (λ e. (e ≡ OutOfMemory) ⊎ (e ≡ Io)) }
 {
+    // Closed, and not synced, as upstream does not: a save in shards would wait for the disk once a
+    // shard.
     write_new(file, bytes)?;
     rename(files, temporary, path)
 }

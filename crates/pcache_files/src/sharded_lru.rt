@@ -123,6 +123,7 @@ pub fn load<R: NamedFiles, const N: usize>(
         let list = read_shard(alloc, files, dir, shard)?;
         take_in(&mut entries, &mut skipped, list)?;
     }
+    // Once all files are read, so that a lack of memory leaves the manager as it was.
     manager.load_entries(entries)?;
     Ok(skipped)
 }
@@ -163,6 +164,7 @@ fn read_shard<R: NamedFiles>(
     match read_entries(alloc, files, dir, name.as_str()) {
         Ok(list) => Ok(Some(list)),
         Err(refused) => match refused.etype() {
+            // A shard whose read met a lack of memory is not skipped: its list may be good.
             ErrorType::OutOfMemory => Err(Error::new(ErrorType::OutOfMemory)),
             _ => Ok(None),
         },

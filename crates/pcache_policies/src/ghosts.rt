@@ -56,6 +56,8 @@ impl<S: BuildHasher + Copy + Drop> Ghosts<S> {
         ensures ok { OnOk result (self.new ≡ ghosted key count self.old) }
         ensures kind { IfErr result (λ e. e ≡ OutOfMemory) }
     {
+        // The paper's number where all entries have one size and the cache is full: as many as the
+        // main queue holds.
         self.add_within(key, count - count / 10)
     }
 

@@ -28,6 +28,8 @@ const FULL: usize = (1 << 63) - 1;
 fn is_full(count: usize) -> bool
     ensures { IsTrue result ↔ (2 ^ 63 - 1 ≤ count) }
 {
+    // Each entry has the links of its queue in memory, at least 16 bytes, and 2^64 addresses have
+    // room for fewer than 2^60 of these.
     count >= FULL
 }
 
@@ -164,6 +166,7 @@ impl<S: BuildHasher + Copy + Drop> Ring<S> {
         ensures ok { OnOk result (self.new.leaving ≡ []) }
         ensures kind { IfErr result (λ e. e ≡ OutOfMemory) }
     {
+        // Here and not where the call failed, since a push may want memory.
         while self.settle_one()? {}
         Ok(())
     }

@@ -54,7 +54,7 @@ impl<const N: usize> MarkedKeys<N> {
         ensures err { OnErr result (self.new ≡ self.old) }
         ensures kind { IfErr result (λ e. e ≡ OutOfMemory) }
     {
-        let _ = &self.lists; // for the prover: once a field is used, the invariant is known
+        let _ = &self.lists; // for the prover: no key is twice in a list (`AreKept`)
         let old = self.lists.put(key, reason)?;
         Ok(old.is_none())
     }
@@ -64,7 +64,7 @@ impl<const N: usize> MarkedKeys<N> {
         ensures was { result ≡ is_none (reason_of self.old key) }
         ensures out { self.new ≡ after_unmark self.old key }
     {
-        let _ = &self.lists; // for the prover: once a field is used, the invariant is known
+        let _ = &self.lists; // for the prover: no key is twice in a list (`AreKept`)
         self.lists.pop(key).is_none()
     }
 }

@@ -76,6 +76,8 @@ fn add_span(alloc: Global, fields: &mut HeaderMap, bytes: &Bytes, span: HeaderSp
     ensures kind { IfErr result (λ e. (e ≡ OutOfMemory) ⊎ (e ≡ InvalidHttpHeader)) }
 {
     let name = field_name(alloc, span.name.of(bytes.as_slice()))?;
+    // Not tested again, since the parser found it valid. The bytes of the head are there already,
+    // and a put soon writes its meta as bytes; names come in capitals mostly, and are copied.
     let value = HeaderValue::from_known_valid(bytes.slice(span.value.start..span.value.end)?);
     match fields.append(name, value) {
         Ok(_) => Ok(()),
@@ -110,6 +112,8 @@ fn fields_of(alloc: Global, bytes: &Bytes, spans: &[HeaderSpan]) -> Result<Heade
         e ≡ InvalidHttpHeader → ¬ (All IsShort (map (header_bytes bytes.now) spans.now))) }
     ensures kind { IfErr result (λ e. (e ≡ OutOfMemory) ⊎ (e ≡ InvalidHttpHeader)) }
 {
+    // By the number of fields, once they are found: at most 256, so never too many for the map, and
+    // what is no head takes no memory.
     let mut fields = room_for(alloc, spans.len())?;
     'spans: for i in 0..spans.len() {
         add_span(alloc, &mut fields, bytes, spans[i])?;

@@ -30,6 +30,7 @@ pub enum ParsePart {
     Body(Bytes, bool),
 }
 
+// A struct and no list: a piece brings each at most once, and so takes no list from memory.
 /// What a piece brings of a response, each part with whether the response is whole with it.
 #[derive(Drop)]
 pub struct PieceParts {

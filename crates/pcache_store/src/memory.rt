@@ -74,6 +74,8 @@ impl Model for MemCache {
 
     ghost view = { λ a. record { state = a.bare; past = a.past.notes } };
 
+    // Of a store and its past side by side: in one struct the past would be one step behind at the
+    // end of each helper that changes a field.
     ghost invariant = { λ a. IsWhatPastSays a.bare a.past.notes };
 }
 

@@ -72,6 +72,7 @@ fn take_out_of_message(headers: &mut HeaderMap)
     ensures { headers.new ≡ without_names headers.old of_the_message }
 {
     take_out(headers, "content-length");
+    // Content-Range may be left out (RFC 9111 section 3.2).
     take_out(headers, "content-range");
 }
 
@@ -81,6 +82,7 @@ fn take_out_of_body(headers: &mut HeaderMap, body: StoredBody)
 {
     match body {
         StoredBody::AsReceived => {}
+        // Only the caller knows that the body is no longer as these fields say.
         StoredBody::Processed => {
             take_out(headers, "content-encoding");
             take_out(headers, "content-type");
@@ -126,7 +128,7 @@ fn replace(updated: &mut HeaderMap, name: &HeaderName, brought: &HeaderMap) -> R
     ensures others { OnOk result (AreSameBut name.now updated.old updated.new) }
     ensures kind { IfErr result (λ e. (e ≡ OutOfMemory) ⊎ (e ≡ InternalError)) }
 {
-    // For the prover: its contract says what holds of each map.
+    // For the prover: it is a valid map of fields (`IsHeaderMap`).
     let _names = updated.keys_len();
     let _removed = updated.remove(name);
     append_lines(updated, name, brought)
@@ -137,7 +139,7 @@ fn replace_all(updated: &mut HeaderMap, brought: &HeaderMap) -> Result<()>
     ensures ok { OnOk result (Takes brought.now updated.old updated.new) }
     ensures kind { IfErr result (λ e. (e ≡ OutOfMemory) ⊎ (e ≡ InternalError)) }
 {
-    // For the prover: its contract says what holds of each map.
+    // For the prover: it is a valid map of fields (`IsHeaderMap`).
     let _names = brought.keys_len();
     'names: for name in brought.keys() {
         replace(updated, name, brought)?;
@@ -158,7 +160,7 @@ fn brought_in(new: &HeaderMap, body: StoredBody) -> Result<HeaderMap>
     ensures ok { IfOk result (IsBroughtIn body new.now) }
     ensures kind { IfErr result (λ e. e ≡ OutOfMemory) }
 {
-    // For the prover: its contract says what holds of each map.
+    // For the prover: it is a valid map of fields (`IsHeaderMap`).
     let _names = new.keys_len();
     let mut brought = copied(new)?;
     take_out_named(&mut brought, new);

@@ -26,6 +26,7 @@ use std::marker::Model;
 pub(super) struct RecencyList<S: BuildHasher> {
     cache: Weights<S>,
     weight: u128,
+    // Kept beside the table too, since a load works on a copy of the list.
     seed: S,
 }
 
@@ -88,7 +89,7 @@ impl<S: BuildHasher + Copy + Drop> RecencyList<S> {
         ensures err { OnErr result (self.new ≡ self.old) }
     {
         let before = self.cache.put(item, size)?.unwrap_or(0);
-        self.cache.len(); // for the prover: its contract says that the list is valid
+        self.cache.len(); // for the prover: the list is valid, so no entry occurs twice
         self.weight = self.weight - before as u128 + size as u128;
         Ok(())
     }
@@ -107,7 +108,7 @@ impl<S: BuildHasher + Copy + Drop> RecencyList<S> {
         ensures once { IsOnce self.new }
     {
         let raised = raise_in(&mut self.cache, item, delta, max_weight);
-        self.cache.len(); // for the prover: its contract says that the list is valid
+        self.cache.len(); // for the prover: the list is valid, so no entry occurs twice
         let Some((before, after)) = raised else {
             return false;
         };
@@ -125,7 +126,7 @@ impl<S: BuildHasher + Copy + Drop> RecencyList<S> {
         ensures once { IsOnce self.new }
     {
         set_weight(&mut self.cache, item, size);
-        self.cache.len(); // for the prover: its contract says that the list is valid
+        self.cache.len(); // for the prover: the list is valid, so no entry occurs twice
         self.weight = rest + size as u128;
     }
 
@@ -138,7 +139,7 @@ impl<S: BuildHasher + Copy + Drop> RecencyList<S> {
         ensures list { self.new ≡ reweighed item.now size self.old }
     {
         write_weight(&mut self.cache, item, size);
-        self.cache.len(); // for the prover: its contract says that the list is valid
+        self.cache.len(); // for the prover: the list is valid, so no entry occurs twice
         self.weight = rest + size as u128;
     }
 
@@ -160,7 +161,7 @@ impl<S: BuildHasher + Copy + Drop> RecencyList<S> {
         ensures missing { result ≡ false → self.new ≡ self.old }
     {
         let was = self.cache.promote(item);
-        self.cache.len(); // for the prover: its contract says that the list is valid
+        self.cache.len(); // for the prover: the list is valid, so no entry occurs twice
         was
     }
 
@@ -192,7 +193,7 @@ impl<S: BuildHasher + Copy + Drop> RecencyList<S> {
         let copy = item.copied()?;
         self.put(item, size)?;
         self.cache.demote(&copy);
-        self.cache.len(); // for the prover: its contract says that the list is valid
+        self.cache.len(); // for the prover: the list is valid, so no entry occurs twice
         Ok(())
     }
 
@@ -239,7 +240,7 @@ impl<S: BuildHasher + Copy + Drop> RecencyList<S> {
         ensures rest { result ≡ self.now }
         ensures once { IsOnce self.now }
     {
-        self.cache.len(); // for the prover: its contract says that the list is valid
+        self.cache.len(); // for the prover: the list is valid, so no entry occurs twice
         self.cache.iter()
     }
 
@@ -411,6 +412,7 @@ impl<S: BuildHasher + Copy + Drop> RecencyList<S> {
         ensures evicts { Evicts (limits_of Lru limit watermark) self.old self.new out.new.items }
         ensures gone { result ≡ min (weight self.old - weight self.new) (2 ^ 64 - 1) }
     {
+        // By exact sums: only the totals of what was evicted stop at the largest number.
         let before = self.weight();
         while exceeds(self.weight(), self.len(), limit, watermark) {
             let Some((key, _)) = self.pop_last() else {

@@ -85,6 +85,7 @@ impl<const N: usize, S: BuildHasher + Copy + Drop> Manager<N, S> {
             alloc,
             limit,
             watermark,
+            // Without the capacity, which promises nothing: lists grow as they are filled.
             shards: RecencyShards::new(alloc, seed)?,
             evicted_size: 0,
             evicted_items: 0,
@@ -111,7 +112,7 @@ impl<const N: usize, S: BuildHasher + Copy + Drop> Manager<N, S> {
         ensures value { result ≡ N }
         ensures placed { ArePlaced N self.now.shards }
     {
-        self.shards.len(); // for the prover: once it is asked, the invariant is known
+        self.shards.len(); // for the prover: each of the `N` lists has its own entries
         N
     }
 
@@ -158,7 +159,7 @@ impl<const N: usize, S: BuildHasher + Copy + Drop> Manager<N, S> {
             ≡ weight_of item.now (list_at self.now.shards (shard_of N item.now)) }
         ensures placed { ArePlaced N self.now.shards }
     {
-        self.shards.len(); // for the prover: once it is asked, the invariant is known
+        self.shards.len(); // for the prover: each of the `N` lists has its own entries
         let list = self.shards.list(self.shards.place_of(item));
         list.weight_of(item)
     }
@@ -265,7 +266,7 @@ impl<const N: usize, S: BuildHasher + Copy + Drop> Manager<N, S> {
             ≡ record self.old { shards = in_shard N item.now (others item.now) self.old.shards } }
         ensures placed { ArePlaced N self.old.shards }
     {
-        self.shards.len(); // for the prover: once it is asked, the invariant is known
+        self.shards.len(); // for the prover: each of the `N` lists has its own entries
         self.shards.remove(item);
     }
 
@@ -291,7 +292,7 @@ impl<const N: usize, S: BuildHasher + Copy + Drop> Manager<N, S> {
         ensures kind { IfErr result (λ e. e ≡ OutOfMemory) }
         ensures err { OnErr result (self.new ≡ self.old) }
     {
-        self.shards.len(); // for the prover: once it is asked, the invariant is known
+        self.shards.len(); // for the prover: each of the `N` lists has its own entries
         if self.shards.promote(item) {
             return Ok(true);
         }
@@ -318,7 +319,7 @@ impl<const N: usize, S: BuildHasher + Copy + Drop> Manager<N, S> {
         ensures rest { result ≡ list_at self.now.shards shard }
         ensures placed { ArePlaced N self.now.shards }
     {
-        self.shards.len(); // for the prover: once it is asked, the invariant is known
+        self.shards.len(); // for the prover: each of the `N` lists has its own entries
         let list = self.shards.list(shard);
         list.iter()
     }
@@ -331,7 +332,7 @@ impl<const N: usize, S: BuildHasher + Copy + Drop> Manager<N, S> {
         ensures kind { IfErr result (λ e. e ≡ OutOfMemory) }
         ensures err { OnErr result (self.new ≡ self.old) }
     {
-        self.shards.len(); // for the prover: once it is asked, the invariant is known
+        self.shards.len(); // for the prover: each of the `N` lists has its own entries
         let place = self.shards.place_of(&item);
         let rest = self.shards.others(&item);
         let room = self
@@ -355,7 +356,7 @@ impl<const N: usize, S: BuildHasher + Copy + Drop> Manager<N, S> {
         ensures kind { IfErr result (λ e. e ≡ OutOfMemory) }
         ensures err { OnErr result (self.new ≡ self.old) }
     {
-        self.shards.len(); // for the prover: once it is asked, the invariant is known
+        self.shards.len(); // for the prover: each of the `N` lists has its own entries
         let place = self.shards.place_of(item);
         let rest = self.shards.others(item);
         let fits = self
@@ -381,7 +382,7 @@ impl<const N: usize, S: BuildHasher + Copy + Drop> Manager<N, S> {
             (vec_capacity out) }
         ensures { Runs N self.old self.old.shards self.new result.items }
     {
-        self.shards.len(); // for the prover: once it is asked, the invariant is known
+        self.shards.len(); // for the prover: each of the `N` lists has its own entries
         let gone = self
             .shards
             .evict(place, self.limit, self.watermark, &mut out);

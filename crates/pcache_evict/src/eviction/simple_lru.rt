@@ -179,6 +179,7 @@ impl<S: BuildHasher + Copy + Drop> Manager<S> {
     pub fn remove(&mut self, item: &CacheEntryKey)
         ensures { self.new ≡ record self.old { entries = others item.now self.old.entries } }
     {
+        // No eviction, so the totals of what was evicted stay.
         self.list.remove(item);
     }
 
@@ -229,6 +230,8 @@ impl<S: BuildHasher + Copy + Drop> Manager<S> {
         ensures kind { IfErr result (λ e. e ≡ OutOfMemory) }
         ensures err { OnErr result (self.new ≡ self.old) }
     {
+        // A copy, since an entry that is listed already moves and takes another weight, which could
+        // not be undone if memory ran out midway.
         let mut list = self.list.copied(self.alloc)?;
         list.load_all(entries)?;
         self.list = list;
@@ -250,6 +253,8 @@ impl<S: BuildHasher + Copy + Drop> Manager<S> {
         ensures kind { IfErr result (λ e. e ≡ OutOfMemory) }
         ensures err { OnErr result (self.new ≡ self.old) }
     {
+        // An entry makes a list heavier by no more than its size, so nobody asks whether it is
+        // there if it would fit even as a new one.
         if self.list.allows(size, 1, self.limit, self.watermark) {
             self.list.put(item, size)?;
             return Ok(self.keep_limits(Vec::new(self.alloc)));
@@ -259,6 +264,7 @@ impl<S: BuildHasher + Copy + Drop> Manager<S> {
             .room_at_most(&item, size, self.limit, self.watermark);
         let out = match Vec::with_capacity(self.alloc, room) {
             Ok(out) => out,
+            // Only then is it looked up: no call is refused for memory that it would not need.
             Err(_) => self.exact_room(&item, size)?,
         };
         self.list.put(item, size)?;

@@ -285,6 +285,7 @@ impl BareLock {
               current = without_entry number slot self.old.current;
             } }
     {
+        // With its entry: a key whose lock nobody names takes no memory.
         self.cores.remove(number);
         leave_entry(&mut self.current, number, slot);
     }

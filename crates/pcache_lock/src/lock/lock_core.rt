@@ -26,6 +26,7 @@ pub struct LockCore {
     age_timeout: Duration,
     stale_writer: bool,
     held: bool,
+    // Wider than a number of locks, so that there are never as many as can be counted.
     readers: u128,
     publications: Publications,
 }
@@ -91,6 +92,7 @@ impl LockCore {
     pub fn locked(&self) -> bool
         ensures { result ≡ is_locked self.now }
     {
+        // Also if it was unlocked as too old: an aged permit is held until it is spent.
         self.held && matches!(self.status, LockStatus::Waiting | LockStatus::AgeTimeout)
     }
 

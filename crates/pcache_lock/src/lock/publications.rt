@@ -84,6 +84,7 @@ fn unmark(index: &mut BTreeSet<u128>, place: usize, tokens: &[u64])
 pub(super) struct Publications {
     kept: Vec<Publication>,
     // An index entry for each token of each publication.
+    // A tree needs no seed, whoever picks the tokens.
     index: BTreeSet<u128>,
 }
 

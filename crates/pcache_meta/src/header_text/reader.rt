@@ -96,7 +96,7 @@ fn status_of(text: &[u8]) -> Result<StatusCode>
 {
     match StatusCode::from_bytes(text) {
         Ok(code) => {
-            // For the prover: its contract says what holds of each status.
+            // For the prover: a status has three digits (`IsStatusCode`).
             let _number = code.as_u16();
             Ok(code)
         }
@@ -167,7 +167,7 @@ fn value_of(bytes: Bytes) -> Result<HeaderValue>
 {
     match HeaderValue::from_shared(bytes) {
         Ok(value) => {
-            // For the prover: its contract says what holds of each value.
+            // For the prover: its bytes are such as a value may have.
             let _bytes = value.as_bytes();
             Ok(value)
         }
@@ -219,7 +219,7 @@ fn append_field(headers: &mut HeaderMap, name: HeaderName, value: HeaderValue) -
 {
     match headers.append(name, value) {
         Ok(_) => {
-            // For the prover: its contract says what holds of each map.
+            // For the prover: it is a valid map, of at most so many names.
             let _values = headers.len();
             Ok(())
         }
@@ -337,6 +337,8 @@ pub fn header_deserialize(alloc: Global, bytes: &[u8]) -> Result<ResponseHeader>
         Ok(header) => return Ok(header),
         Err(refused) => refused,
     };
+    // Memory ran out before all bytes were seen: so they are looked through once more, without any,
+    // and bytes that spell no head never fail for memory.
     if refused.etype() == ErrorType::OutOfMemory && is_header_text(bytes) {
         Err(refused)
     } else {

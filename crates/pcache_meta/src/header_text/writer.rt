@@ -32,6 +32,8 @@ fn put_field(out: &mut Vec<u8>, name: &HeaderName, value: &HeaderValue) -> Resul
     ensures kind { IfErr result (λ e. e ≡ OutOfMemory) }
 {
     out.extend_from_slice(name.as_bytes())?;
+    // The space also before an empty value: a reader takes exactly one, and what white space a
+    // value has at its ends stays.
     out.extend_from_slice(b": ")?;
     out.extend_from_slice(value.as_bytes())?;
     out.extend_from_slice(b"\r\n")?;
@@ -60,7 +62,7 @@ fn put_status_line(out: &mut Vec<u8>, version: HttpVersion, status: StatusCode) 
     ensures valid { OnOk result (IsStatusCode status) }
     ensures kind { IfErr result (λ e. e ≡ OutOfMemory) }
 {
-    // For the prover: its contract says what holds of each status.
+    // For the prover: a status has three digits (`IsStatusCode`).
     let _number = status.as_u16();
     out.extend_from_slice(version_text(version))?;
     out.extend_from_slice(b" ")?;
@@ -91,8 +93,9 @@ fn write_header(alloc: Global, header: &ResponseHeader) -> Result<Vec<u8>>
     ensures map { OnOk result (IsHeaderMap header.now.headers) }
     ensures kind { IfErr result (λ e. e ≡ OutOfMemory) }
 {
-    // For the prover: its contract says what holds of each map.
+    // For the prover: it is a valid map, of at most so many names.
     let _values = header.headers.len();
+    // Exactly so much, since a stored meta keeps its texts as they were written.
     let mut out = Vec::with_capacity(alloc, text_len(&header.headers))?;
     put_status_line(&mut out, header.version, header.status)?;
     put_fields(&mut out, &header.headers)?;

@@ -118,6 +118,7 @@ impl<S: Storage> HttpCache<S> {
         if let Some(reader) = self.reader.take() {
             reader.let_go(storage);
         }
+        // What is left of variants and of a policy no call can see: `enable` begins anew.
         self.meta = None;
         self.uses = InUse {
             eviction: false,

@@ -22,6 +22,8 @@ pub struct FinishReport {
     pub failed_purges: usize,
 }
 
+// Apart from the plain result, for callers who keep a history: a body that was withdrawn was there
+// for a moment.
 /// The outcome of the end of a request's write.
 #[derive(Debug, Drop)]
 pub enum WriteEnd {
@@ -173,6 +175,8 @@ impl<S: Storage> HttpCache<S> {
         ensures withdrawn { IsTrue S.guarantees.purges
             → IfWithdrawn result.end (HasNoBodyFor (S.state storage.new) self.old.key) }
     {
+        // No manager of upstream's is asked which other entries a key has. So the entry of an old
+        // body stays, goes when its turn comes, and its purge finds nothing.
         let entering = Entering {
             replaced: None,
             weight: None,

@@ -183,6 +183,7 @@ impl<S: Storage> HttpCache<S> {
             (lock_side L.table L.past lock.old) (lock_side L.table L.past lock.new) }
     {
         let status = status_for(lock, reason);
+        // A read lock is let go for any reason, since nobody waits for it and is told one.
         let lock = settle(self.alloc, &self.key, &mut self.held, lock, status)?;
         Some(ReleasedLock { lock, status })
     }
@@ -215,6 +216,7 @@ impl<S: Storage> HttpCache<S> {
         requires { IsOn self.old.phase }
         ensures { self.new ≡ self.old }
     {
-        let _tagged = self.phase; // for the prover: once a field is used, the invariant is known
+        // For the prover: a use of a field brings in the invariant, which the request has to keep.
+        let _tagged = self.phase;
     }
 }

@@ -307,6 +307,8 @@ impl<S: Storage> HttpCache<S> {
         let Locked::Read(mut read) = held else {
             unreachable!()
         };
+        // Those of the key count as they are at the first poll. No report copies them: they are
+        // there.
         let fills = unusable_in(&self.key);
         wait_on(
             self.alloc,

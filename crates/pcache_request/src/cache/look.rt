@@ -186,6 +186,7 @@ impl<S: Storage> HttpCache<S> {
             (store_side S.state S.past storage.old) (store_side S.state S.past storage.new)
             (lock_side L.table L.past lock.old) (lock_side L.table L.past lock.new) }
     {
+        // A decision is itself a policy. This one is lent and not in use, so it is never asked.
         let mut unasked = Decision::Ready { observed: 0 };
         match self.search(storage, lock, &mut unasked, false, &mut NoWitness, now)? {
             LookUp::Found(meta, hit) => Ok(Some((meta, hit))),
@@ -261,6 +262,8 @@ impl<S: Storage> HttpCache<S> {
             × (S.past storage.new
             ≡ passed_past (S.state storage.old) self.old.key (S.past storage.old)))) }
     {
+        // A world makes this call, so what is promised of its history holds of the look-ups of its
+        // users.
         self.search(storage, lock, policy, true, witness, now)
     }
 }

@@ -31,6 +31,7 @@ fn refusal(error: HeaderMapError) -> Error
     ensures full { result ≡ InternalError → error ≡ MaxSizeReached }
 {
     match error {
+        // The map has no room for a further name, whatever memory is free (`LacksRoom`).
         HeaderMapError::MaxSizeReached => Error::new(ErrorType::InternalError),
         HeaderMapError::OutOfMemory => Error::new(ErrorType::OutOfMemory),
     }
@@ -241,6 +242,8 @@ impl<S: Storage> HttpCache<S> {
         let Some(meta) = &self.meta else {
             unreachable!()
         };
+        // A copy, so that the stored head is whole if a field is refused. It takes memory even
+        // where no field is set.
         let mut header = meta.response_header_copy()?;
         renew_fields(&mut header.headers, &resp.headers)?;
         Ok(header)

@@ -34,6 +34,8 @@ use pcache_meta::meta::spelled::SpelledMeta;
 use std::alloc::Global;
 use std::marker::Model;
 
+// No `Storage` itself: its readers and handlers are those of `MemCache`, and of a type that handles
+// two storages each call would be ambiguous.
 /// The data of a store in memory: the slots by key, and the records of writes. A contract sees them as
 /// the record `Store`.
 #[derive(Drop)]
@@ -284,6 +286,7 @@ impl BareStore {
         };
         let slot = draft.slot();
         if !self.slots.is_untouched(slot, number) {
+            // So its readers are cut off, and are not told that the body is whole.
             self.drop_write(slot, number);
             return Err(Error::new(ErrorType::WriteRemoved));
         }
@@ -317,6 +320,8 @@ impl BareStore {
                 None => PurgeOutcome::NotFound,
             };
         };
+        // Of one write, in flight or complete: an eviction must leave a newer body of the key where
+        // it is.
         if self.slots.remove_write(slot, id) {
             PurgeOutcome::Purged(Some(id))
         } else {
@@ -435,6 +440,7 @@ impl BareStore {
             return Err(Error::new(ErrorType::NumbersExhausted));
         };
         let slot = key.slot();
+        // With the number of this write, whatever number the meta has that was handed in.
         let meta = SpelledMeta::with_entry_id(alloc, meta, Some(CacheEntryId::new(number)))?;
         let draft = Draft::new(alloc, slot, meta);
         self.drafts.begin(draft)?;
@@ -492,6 +498,7 @@ impl BareStore {
         let Some(body) = self.slots.body(slot) else {
             return Ok(false);
         };
+        // The body stays that of the write which stored it, and so does the number in its meta.
         let meta = SpelledMeta::with_entry_id(alloc, meta, body.entry_id())?;
         Ok(self.slots.set_meta(slot, meta))
     }

@@ -20,6 +20,7 @@ use std::marker::Model;
 #[derive(Drop)]
 pub(crate) struct Drafts {
     writes: DraftTable,
+    // One counter for all shards, so that the earliest write of a key is that of the least number.
     next: Option<u64>,
 }
 

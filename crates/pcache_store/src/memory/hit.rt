@@ -282,6 +282,7 @@ impl HandleHit<MemCache> for MemHitHandler {
         match self {
             MemHitHandler::Complete(hit) => hit.done,
             MemHitHandler::Partial(part) => match store.draft(part.slot, part.write) {
+                // Also if the write was dropped once its end was announced: all its bytes had come.
                 Some(draft) => draft.is_told() && draft.len() <= part.place,
                 None => false,
             },
@@ -290,6 +291,7 @@ impl HandleHit<MemCache> for MemHitHandler {
 
     fn body_length(&self, store: &MemCache) -> Option<usize> {
         match self {
+            // Of the whole body and not of the range, since a `Content-Range` names both.
             MemHitHandler::Complete(hit) => Some(hit.body.len()),
             MemHitHandler::Partial(part) => match store.draft(part.slot, part.write) {
                 Some(draft) if draft.is_told() => Some(draft.len()),

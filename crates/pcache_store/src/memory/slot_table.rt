@@ -28,6 +28,8 @@ const MOST_KEYS: usize = (1 << 63) - 1;
 pub(crate) fn is_full(count: usize) -> bool
     ensures { IsTrue result ↔ (2 ^ 63 - 1 ≤ count) }
 {
+    // Each key or record has a number of its own in memory, of at least 16 bytes, and 2^64
+    // addresses have room for fewer than 2^60 of these.
     count >= MOST_KEYS
 }
 
@@ -117,7 +119,7 @@ impl SlotTable {
     pub(crate) fn shut(&mut self, key: u128, number: u64)
         ensures { self.new ≡ shut_on self.old key number (map.get self.old key) }
     {
-        let _ = &self.shards; // for the prover: once a field is used, the invariant is known
+        let _ = &self.shards; // for the prover: each of the 16 tables has its own keys
         let place = (key % SHARDS) as usize;
         let table = &mut self.shards[place];
         self.count -= shut_in(table, key, number);
@@ -129,7 +131,7 @@ impl SlotTable {
         ensures older { result ≡ complete_body (map.get self.old key) }
         ensures slots { self.new ≡ stored_on self.old key number body (map.get self.old key) }
     {
-        let _ = &self.shards; // for the prover: once a field is used, the invariant is known
+        let _ = &self.shards; // for the prover: each of the 16 tables has its own keys
         let place = (key % SHARDS) as usize;
         let table = &mut self.shards[place];
         store_in(table, key, number, body)
@@ -140,7 +142,7 @@ impl SlotTable {
         ensures before { result ≡ map.get self.old key }
         ensures removed { self.new ≡ map.remove self.old key }
     {
-        let _ = &self.shards; // for the prover: once a field is used, the invariant is known
+        let _ = &self.shards; // for the prover: each of the 16 tables has its own keys
         let place = (key % SHARDS) as usize;
         let table = &mut self.shards[place];
         let slot = table.remove(key);
@@ -154,7 +156,7 @@ impl SlotTable {
         ensures body { result.1 ≡ body_with id (complete_body (map.get self.old key)) }
         ensures removed { self.new ≡ write_gone_on self.old key id (map.get self.old key) }
     {
-        let _ = &self.shards; // for the prover: once a field is used, the invariant is known
+        let _ = &self.shards; // for the prover: each of the 16 tables has its own keys
         let place = (key % SHARDS) as usize;
         let table = &mut self.shards[place];
         let (there, body, gone) = remove_write_in(table, key, id);
@@ -167,7 +169,7 @@ impl SlotTable {
         ensures there { result ≡ is_some (complete_body (map.get self.old key)) }
         ensures slots { self.new ≡ meta_changed_on (λ _. meta) self.old key (map.get self.old key) }
     {
-        let _ = &self.shards; // for the prover: once a field is used, the invariant is known
+        let _ = &self.shards; // for the prover: each of the 16 tables has its own keys
         let place = (key % SHARDS) as usize;
         let table = &mut self.shards[place];
         set_meta_in(table, key, meta)
@@ -182,7 +184,7 @@ impl SlotTable {
         ensures kind { IfErr result (λ e. e ≡ OutOfMemory) }
         ensures err { OnErr result (self.new ≡ self.old) }
     {
-        let _ = &self.shards; // for the prover: once a field is used, the invariant is known
+        let _ = &self.shards; // for the prover: each of the 16 tables has its own keys
         let place = (key % SHARDS) as usize;
         let table = &mut self.shards[place];
         expire_in(table, alloc, key, now)

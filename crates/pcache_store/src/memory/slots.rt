@@ -133,6 +133,8 @@ impl Slots {
         ensures there { result ≡ option_map (λ x. number_of_body x.body) (map.get self.old key) }
         ensures removed { self.new ≡ map.remove self.old key }
     {
+        // With the slot go the numbers of the key's writes, and so all of them are marked as
+        // removed. The writes of other keys are not looked at.
         let Some(slot) = self.slots.remove(key) else {
             return None;
         };
@@ -148,7 +150,7 @@ impl Slots {
         ensures there { result ≡ has_write id (map.get self.old key) }
         ensures removed { self.new ≡ write_gone_on self.old key id (map.get self.old key) }
     {
-        // For the prover: once a field is used, the invariant is known.
+        // For the prover: with the invariant the two totals are those of the slots.
         let _ = &self.slots;
         let (there, body) = self.slots.remove_write(key, id);
         let (fewer, less) = count(body);
