@@ -16,7 +16,7 @@ use httparse::Status;
 use httparse::spans::{EMPTY_HEADER_SPAN, HeaderSpan, ResponseSpans, parse_response};
 use pcache_base::error::{Error, ErrorType, Result};
 use pcache_meta::header::{HttpVersion, ResponseHeader};
-use std::alloc::Global;
+use std::alloc::{AllocError, Global};
 
 // How many fields a head may have.
 const MAX_FIELDS: usize = 256;
@@ -87,15 +87,14 @@ fn add_span(alloc: Global, fields: &mut HeaderMap, bytes: &Bytes, span: HeaderSp
 }
 
 // A map with room for as many names as there are fields.
-fn room_for(alloc: Global, fields: usize) -> Result<HeaderMap>
+fn room_for(alloc: Global, fields: usize) -> Result<HeaderMap, AllocError>
     requires { fields ≤ 256 }
     ensures ok { IfOk result (λ map. map ≡ []) }
-    ensures kind { IfErr result (λ e. e ≡ OutOfMemory) }
     ensures none { fields ≡ 0 → IsOk result }
 {
     match HeaderMap::with_capacity(alloc, fields) {
         Ok(map) => Ok(map),
-        Err(HeaderMapError::OutOfMemory) => Err(Error::new(ErrorType::OutOfMemory)),
+        Err(HeaderMapError::OutOfMemory) => Err(AllocError),
         Err(HeaderMapError::MaxSizeReached) => unreachable!(),
     }
 }

@@ -31,7 +31,7 @@ use pcache_base::seed::Seed;
 use pcache_evict::eviction::{CacheEntryId, CacheEntryKey};
 use pcache_meta::meta::CacheMeta;
 use pcache_meta::meta::spelled::SpelledMeta;
-use std::alloc::Global;
+use std::alloc::{AllocError, Global};
 use std::marker::Model;
 
 // No `Storage` itself: its readers and handlers are those of `MemCache`, and of a type that handles
@@ -254,9 +254,14 @@ impl BareStore {
         self.drafts.leave(slot, number);
     }
 
-    pub(super) fn write(&mut self, slot: u128, number: u64, bytes: Bytes, eof: bool) -> Result<()>
+    pub(super) fn write(
+        &mut self,
+        slot: u128,
+        number: u64,
+        bytes: Bytes,
+        eof: bool,
+    ) -> Result<(), AllocError>
         ensures ok { OnOk result (self.new ≡ wrote self.old number bytes eof) }
-        ensures kind { IfErr result (λ e. e ≡ OutOfMemory) }
         ensures err { OnErr result (self.new ≡ self.old) }
     {
         let alloc = self.alloc;
@@ -446,7 +451,7 @@ impl BareStore {
         self.drafts.begin(draft)?;
         if let Err(refused) = self.slots.open(alloc, slot, number) {
             self.drafts.take_back(slot, number);
-            return Err(refused);
+            return Err(Error::from(refused));
         }
         Ok(MemMissHandler::new(slot, number))
     }

@@ -9,12 +9,12 @@ ghost use Rattle.pcache_store.specs.Store.{opened, shut_on, stored_on, complete_
 
 use crate::memory::body::{Body, KeySlot};
 use pcache_base::entry_id::CacheEntryId;
-use pcache_base::error::{Error, ErrorType, Result};
+use pcache_base::error::Result;
 use pcache_base::moment::Moment;
 use pcache_base::seed::Seed;
 use pcache_meta::meta::spelled::SpelledMeta;
 use pcache_table::hashtable::HashedTable;
-use std::alloc::Global;
+use std::alloc::{AllocError, Global};
 use std::marker::Model;
 
 /// How many shards there are. The shard of a key is the key modulo their number.
@@ -100,13 +100,12 @@ impl SlotTable {
     }
 
     // Records that a write of the key begins.
-    pub(crate) fn open(&mut self, alloc: Global, key: u128, number: u64) -> Result<()>
+    pub(crate) fn open(&mut self, alloc: Global, key: u128, number: u64) -> Result<(), AllocError>
         ensures ok { OnOk result (self.new ≡ opened self.old key number) }
-        ensures kind { IfErr result (λ e. e ≡ OutOfMemory) }
         ensures err { OnErr result (self.new ≡ self.old) }
     {
         if is_full(self.count) {
-            return Err(Error::new(ErrorType::OutOfMemory));
+            return Err(AllocError);
         }
         let place = (key % SHARDS) as usize;
         let table = &mut self.shards[place];
@@ -202,10 +201,14 @@ pub(crate) fn one_if(is_so: bool) -> usize
 // change has one clause over one table, and one lemma says how all tables together change.
 //
 // Returns how many keys were added, which is one or zero.
-fn open_in(slots: &mut HashedTable<KeySlot>, alloc: Global, key: u128, number: u64) -> Result<usize>
+fn open_in(
+    slots: &mut HashedTable<KeySlot>,
+    alloc: Global,
+    key: u128,
+    number: u64,
+) -> Result<usize, AllocError>
     ensures ok { OnOk result (slots.new ≡ opened slots.old key number) }
     ensures more { IfOk result (λ n. one_if_some (map.get slots.old key) + n ≡ 1) }
-    ensures kind { IfErr result (λ e. e ≡ OutOfMemory) }
     ensures err { OnErr result (slots.new ≡ slots.old) }
 {
     if let Some(slot) = slots.get_mut(key) {

@@ -15,7 +15,7 @@ use pcache_base::error::Result;
 use pcache_base::moment::Moment;
 use pcache_base::seed::Seed;
 use pcache_meta::meta::spelled::SpelledMeta;
-use std::alloc::Global;
+use std::alloc::{AllocError, Global};
 use std::marker::Model;
 
 /// The slots by key, with the number and the total length of their complete bodies.
@@ -100,9 +100,8 @@ impl Slots {
     }
 
     // Records that a write of the key begins.
-    pub(crate) fn open(&mut self, alloc: Global, key: u128, number: u64) -> Result<()>
+    pub(crate) fn open(&mut self, alloc: Global, key: u128, number: u64) -> Result<(), AllocError>
         ensures ok { OnOk result (self.new ≡ opened self.old key number) }
-        ensures kind { IfErr result (λ e. e ≡ OutOfMemory) }
         ensures err { OnErr result (self.new ≡ self.old) }
     {
         self.slots.open(alloc, key, number)
