@@ -13,7 +13,7 @@ use crate::named::NamedFiles;
 use crate::pieces::read_list_from;
 use pcache_base::error::{Error, ErrorType, Result};
 use pcache_evict::eviction::CacheEntryKey;
-use std::alloc::Global;
+use std::alloc::{AllocError, Global};
 use std::io;
 use std::path::{Path, PathBuf};
 
@@ -21,11 +21,10 @@ use std::path::{Path, PathBuf};
 const SUFFIXES: u32 = 64;
 
 // The path of a file of a folder.
-fn path_in(alloc: Global, dir: &str, name: &str) -> Result<PathBuf>
+fn path_in(alloc: Global, dir: &str, name: &str) -> Result<PathBuf, AllocError>
     ensures joined { IfOk result (λ p. path_buf_bytes p ≡ path_join dir.now name.now) }
-    ensures kind { IfErr result (λ e. e ≡ OutOfMemory) }
 {
-    Ok(Path::new(dir).join(alloc, name)?)
+    Path::new(dir).join(alloc, name)
 }
 
 // Opens a file for reading.
@@ -129,9 +128,12 @@ fn make_folder<R: NamedFiles>(files: &R, dir: &str) -> Result<()>
 }
 
 // The path of the temporary file with a suffix.
-fn temporary_path(alloc: Global, dir: &str, name: &str, suffix: u32) -> Result<PathBuf>
-    ensures { IfErr result (λ e. e ≡ OutOfMemory) }
-{
+fn temporary_path(
+    alloc: Global,
+    dir: &str,
+    name: &str,
+    suffix: u32,
+) -> Result<PathBuf, AllocError> {
     let temporary = format!(in alloc; "{name}.{suffix:08x}.tmp")?;
     path_in(alloc, dir, temporary.as_str())
 }

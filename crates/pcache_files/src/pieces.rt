@@ -12,7 +12,7 @@ use crate::codec::{first_count, first_node, tag_len, unreadable};
 use crate::device::CountedRead;
 use pcache_base::error::Result;
 use pcache_evict::eviction::CacheEntryKey;
-use std::alloc::Global;
+use std::alloc::{AllocError, Global};
 use std::marker::Model;
 
 /// The most bytes that the head of an array has.
@@ -74,9 +74,8 @@ impl Ahead {
     }
 
     // Adds a piece. The used bytes are dropped as soon as they are half of all.
-    fn add(&mut self, piece: &[u8]) -> Result<()>
+    fn add(&mut self, piece: &[u8]) -> Result<(), AllocError>
         ensures added { OnOk result (self.new ≡ self.old ++ piece.now) }
-        ensures kind { IfErr result (λ e. e ≡ OutOfMemory) }
     {
         self.let_go();
         self.bytes.extend_from_slice(piece)?;

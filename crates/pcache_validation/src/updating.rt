@@ -10,6 +10,7 @@ ghost use Rattle.pcache_validation.specs.Updating.{of_the_body, of_the_connectio
 use crate::lists::Elements;
 use http_header::{CONNECTION, HeaderMap, HeaderMapError, HeaderName, HeaderValue};
 use pcache_base::error::{Error, ErrorType, Result};
+use std::alloc::AllocError;
 
 /// How a body is stored.
 #[derive(Clone, Copy, Debug, PartialEq, Eq)]
@@ -148,17 +149,15 @@ fn replace_all(updated: &mut HeaderMap, brought: &HeaderMap) -> Result<()>
 }
 
 // A copy of fields.
-fn copied(headers: &HeaderMap) -> Result<HeaderMap>
+fn copied(headers: &HeaderMap) -> Result<HeaderMap, AllocError>
     ensures ok { IfOk result (λ copy. copy ≡ headers.now) }
-    ensures kind { IfErr result (λ e. e ≡ OutOfMemory) }
 {
-    Ok(headers.clone()?)
+    headers.clone()
 }
 
 // A copy of the fields of a newer response, without those that are left out.
-fn brought_in(new: &HeaderMap, body: StoredBody) -> Result<HeaderMap>
+fn brought_in(new: &HeaderMap, body: StoredBody) -> Result<HeaderMap, AllocError>
     ensures ok { IfOk result (IsBroughtIn body new.now) }
-    ensures kind { IfErr result (λ e. e ≡ OutOfMemory) }
 {
     // For the prover: it is a valid map of fields (`IsHeaderMap`).
     let _names = new.keys_len();

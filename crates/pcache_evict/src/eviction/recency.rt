@@ -15,7 +15,7 @@ ghost use Rattle.pcache_evict.specs.Chain.{IsWithinTotals, Walks};
 use super::CacheEntryKey;
 use lru::{Iter, LruCache};
 use pcache_base::error::Result;
-use std::alloc::Global;
+use std::alloc::{AllocError, Global};
 use std::hash::BuildHasher;
 use std::marker::Model;
 
@@ -46,9 +46,8 @@ impl<S: BuildHasher> Model for RecencyList<S> {
 
 impl<S: BuildHasher + Copy + Drop> RecencyList<S> {
     /// An empty list. No result depends on the seed.
-    pub(super) fn new(alloc: Global, seed: S) -> Result<RecencyList<S>>
+    pub(super) fn new(alloc: Global, seed: S) -> Result<RecencyList<S>, AllocError>
         ensures ok { IfOk result (λ list. list ≡ []) }
-        ensures kind { IfErr result (λ e. e ≡ OutOfMemory) }
     {
         Ok(RecencyList {
             cache: LruCache::unbounded_with_hasher(alloc, seed)?,
@@ -82,10 +81,9 @@ impl<S: BuildHasher + Copy + Drop> RecencyList<S> {
     }
 
     /// Sets the weight of an entry and moves it to the front.
-    pub(super) fn put(&mut self, item: CacheEntryKey, size: usize) -> Result<()>
+    pub(super) fn put(&mut self, item: CacheEntryKey, size: usize) -> Result<(), AllocError>
         ensures ok { OnOk result (self.new ≡ moved item size self.old) }
         ensures once { IsOnce self.new }
-        ensures kind { IfErr result (λ e. e ≡ OutOfMemory) }
         ensures err { OnErr result (self.new ≡ self.old) }
     {
         let before = self.cache.put(item, size)?.unwrap_or(0);
@@ -205,7 +203,7 @@ impl<S: BuildHasher + Copy + Drop> RecencyList<S> {
         ensures err { OnErr result (self.new ≡ self.old) }
     {
         if self.weight_of(&item).is_some() {
-            return self.put(item, size);
+            return Ok(self.put(item, size)?);
         }
         self.push_last(item, size)
     }

@@ -13,7 +13,7 @@ use super::CacheEntryKey;
 use super::recency::{RecencyList, Walk, exceeds};
 use pcache_base::error::{Error, ErrorType, Result};
 use pcache_base::key::CacheHashKey;
-use std::alloc::Global;
+use std::alloc::{AllocError, Global};
 use std::hash::BuildHasher;
 use std::marker::Model;
 
@@ -55,10 +55,9 @@ impl<S: BuildHasher, const N: usize> Model for RecencyShards<S, N> {
 
 impl<S: BuildHasher + Copy + Drop, const N: usize> RecencyShards<S, N> {
     /// `N` empty lists. No result depends on the seed.
-    pub(super) fn new(alloc: Global, seed: S) -> Result<RecencyShards<S, N>>
+    pub(super) fn new(alloc: Global, seed: S) -> Result<RecencyShards<S, N>, AllocError>
         requires { 0 < N }
         ensures ok { IfOk result (λ shards. shards ≡ no_entries N) }
-        ensures kind { IfErr result (λ e. e ≡ OutOfMemory) }
     {
         let mut lists = Vec::new(alloc);
         for _place in 0..N {
@@ -124,14 +123,13 @@ impl<S: BuildHasher + Copy + Drop, const N: usize> RecencyShards<S, N> {
     }
 
     /// Sets the weight of an entry and moves it to the front of its list.
-    pub(super) fn put(&mut self, item: CacheEntryKey, size: usize) -> Result<()>
+    pub(super) fn put(&mut self, item: CacheEntryKey, size: usize) -> Result<(), AllocError>
         ensures ok { OnOk result (self.new ≡ in_shard N item (moved item size) self.old) }
-        ensures kind { IfErr result (λ e. e ≡ OutOfMemory) }
         ensures err { OnErr result (self.new ≡ self.old) }
     {
         let rest = self.others(&item);
         if is_full(rest.1) {
-            return Err(Error::new(ErrorType::OutOfMemory));
+            return Err(AllocError);
         }
         let place = self.place_of(&item);
         let list = &mut self.lists[place];
@@ -204,9 +202,8 @@ impl<S: BuildHasher + Copy + Drop, const N: usize> RecencyShards<S, N> {
     }
 
     /// The numbers of entries of the lists.
-    fn lens(&self, alloc: Global) -> Result<Vec<usize>>
+    fn lens(&self, alloc: Global) -> Result<Vec<usize>, AllocError>
         ensures ok { IfOk result (λ v. AreLengths N v.items self.now) }
-        ensures kind { IfErr result (λ e. e ≡ OutOfMemory) }
     {
         let mut lens = Vec::new(alloc);
         for list in &self.lists {

@@ -21,7 +21,7 @@ use http_header::{
 };
 use memchr::memchr;
 use pcache_base::error::{Error, ErrorType, Result};
-use std::alloc::Global;
+use std::alloc::{AllocError, Global};
 
 // How many bytes come before the first CR, found by one search: they stay in their line.
 fn before_return(bytes: &[u8]) -> usize
@@ -229,13 +229,12 @@ fn append_field(headers: &mut HeaderMap, name: HeaderName, value: HeaderValue) -
 }
 
 // A map with room for so many names.
-fn room_for(alloc: Global, names: usize) -> Result<HeaderMap>
+fn room_for(alloc: Global, names: usize) -> Result<HeaderMap, AllocError>
     ensures ok { IfOk result (λ m. m ≡ []) }
-    ensures kind { IfErr result (λ e. e ≡ OutOfMemory) }
 {
     match HeaderMap::with_capacity(alloc, names.min(MAX_KEYS)) {
         Ok(headers) => Ok(headers),
-        Err(_) => Err(Error::new(ErrorType::OutOfMemory)),
+        Err(_) => Err(AllocError),
     }
 }
 
