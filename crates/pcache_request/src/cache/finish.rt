@@ -127,7 +127,8 @@ impl<S: Storage> HttpCache<S> {
         ensures request { self.new ≡ after_finish self.old }
         ensures ended { EndsAs result (λ end. Finishes S.guarantees self.old
             (weighed entering.weight (finishes_of (S.finishes storage.old) self.old.write))
-            (tracked_before_end self.old self.old.key entering.replaced end (E.tracked eviction.old))
+            (tracked_before_end self.old self.old.key entering.replaced end
+            (E.tracked eviction.old))
             end
             (store_side S.state S.past storage.old) (store_side S.state S.past storage.new)
             (manager_side E.tracked E.limits E.evicted eviction.old)
@@ -197,7 +198,8 @@ impl<S: Storage> HttpCache<S> {
         ensures request { self.new ≡ after_finish self.old }
         ensures ends { Finishes S.guarantees self.old
             (weighed entering.weight (finishes_of (S.finishes storage.old) self.old.write))
-            (tracked_before_end self.old self.old.key entering.replaced result.end (E.tracked eviction.old))
+            (tracked_before_end self.old self.old.key entering.replaced result.end
+            (E.tracked eviction.old))
             result.end
             (store_side S.state S.past storage.old) (store_side S.state S.past storage.new)
             (manager_side E.tracked E.limits E.evicted eviction.old)
