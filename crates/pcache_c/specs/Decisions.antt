@@ -216,12 +216,12 @@ OnAnswer request response code same does = Asks (object_of request) code same (�
 abbrev pub OnHead : PcacheHandle → ℕ → Type 0 → (ResponseHeader → Type 0) → Type 0
 OnHead response code same does = Asks (object_of response) code same (λ b. OnKind (as_head b) code same does)
 
-abbrev pub IsOutcomeLeft : PcacheHandle → PcacheHandle → PcacheOutcome → PcacheOutcome → Type 0
-IsOutcomeLeft old new before after = IsSame old new × (after ≡ before)
+abbrev pub IsUntold : PcacheHandle → PcacheHandle → PcacheOutcome → PcacheOutcome → Type 0
+IsUntold old new before after = IsSame old new × (after ≡ before)
 
 -- how a decision on a response that `decides` is told: as numbers, with its meta; or it was refused for a cause
-abbrev pub TellsOutcome : (Outcome → Type 0) → (ErrorType → Type 0) → ℕ → PcacheHandle → PcacheHandle → PcacheOutcome → PcacheOutcome → ℕ → Type 0
-TellsOutcome decides refused now old new before after code =
+abbrev pub TellsOf : (Outcome → Type 0) → (ErrorType → Type 0) → ℕ → PcacheHandle → PcacheHandle → PcacheOutcome → PcacheOutcome → ℕ → Type 0
+TellsOf decides refused now old new before after code =
     ((e : ErrorType) × (code ≡ code_of e) × refused e × IsSame old new × (after ≡ before))
     ⊎ ((o : Outcome) × decides o × (after ≡ outcome_numbers o) × GivesKept o now old new code)
 
