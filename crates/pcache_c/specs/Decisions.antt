@@ -216,8 +216,8 @@ OnAnswer request response code same does = Asks (object_of request) code same (�
 abbrev pub OnHead : PcacheHandle → ℕ → Type 0 → (ResponseHeader → Type 0) → Type 0
 OnHead response code same does = Asks (object_of response) code same (λ b. OnKind (as_head b) code same does)
 
-abbrev pub IsUntold : PcacheHandle → PcacheHandle → PcacheOutcome → PcacheOutcome → Type 0
-IsUntold old new before after = IsSame old new × (after ≡ before)
+abbrev pub Leaves : PcacheHandle → PcacheHandle → PcacheOutcome → PcacheOutcome → Type 0
+Leaves old new before after = IsSame old new × (after ≡ before)
 
 -- how a decision on a response that `decides` is told: as numbers, with its meta; or it was refused for a cause
 abbrev pub TellsOf : (Outcome → Type 0) → (ErrorType → Type 0) → ℕ → PcacheHandle → PcacheHandle → PcacheOutcome → PcacheOutcome → ℕ → Type 0

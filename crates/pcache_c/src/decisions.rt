@@ -2,7 +2,7 @@
 ghost use Rattle.std.specs.Prelude.{◌≡◌, None, option_map};
 ghost use Rattle.std.specs.Option.{option_copied};
 ghost use Rattle.pcache_validation.specs.Fields.{bytes_of};
-ghost use Rattle.pcache_c.specs.Decisions.{DecidesMissing, DecidesStored, GivesKept, IsFetched, IsUntold, IsLent, IsValidated, MayFailFetched, MayFailValidated, OnAnswer, OnHead, OnLent, OnStored, OnTerms, OnValidating, ServesFailed, TellsOf, WritesValidators, bytes_or_none, original_of, outcome_numbers};
+ghost use Rattle.pcache_c.specs.Decisions.{DecidesMissing, DecidesStored, GivesKept, IsFetched, Leaves, IsLent, IsValidated, MayFailFetched, MayFailValidated, OnAnswer, OnHead, OnLent, OnStored, OnTerms, OnValidating, ServesFailed, TellsOf, WritesValidators, bytes_or_none, original_of, outcome_numbers};
 ghost use Rattle.pcache_c.specs.Handles.{AsksOf, IsSame, OnKind, object_of};
 ghost use Rattle.pcache_c.specs.Objects.{as_asked, as_head, as_meta};
 
@@ -310,10 +310,10 @@ fn decide_fetched(
     kept: &mut PcacheHandle,
     out: &mut PcacheOutcome,
 ) -> u32
-    ensures { OnKind (as_asked request.now) result (IsUntold kept.old kept.new out.old out.new) (λ r.
-        OnKind (as_head response.now) result (IsUntold kept.old kept.new out.old out.new) (λ h.
-        TellsOf (IsFetched terms.now r h) (MayFailFetched r) terms.now.at kept.old kept.new out.old
-        out.new result)) }
+    ensures { OnKind (as_asked request.now) result (Leaves kept.old kept.new out.old out.new) (λ r.
+        OnKind (as_head response.now) result (Leaves kept.old kept.new out.old out.new) (λ h.
+        TellsOf (IsFetched terms.now r h) (MayFailFetched r) terms.now.at kept.old kept.new
+        out.old out.new result)) }
 {
     let Some(request) = asked_in(request) else {
         return WRONG_KIND;
@@ -335,8 +335,8 @@ pub extern "C" fn pcache_decide_fetched(
     response: &mut PcacheHandle,
     out: &mut PcacheOutcome,
 ) -> u32
-    ensures decides { OnTerms terms.now result (IsUntold kept.old kept.new out.old out.new) (λ t.
-        OnAnswer request.old response.old result (IsUntold kept.old kept.new out.old out.new)
+    ensures decides { OnTerms terms.now result (Leaves kept.old kept.new out.old out.new) (λ t.
+        OnAnswer request.old response.old result (Leaves kept.old kept.new out.old out.new)
         (λ r h. TellsOf (IsFetched t r h) (MayFailFetched r) t.at kept.old kept.new out.old out.new
         result)) }
     ensures request { IsSame request.old request.new }
@@ -387,10 +387,10 @@ fn decide_validated<'a>(
     kept: &mut PcacheHandle,
     out: &mut PcacheOutcome,
 ) -> u32
-    ensures { OnKind (as_asked request.now) result (IsUntold kept.old kept.new out.old out.new) (λ r.
-        OnKind (as_meta meta.now) result (IsUntold kept.old kept.new out.old out.new) (λ m.
+    ensures { OnKind (as_asked request.now) result (Leaves kept.old kept.new out.old out.new) (λ r.
+        OnKind (as_meta meta.now) result (Leaves kept.old kept.new out.old out.new) (λ m.
         OnKind (original_of (option_map (λ object. object.value) original.now) r) result
-        (IsUntold kept.old kept.new out.old out.new)
+        (Leaves kept.old kept.new out.old out.new)
         (λ f. OnValidating terms.now m f (λ s. TellsOf (IsValidated terms.now r s response.now)
         (MayFailValidated terms.now r s response.now) terms.now.at kept.old kept.new out.old
         out.new result)))) }
@@ -425,7 +425,7 @@ fn decide_answered(
     out: &mut PcacheOutcome,
 ) -> u32
     ensures decides { OnStored request.old meta.old original.old result
-        (IsUntold kept.old kept.new out.old out.new) (λ r m f. OnValidating terms.now m f (λ s.
+        (Leaves kept.old kept.new out.old out.new) (λ r m f. OnValidating terms.now m f (λ s.
         TellsOf (IsValidated terms.now r s response.now)
         (MayFailValidated terms.now r s response.now) terms.now.at kept.old kept.new out.old
         out.new result)) }
@@ -459,9 +459,9 @@ fn decide_on(
     out: &mut PcacheOutcome,
 ) -> u32
     ensures decides { OnKind (as_head response.now) result
-        (IsUntold kept.old kept.new out.old out.new) (λ h.
+        (Leaves kept.old kept.new out.old out.new) (λ h.
         OnStored request.old meta.old original.old result
-        (IsUntold kept.old kept.new out.old out.new) (λ r m f. OnValidating terms.now m f (λ s.
+        (Leaves kept.old kept.new out.old out.new) (λ r m f. OnValidating terms.now m f (λ s.
         TellsOf (IsValidated terms.now r s h) (MayFailValidated terms.now r s h) terms.now.at
         kept.old kept.new out.old out.new result))) }
     ensures request { IsSame request.old request.new }
@@ -488,10 +488,10 @@ pub extern "C" fn pcache_decide_validated(
     response: &mut PcacheHandle,
     out: &mut PcacheOutcome,
 ) -> u32
-    ensures decides { OnTerms terms.now result (IsUntold kept.old kept.new out.old out.new) (λ t.
-        OnHead response.old result (IsUntold kept.old kept.new out.old out.new) (λ h.
+    ensures decides { OnTerms terms.now result (Leaves kept.old kept.new out.old out.new) (λ t.
+        OnHead response.old result (Leaves kept.old kept.new out.old out.new) (λ h.
         OnStored request.old meta.old original.old result
-        (IsUntold kept.old kept.new out.old out.new) (λ r m f. OnValidating t m f (λ s.
+        (Leaves kept.old kept.new out.old out.new) (λ r m f. OnValidating t m f (λ s.
         TellsOf (IsValidated t r s h) (MayFailValidated t r s h) t.at kept.old kept.new out.old
         out.new result)))) }
     ensures request { IsSame request.old request.new }
