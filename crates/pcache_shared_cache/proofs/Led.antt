@@ -70,7 +70,7 @@ looked_past (Err e) now r s p q row = ⊎_elim (λ same. grew_as p.past q.past (
 
 looked_table : (result : Result (Option (Meta × MemHitHandler)) ErrorType) (now : ℕ) (r s : Request) (p q : Parts) → LooksUp result now r s p q → Grew p.deeds q.deeds
 looked_table (Ok f) now r s p q row = grew_by (looked_deeds p.store now p.locks r) p.deeds q.deeds (looked_keeps (kept_by_deeds p.deeds) p.store now p.locks r) row.takes.deeds
-looked_table (Err e) now r s p q row = grew_same p.deeds q.deeds row.takes.same_deeds
+looked_table (Err e) now r s p q row = grew_as p.deeds q.deeds (Some p.deeds) row.takes.same_deeds (grew_not p.deeds)
 
 pub looked : {result : Result (Option (Meta × MemHitHandler)) ErrorType} {now : ℕ} {r s : Request} {p q : Parts} → LooksUp result now r s p q → Leads p q
 looked {result} {now} {r} {s} {p} {q} row = record {
@@ -92,7 +92,7 @@ taken {result} {status} {m} {h} {now} {r} {s} {p} {q} row = record {
   weighing = ap (λ (x : Parts). x.weighing) row.rest;
   age = age_if result p.locks (table_found status now r p.locks) q.locks row.takes.table (age_found status now r p.locks) row.takes.same_table;
   past = grew_either result (taken_past status h r) (noted (leave_noted h)) p.past q.past (taken_keeps (kept_by_notes p.past) status h r) (kept_by_notes p.past (leave_noted h)) row.takes.past row.takes.left_past;
-  deeds = grew_if result (found_deeds status now p.locks r) p.deeds q.deeds (found_keeps (kept_by_deeds p.deeds) status now p.locks r) row.takes.deeds row.takes.same_deeds;
+  deeds = grew_either result (found_deeds status now p.locks r) (λ x. x) p.deeds q.deeds (found_keeps (kept_by_deeds p.deeds) status now p.locks r) (λ x is. is) row.takes.deeds row.takes.same_deeds;
 }
 
 pub let_go : {h : Reader} {p q : Parts} → LetsGo h p q → Leads p q
