@@ -18,7 +18,7 @@ turns:
   let through  the crate is proved with this edit alone
 
 What was refused by itself is a line of bench/contracts/verdicts.txt: the crate and file, the edit's name, and a hash of the edit, of the
-function that it turns with its contract, and of the crate's specs. A line counts as long as these are the same. --keep, with any
+function that it turns with its contract but without its comments, and of the crate's specs. A line counts as long as these are the same. --keep, with any
 of the forms that prove, writes the file; --sample tries first what has no such line.
 
 It ends non-zero if any edit is not refused by itself. An edit outside a function, as of a constant, is tried alone and is
@@ -233,6 +233,11 @@ def specs_of(crate):
     return "\n".join(said)
 
 
+def without_comments(text):
+    """A text without the lines that are only a comment: they say why, and change no verdict."""
+    return re.sub(r"(?m)^ *//.*\n", "", text)
+
+
 def hash_of(crate, edit, specs):
     """What a verdict is about: the edit, the functions that it turns with their contracts, and the crate's specs."""
     about = [specs]
@@ -241,7 +246,7 @@ def hash_of(crate, edit, specs):
             text = it.read()
         at = text.find(old)
         around = function_around(text, at, at + len(old)) if at >= 0 else None
-        about += [path, old, new, text[around[2] : around[3]] if around else text]
+        about += [path, old, new, without_comments(text[around[2] : around[3]] if around else text)]
     return hashlib.sha256("\0".join(about).encode()).hexdigest()[:12]
 
 

@@ -287,6 +287,7 @@ fn read_lock_call(
 ) -> Result<Call, Unread> {
     match word {
         "wait" => Ok(Act::Wait { now }.of(request)),
+        // Sets no options, so that a wait timeout which `open` set is gone.
         "lock" => Ok(RequestAct::Lock {
             is_used: is_on(words.name()?)?,
         }

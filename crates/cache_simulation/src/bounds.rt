@@ -87,6 +87,8 @@ pub(crate) fn find_bounds<C: Files, E: Write>(
     let file = fs::open(rt, path.as_str()).map_err(Stop::Io)?;
     let reader = Reader::new(alloc, options, file)?;
     let bodies = read_bodies(alloc, options, reader, until, errors)?;
+    // Not read off an `oracleGeneral` record: its numbers are of the trace that the file was made
+    // from, which may have been cut since, and could only be believed.
     let Ok(nexts) = next_requests(alloc, bodies.asked.as_slice()) else {
         return Err(Stop::Memory);
     };

@@ -61,6 +61,8 @@ impl Counts {
     pub fn corrected_hit_bytes(&self, expected: u128) -> u128
         ensures { result ≡ corrected self.now.hit_bytes self.now.bytes expected }
     {
+        // The paper corrects requests alone; of bytes it does not speak, and the same is done with
+        // them.
         expected.saturating_sub(self.miss_bytes())
     }
 

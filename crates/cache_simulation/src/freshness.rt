@@ -22,6 +22,7 @@ use std::time::Duration;
 pub struct Freshness {
     alloc: Global,
     time: Duration,
+    // Moments and no metas: a meta for each key would take more than all that is kept else.
     came: HashMap<CacheEntryKey, Moment>,
 }
 

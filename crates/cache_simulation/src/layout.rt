@@ -88,6 +88,7 @@ impl Layout {
                 Ok(First::Header)
             }
             None if self.is_given => Ok(First::Passed),
+            // Not guessed: sizes that are read as keys give a table like any other.
             None => Err(Refused::NoNames),
         }
     }
@@ -132,6 +133,7 @@ const OPERATIONS: [&str; 11] = [
 ];
 
 fn is_header(line: &str) -> bool {
+    // No other first line is a header, so that a bad first line is a bad line.
     line.contains(',') && !line.split(',').any(begins_with_digit)
 }
 

@@ -44,6 +44,8 @@ fn itself(alloc: Global, key: &[u8]) -> CompactCacheKey
     requires { length key.now ≤ 31 }
     ensures { result ≡ by_itself key.now }
 {
+    // In the bytes that the hashes of a key and of its variance have: so no entry takes more
+    // memory, and the hash, half of a request's time, is saved.
     match key.split_first_chunk::<16>() {
         Some((first, rest)) => stored(alloc, *first, Some(padded(rest))),
         None => stored(alloc, padded(key), None),

@@ -20,7 +20,8 @@ use pcache_evict::eviction::CacheEntryKey;
 use std::alloc::Global;
 use std::thread::Threads;
 
-// How many requests are read before they are made to each cache in turn.
+// How many requests are read before they are made to each cache in turn: so many that a thread has
+// more to do than its start costs.
 const BATCH: usize = 4096;
 
 /// The caches of a simulation, with the requests that are still to be made to them.

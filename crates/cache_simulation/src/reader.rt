@@ -97,7 +97,8 @@ impl<R: Read + Drop> Reader<R> {
         Ok(is_there)
     }
 
-    // Keeps the record, with its number in digits, as other forms of the same trace have it for a key.
+    // Keeps the record, with its number in digits, as other forms of the same trace have it for a key:
+    // so samples and shards are those of the same trace as text.
     fn spell(&mut self) -> Result<(), Stop> {
         self.record = read_record(self.lines.line());
         self.key.clear();

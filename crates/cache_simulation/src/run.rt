@@ -113,6 +113,8 @@ impl<M: OrderedManager> Run<M> {
             self.counts.note(asked.size, true);
             return Ok(());
         }
+        // `most` is the limit or no bound, as the options say: others pass such a body by, and the
+        // managers admit it.
         if asked.size > self.most {
             self.counts.note(asked.size, false);
             return Ok(());
@@ -174,6 +176,8 @@ impl<M: OrderedManager> Run<M> {
         ensures replaces { self.new.replaces ≡ self.old.replaces }
         ensures fresh { self.new.freshness ≡ self.old.freshness }
     {
+        // Not subtracted later: so the counts of an interval are those of its own events, by the
+        // same definition as those of a whole run.
         self.counts = Counts::none();
         self.manager.evicted_items()
     }
@@ -194,6 +198,8 @@ impl<M: OrderedManager> Run<M> {
         ensures counts { self.new.counts ≡ self.old.counts }
         ensures kind { IfErr result (λ e. e ≡ OutOfMemory) }
     {
+        // An option: a body that is validated is a use of its entry, and one that is fetched anew
+        // is a new entry, as `Cache` makes of it.
         if self.replaces && self.manager.peek(&asked.item) {
             return self.renew(asked);
         }

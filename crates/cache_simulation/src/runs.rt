@@ -21,6 +21,7 @@ pub struct Runs {
     pub(crate) setting: Setting,
     // How many threads may play at once.
     threads: usize,
+    // Of all policies in one list: rows then stand in the order of the caches with no sorting.
     caches: Vec<Cache>,
 }
 

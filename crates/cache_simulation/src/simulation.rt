@@ -59,6 +59,8 @@ pub fn simulate<C: Clock + Files + Threads + Sync, R: Read + Drop, W: Write + Dr
     output: W,
     errors: &mut E,
 ) -> Result<(), Stop> {
+    // Its rate is known before the first request: a cache that shrank in the midst of a run would
+    // have the hits of no plain run of its policy.
     if let Some(sample) = largest_sample(rt, alloc, options, errors)? {
         options.setting.sample = sample;
     }
@@ -99,6 +101,8 @@ fn play<C: Clock + Files + Threads + Sync, R: Read + Drop, W: Write + Drop, E: W
         bounds.as_slice(),
         output,
     )?;
+    // After the report: what was read is worth printing, and the status says that it is no whole
+    // trace's.
     match read.stopped {
         Some(lines) => Err(Stop::BadLines(lines)),
         None => Ok(()),
@@ -140,6 +144,7 @@ fn read_input<C: Clock + Files + Threads + Sync, R: Read + Drop, E: Write>(
     errors: &mut E,
 ) -> Result<Taken, Stop> {
     let Some(path) = &options.trace else {
+        // Also standard input has a length if it is a file, and then it is told how long is left.
         let progress = Progress::start(rt, length(rt, "/dev/stdin"))?;
         let reader = Reader::new(alloc, options, input)?;
         return read_trace(rt, options, player, rows, reader, progress, errors);
@@ -151,7 +156,8 @@ fn read_input<C: Clock + Files + Threads + Sync, R: Read + Drop, E: Write>(
 }
 
 // How many threads play at most: as many as there are caches, if the options do not say. With fewer some play several caches
-// while others have ended.
+// while others have ended: twelve caches on four processors took 0.32 of one thread's time with a
+// thread each, and 0.38 with four.
 fn threads(options: &Options) -> usize {
     match options.threads {
         Some(threads) => threads,
@@ -375,6 +381,7 @@ fn distinct<C: Files, E: Write>(
         return Ok(distinct);
     }
     let Some(path) = &options.trace else {
+        // A pipe can be read only once, so that its total has to be given.
         return Err(Stop::NoDistinct);
     };
     let file = fs::open(rt, path.as_str()).map_err(Stop::Io)?;
@@ -421,6 +428,8 @@ fn report<C: Files, W: Write + Drop>(
     output: W,
 ) -> Result<(), Stop> {
     let mut writer = BufWriter::new(alloc, output).map_err(Stop::Io)?;
+    // Kept until the last row: with tabs between the cells a row need not know how wide the others
+    // are.
     if matches!(options.output, Output::Table) {
         let mut lines = Vec::new(alloc);
         write_each(&mut lines, options, rows, bounds).map_err(Stop::Io)?;

@@ -95,6 +95,8 @@ pub(crate) fn write_header<W: Write>(out: &mut W, options: &Options) -> io::Resu
         }
         Output::Json => Ok(()),
         Output::Table => {
+            // Rows of their own, and not those of caches: they name a node, and have no ratio to
+            // plot by size.
             write!(out, "policy\tsize\ttier\tnode")?;
             if !options.setting.sample.is_all() {
                 write!(out, "\tsample")?;

@@ -48,8 +48,8 @@ pub struct Error {
     kind: ErrorType,
 }
 
-/// What a call that can fail returns.
-pub type Result<T> = std::result::Result<T, Error>;
+/// What a call that can fail returns; `E` is `AllocError` where it fails only when memory runs out.
+pub type Result<T, E = Error> = std::result::Result<T, E>;
 
 impl Model for Error {
     ghost use Rattle.pcache_base.specs.declared.error.ErrorType.{ErrorType};
@@ -75,6 +75,8 @@ impl Error {
     }
 }
 
+// By hand and not by `thiserror`: what that derives has no contract, so that a `?` would lose the
+// kind of the error in each clause that names one.
 impl fmt::Display for Error {
     fn fmt<W: fmt::Write>(&self, f: &mut fmt::Formatter<W>) -> fmt::Result {
         f.write_str(self.kind.as_str())

@@ -117,6 +117,7 @@ impl Moment {
     pub fn since(&self, earlier: Moment) -> Duration
         ensures { as_nanos result ≡ self.now - earlier }
     {
+        // A caller's clock may go back: that counts as no time.
         let nanos = self.as_nanos().saturating_sub(earlier.as_nanos());
         Duration::from_nanos_u128(nanos)
     }

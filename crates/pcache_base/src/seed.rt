@@ -19,6 +19,7 @@ const WORD: u128 = 1 << 64;
 // How many bytes a piece has at most, so that a slot (16 bytes) is one piece.
 const PIECE_LEN: usize = 16;
 
+// Not `Debug`, so that no log tells it.
 /// What a hash table mixes into the hashes of its keys, so that nobody who does not know the seed
 /// can tell which keys collide. A contract sees the six numbers of 64 bits that are made of its
 /// bytes.
@@ -45,6 +46,7 @@ impl Seed {
     pub fn new(drawn: [u8; 16]) -> Seed
         ensures { result ≡ keys_of drawn }
     {
+        // Six keys from 16 bytes, so that a caller draws no more than those.
         let first = expanded(&drawn, 0);
         let second = expanded(&drawn, 1);
         let third = expanded(&drawn, 2);
@@ -201,9 +203,14 @@ fn load_half(piece: &[u8], at: usize) -> u64
 fn mixed(keys: &[u64; 6], state: u64, low: u64, high: u64) -> u64
     ensures { result ≡ mixed keys.now state low high }
 {
+    // By this of any set that was chosen without the seed as many pairs meet as of numbers at
+    // random. The fixed hash after an exclusive or with the seed would keep the differences of a
+    // set, and SipHash takes a fifth of an access more.
     let sum = pair(keys[0], keys[1], low).wrapping_add(pair(keys[2], keys[3], high));
     sum.wrapping_add(keys[4].wrapping_mul(state))
         .wrapping_add(keys[5])
+        // 32 bits are as many as a table looks at: it folds the upper half of a hash onto the lower
+        // one.
         / HALF
 }
 

@@ -162,19 +162,19 @@ pub record WritesValidators (m : Meta) (tag tag_after since since_after : List �
 
 -- ---- what becomes of a response
 
-abbrev pub reason_number : NotStoredFor → ℕ
-reason_number reason.MethodNotUnderstood = 1
-reason_number reason.StatusNotFinal = 2
-reason_number reason.StatusNotUnderstood = 3
-reason_number reason.NoStoreAsked = 4
-reason_number reason.NoStoreSaid = 5
-reason_number reason.PrivateSaid = 6
-reason_number reason.Authorized = 7
-reason_number reason.NothingAllowsIt = 8
+abbrev pub refusal_number : NotStoredFor → ℕ
+refusal_number reason.MethodNotUnderstood = 1
+refusal_number reason.StatusNotFinal = 2
+refusal_number reason.StatusNotUnderstood = 3
+refusal_number reason.NoStoreAsked = 4
+refusal_number reason.NoStoreSaid = 5
+refusal_number reason.PrivateSaid = 6
+refusal_number reason.Authorized = 7
+refusal_number reason.NothingAllowsIt = 8
 
 abbrev pub storing_number : Storing → ℕ
 storing_number storing.Stored = 0
-storing_number (storing.NotStored r) = reason_number r
+storing_number (storing.NotStored r) = refusal_number r
 
 abbrev pub outcome_with : ℕ → ℕ → ℕ → ℕ → PcacheOutcome
 outcome_with does reason answer age = record { does = does; reason = reason; answer = answer; age = age }
@@ -190,7 +190,7 @@ outcome_numbers (outcome.ServeStale stale) = stale_numbers stale
 outcome_numbers (outcome.Update kept) = outcome_with 4 0 0 0
 outcome_numbers outcome.MarkStale = outcome_with 5 0 0 0
 outcome_numbers outcome.Invalidate = outcome_with 6 0 0 0
-outcome_numbers (outcome.PassOn r) = outcome_with 7 (reason_number r) 0 0
+outcome_numbers (outcome.PassOn r) = outcome_with 7 (refusal_number r) 0 0
 
 -- so many seconds after a moment; a moment beyond the last one is the last whole second
 abbrev pub seconds_after : ℕ → ℕ → ℕ
@@ -216,12 +216,12 @@ OnAnswer request response code same does = Asks (object_of request) code same (�
 abbrev pub OnHead : PcacheHandle → ℕ → Type 0 → (ResponseHeader → Type 0) → Type 0
 OnHead response code same does = Asks (object_of response) code same (λ b. OnKind (as_head b) code same does)
 
-abbrev pub IsLeft : PcacheHandle → PcacheHandle → PcacheOutcome → PcacheOutcome → Type 0
-IsLeft old new before after = IsSame old new × (after ≡ before)
+abbrev pub Leaves : PcacheHandle → PcacheHandle → PcacheOutcome → PcacheOutcome → Type 0
+Leaves old new before after = IsSame old new × (after ≡ before)
 
 -- how a decision on a response that `decides` is told: as numbers, with its meta; or it was refused for a cause
-abbrev pub Tells : (Outcome → Type 0) → (ErrorType → Type 0) → ℕ → PcacheHandle → PcacheHandle → PcacheOutcome → PcacheOutcome → ℕ → Type 0
-Tells decides refused now old new before after code =
+abbrev pub TellsOf : (Outcome → Type 0) → (ErrorType → Type 0) → ℕ → PcacheHandle → PcacheHandle → PcacheOutcome → PcacheOutcome → ℕ → Type 0
+TellsOf decides refused now old new before after code =
     ((e : ErrorType) × (code ≡ code_of e) × refused e × IsSame old new × (after ≡ before))
     ⊎ ((o : Outcome) × decides o × (after ≡ outcome_numbers o) × GivesKept o now old new code)
 

@@ -47,11 +47,11 @@ abbrev pub empty_variance : Object
 empty_variance = object.Variance empty
 
 -- the last value of a name stands
-abbrev pub Adds : List ℕ → List ℕ → Varied → Varied → ℕ → Type 0
-Adds name value old new code = ((code ≡ ok) × (new ≡ insert old name value)) ⊎ ((code ≡ no_memory) × (new ≡ old))
+abbrev pub AddsValue : List ℕ → List ℕ → Varied → Varied → ℕ → Type 0
+AddsValue name value old new code = ((code ≡ ok) × (new ≡ insert old name value)) ⊎ ((code ≡ no_memory) × (new ≡ old))
 
 abbrev pub AddsTo : List ℕ → List ℕ → Varied → Varied → ℕ → Type 0
-AddsTo name value old new code = OnText name code (new ≡ old) (Adds name value old new code)
+AddsTo name value old new code = OnText name code (new ≡ old) (AddsValue name value old new code)
 
 -- the hash of what was added, or that nothing was
 abbrev pub SaysVariance : Varied → List ℕ → List ℕ → ℕ → Type 0

@@ -36,6 +36,7 @@ pub(crate) fn policy_of(number: u32) -> Option<Policy>
     }
 }
 
+// No type parameter of the cache, which would make four kinds of objects.
 /// A manager of one of the policies. It is no boxed trait object, since a function that makes one and hands it out proves less
 /// than it says; nor two `Either`s in one another, whose making and dropping is too much for a check.
 #[derive(Drop)]

@@ -170,6 +170,8 @@ fn cache_weighing(
         return BAD_VALUE;
     };
     let age_timeout = Duration::from_millis(age_timeout_millis);
+    // Always an empty one: the store is empty too, so the entries of a saved list would have no
+    // bodies, and take room until their turn came.
     match AnyManager::new(alloc, seed, policy, limit, watermark_of(watermark)) {
         Ok(manager) => {
             let served = Served::new(alloc, seed, manager, age_timeout, weighing);

@@ -10,6 +10,8 @@ use crate::object::Object;
 use pcache_request::phase::HitStatus;
 use std::alloc::Global;
 
+// Beside the cache and not in it, since upstream's has no counts: they are made where a call ends,
+// by its code.
 /// What a cache has counted since it was made. A count stops at the largest number.
 #[repr(C)]
 #[derive(Clone, Copy)]
@@ -44,6 +46,7 @@ impl PcacheCounted {
     pub(crate) fn count_take(&mut self, code: u32, status: HitStatus)
         ensures { self.new ≡ when_done code (taken_as status) self.old }
     {
+        // Not when it is found: what a look-up found may still be passed over.
         if code != OK {
             return;
         }
@@ -62,6 +65,7 @@ impl PcacheCounted {
     pub(crate) fn count_miss(&mut self, code: u32)
         ensures { self.new ≡ when_done code missed self.old }
     {
+        // Not when a look-up finds nothing: the request may wait first, and be served then.
         if code == OK {
             self.misses = self.misses.saturating_add(1);
         }
@@ -71,6 +75,7 @@ impl PcacheCounted {
     pub(crate) fn count_wait(&mut self, code: u32, outcome: u32)
         ensures { self.new ≡ when_done code (waited outcome) self.old }
     {
+        // Once, when it ends, however often it was polled.
         if code == OK && outcome != 0 {
             self.waits = self.waits.saturating_add(1);
         }

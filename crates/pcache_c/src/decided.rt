@@ -1,7 +1,7 @@
 //! What a decision is told by: what it goes by besides heads, and its numbers.
 ghost use Rattle.std.specs.Prelude.{◌≡◌};
 ghost use Rattle.pcache_c.specs.Codes.{OnGood, moment_at};
-ghost use Rattle.pcache_c.specs.Decisions.{GivesKept, answer_number, body_of, decision_numbers, meta_kept, numbers, outcome_numbers, outcome_with, reason_number, reuse_number, rules_of, seconds_after, stale_numbers, storing_number, terms_at};
+ghost use Rattle.pcache_c.specs.Decisions.{GivesKept, answer_number, body_of, decision_numbers, meta_kept, numbers, outcome_numbers, outcome_with, refusal_number, reuse_number, rules_of, seconds_after, stale_numbers, storing_number, terms_at};
 
 use crate::codes::OK;
 use crate::handle::PcacheHandle;
@@ -179,8 +179,8 @@ pub struct PcacheOutcome {
     pub age: u32,
 }
 
-fn reason_number(reason: NotStoredFor) -> u32
-    ensures { result ≡ reason_number reason }
+fn refusal_number(reason: NotStoredFor) -> u32
+    ensures { result ≡ refusal_number reason }
 {
     match reason {
         NotStoredFor::MethodNotUnderstood => 1,
@@ -199,7 +199,7 @@ fn storing_number(storing: Storing) -> u32
 {
     match storing {
         Storing::Stored => 0,
-        Storing::NotStored(reason) => reason_number(reason),
+        Storing::NotStored(reason) => refusal_number(reason),
     }
 }
 
@@ -230,7 +230,7 @@ pub(crate) fn outcome_told(outcome: &Outcome) -> PcacheOutcome
         Outcome::Update(_) => outcome_of(4, 0, 0, 0),
         Outcome::MarkStale => outcome_of(5, 0, 0, 0),
         Outcome::Invalidate => outcome_of(6, 0, 0, 0),
-        Outcome::PassOn(reason) => outcome_of(7, reason_number(*reason), 0, 0),
+        Outcome::PassOn(reason) => outcome_of(7, refusal_number(*reason), 0, 0),
     }
 }
 

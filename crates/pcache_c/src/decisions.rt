@@ -2,7 +2,7 @@
 ghost use Rattle.std.specs.Prelude.{◌≡◌, None, option_map};
 ghost use Rattle.std.specs.Option.{option_copied};
 ghost use Rattle.pcache_validation.specs.Fields.{bytes_of};
-ghost use Rattle.pcache_c.specs.Decisions.{DecidesMissing, DecidesStored, GivesKept, IsFetched, IsLeft, IsLent, IsValidated, MayFailFetched, MayFailValidated, OnAnswer, OnHead, OnLent, OnStored, OnTerms, OnValidating, ServesFailed, Tells, WritesValidators, bytes_or_none, original_of, outcome_numbers};
+ghost use Rattle.pcache_c.specs.Decisions.{DecidesMissing, DecidesStored, GivesKept, IsFetched, Leaves, IsLent, IsValidated, MayFailFetched, MayFailValidated, OnAnswer, OnHead, OnLent, OnStored, OnTerms, OnValidating, ServesFailed, TellsOf, WritesValidators, bytes_or_none, original_of, outcome_numbers};
 ghost use Rattle.pcache_c.specs.Handles.{AsksOf, IsSame, OnKind, object_of};
 ghost use Rattle.pcache_c.specs.Objects.{as_asked, as_head, as_meta};
 
@@ -293,7 +293,7 @@ fn fetched(
     kept: &mut PcacheHandle,
     out: &mut PcacheOutcome,
 ) -> u32
-    ensures { Tells (IsFetched terms.now request.now response.now)
+    ensures { TellsOf (IsFetched terms.now request.now response.now)
         (MayFailFetched request.now) terms.now.at kept.old kept.new out.old out.new result }
 {
     match decide_response(&terms.rules, request, None, response, terms.at) {
@@ -310,10 +310,10 @@ fn decide_fetched(
     kept: &mut PcacheHandle,
     out: &mut PcacheOutcome,
 ) -> u32
-    ensures { OnKind (as_asked request.now) result (IsLeft kept.old kept.new out.old out.new) (λ r.
-        OnKind (as_head response.now) result (IsLeft kept.old kept.new out.old out.new) (λ h.
-        Tells (IsFetched terms.now r h) (MayFailFetched r) terms.now.at kept.old kept.new out.old
-        out.new result)) }
+    ensures { OnKind (as_asked request.now) result (Leaves kept.old kept.new out.old out.new) (λ r.
+        OnKind (as_head response.now) result (Leaves kept.old kept.new out.old out.new) (λ h.
+        TellsOf (IsFetched terms.now r h) (MayFailFetched r) terms.now.at kept.old kept.new
+        out.old out.new result)) }
 {
     let Some(request) = asked_in(request) else {
         return WRONG_KIND;
@@ -335,9 +335,9 @@ pub extern "C" fn pcache_decide_fetched(
     response: &mut PcacheHandle,
     out: &mut PcacheOutcome,
 ) -> u32
-    ensures decides { OnTerms terms.now result (IsLeft kept.old kept.new out.old out.new) (λ t.
-        OnAnswer request.old response.old result (IsLeft kept.old kept.new out.old out.new)
-        (λ r h. Tells (IsFetched t r h) (MayFailFetched r) t.at kept.old kept.new out.old out.new
+    ensures decides { OnTerms terms.now result (Leaves kept.old kept.new out.old out.new) (λ t.
+        OnAnswer request.old response.old result (Leaves kept.old kept.new out.old out.new)
+        (λ r h. TellsOf (IsFetched t r h) (MayFailFetched r) t.at kept.old kept.new out.old out.new
         result)) }
     ensures request { IsSame request.old request.new }
     ensures response { IsSame response.old response.new }
@@ -367,7 +367,7 @@ fn validated(
     kept: &mut PcacheHandle,
     out: &mut PcacheOutcome,
 ) -> u32
-    ensures { Tells (IsValidated terms.now request.now validated.now response.now)
+    ensures { TellsOf (IsValidated terms.now request.now validated.now response.now)
         (MayFailValidated terms.now request.now validated.now response.now) terms.now.at kept.old
         kept.new out.old out.new result }
 {
@@ -387,11 +387,11 @@ fn decide_validated<'a>(
     kept: &mut PcacheHandle,
     out: &mut PcacheOutcome,
 ) -> u32
-    ensures { OnKind (as_asked request.now) result (IsLeft kept.old kept.new out.old out.new) (λ r.
-        OnKind (as_meta meta.now) result (IsLeft kept.old kept.new out.old out.new) (λ m.
+    ensures { OnKind (as_asked request.now) result (Leaves kept.old kept.new out.old out.new) (λ r.
+        OnKind (as_meta meta.now) result (Leaves kept.old kept.new out.old out.new) (λ m.
         OnKind (original_of (option_map (λ object. object.value) original.now) r) result
-        (IsLeft kept.old kept.new out.old out.new)
-        (λ f. OnValidating terms.now m f (λ s. Tells (IsValidated terms.now r s response.now)
+        (Leaves kept.old kept.new out.old out.new)
+        (λ f. OnValidating terms.now m f (λ s. TellsOf (IsValidated terms.now r s response.now)
         (MayFailValidated terms.now r s response.now) terms.now.at kept.old kept.new out.old
         out.new result)))) }
 {
@@ -425,8 +425,8 @@ fn decide_answered(
     out: &mut PcacheOutcome,
 ) -> u32
     ensures decides { OnStored request.old meta.old original.old result
-        (IsLeft kept.old kept.new out.old out.new) (λ r m f. OnValidating terms.now m f (λ s.
-        Tells (IsValidated terms.now r s response.now)
+        (Leaves kept.old kept.new out.old out.new) (λ r m f. OnValidating terms.now m f (λ s.
+        TellsOf (IsValidated terms.now r s response.now)
         (MayFailValidated terms.now r s response.now) terms.now.at kept.old kept.new out.old
         out.new result)) }
     ensures request { IsSame request.old request.new }
@@ -459,10 +459,10 @@ fn decide_on(
     out: &mut PcacheOutcome,
 ) -> u32
     ensures decides { OnKind (as_head response.now) result
-        (IsLeft kept.old kept.new out.old out.new) (λ h.
+        (Leaves kept.old kept.new out.old out.new) (λ h.
         OnStored request.old meta.old original.old result
-        (IsLeft kept.old kept.new out.old out.new) (λ r m f. OnValidating terms.now m f (λ s.
-        Tells (IsValidated terms.now r s h) (MayFailValidated terms.now r s h) terms.now.at
+        (Leaves kept.old kept.new out.old out.new) (λ r m f. OnValidating terms.now m f (λ s.
+        TellsOf (IsValidated terms.now r s h) (MayFailValidated terms.now r s h) terms.now.at
         kept.old kept.new out.old out.new result))) }
     ensures request { IsSame request.old request.new }
     ensures meta { IsSame meta.old meta.new }
@@ -488,11 +488,11 @@ pub extern "C" fn pcache_decide_validated(
     response: &mut PcacheHandle,
     out: &mut PcacheOutcome,
 ) -> u32
-    ensures decides { OnTerms terms.now result (IsLeft kept.old kept.new out.old out.new) (λ t.
-        OnHead response.old result (IsLeft kept.old kept.new out.old out.new) (λ h.
+    ensures decides { OnTerms terms.now result (Leaves kept.old kept.new out.old out.new) (λ t.
+        OnHead response.old result (Leaves kept.old kept.new out.old out.new) (λ h.
         OnStored request.old meta.old original.old result
-        (IsLeft kept.old kept.new out.old out.new) (λ r m f. OnValidating t m f (λ s.
-        Tells (IsValidated t r s h) (MayFailValidated t r s h) t.at kept.old kept.new out.old
+        (Leaves kept.old kept.new out.old out.new) (λ r m f. OnValidating t m f (λ s.
+        TellsOf (IsValidated t r s h) (MayFailValidated t r s h) t.at kept.old kept.new out.old
         out.new result)))) }
     ensures request { IsSame request.old request.new }
     ensures meta { IsSame meta.old meta.new }

@@ -22,6 +22,7 @@ fn head_of(object: &Object) -> Option<&ResponseHeader>
 {
     match object {
         Object::Head(head) => Some(head),
+        // By the same calls, since a proxy sends either.
         Object::Meta(meta) => Some(meta.response_header()),
         _ => None,
     }
@@ -63,6 +64,8 @@ fn count_in(fields: &HeaderMap, name: &[u8]) -> usize
     ensures { result ≡ length (get_all (shown_fields fields.now) (lowercase name.now)) }
 {
     let mut count = 0;
+    // Looked up as it comes, in any case. So it takes no memory, and what is no name is that of no
+    // field.
     'values: for _value in fields.get_all(name).iter() {
         count += 1;
     }

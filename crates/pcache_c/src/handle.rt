@@ -16,6 +16,8 @@ use std::{mem, ptr};
 #[repr(C)]
 #[derive(Drop)]
 pub struct ObjectPtr {
+    // Of bytes and not of an `Object`: no export may take or return a pointer to a type that is
+    // read through a `&`, nor a generic struct of one.
     at: *mut u8,
     /// The object.
     pub ghost value: { Option Object } by { coded_option the_row.coded },
@@ -66,6 +68,7 @@ pub struct PcacheHandle {
     tag: u64,
     /// The object.
     pub held: ObjectPtr,
+    // A field and no invariant: in an export a struct that has one and no view is refused.
     ghost tied: { tag ≡ 5783538103704956977 → IsTrue (is_some held.value) },
 }
 

@@ -16,6 +16,8 @@ pub(crate) struct Loose<T, A: Allocator> {
 }
 
 impl<T, A: Allocator> Model for Loose<T, A> {
+    // The allocator's right to free the block, by std's path: a crate that lists `libc` or `os` is
+    // refused.
     ghost also_owns = { λ l. box_owns (A.dealloc_token l.alloc) T.row l.at l.value };
 }
 

@@ -25,11 +25,13 @@ pub enum Object {
     Meta(CacheMeta),
     /// An eviction manager with one list.
     Simple(Managed<simple_lru::Manager>),
+    // Always 16: their number is a parameter of the type.
     /// An eviction manager in 16 shards.
     Sharded(Managed<sharded_lru::Manager<16>>),
     /// A cache with its open requests. It is some thousands of bytes long, so it has a box of its own: an object of another kind,
     /// which a hit makes and frees several of, is not as long as that.
     Cache(Box<Served>),
+    // An object of its own, so that they have one owner and an end like all else.
     /// Bytes that were read of a body, and are not copied.
     View(Bytes),
 }

@@ -30,8 +30,11 @@ fn spans_in(bytes: &[u8], room: &mut [HeaderSpan]) -> Result<ResponseSpans, u32>
         × All (IsHeaderWithin (length bytes.now)) (take r.headers room.new)) }
     ensures refused { IfErr result (RefusesBytes bytes.now) }
 {
+    // Not by the parser of puts, which keeps bytes between pieces, copies those of the body and
+    // does not say where the head ended.
     match parse_response(bytes, room) {
         Ok(Status::Complete(spans)) => Ok(spans),
+        // No error: the caller keeps the bytes, and asks again once more have come.
         Ok(Status::Partial) => Err(NONE),
         Err(_) => Err(UNREADABLE),
     }

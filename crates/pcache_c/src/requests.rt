@@ -500,6 +500,8 @@ fn rest_shared(opened: &Open) -> Result<Bytes, AllocError>
 fn start_of(bytes: &[u8]) -> *const u8
     ensures { result ≡ as_ptr bytes.entry }
 {
+    // When the handle is filled. No clause says that they stay there, since those of shared bytes
+    // name no address.
     bytes.as_ptr()
 }
 

@@ -1,51 +1,30 @@
 -- What each note leaves true of a past of a store, each call of a cache leaves true of it; and so for the deeds of a lock table.
-use Rattle.std.proofs.Common.{◌≡◌, inl, inr, ℕ, Bool, true, false, List, [], ◌∷◌, Option, None, Some, Result, Ok, Err, cond, refl, sym, subst, option_map}
-use Rattle.std.specs.FinMap.{get}
-use Rattle.pcache_base.specs.Key.{Key, slot}
-use Rattle.pcache_base.specs.declared.error.ErrorType.{ErrorType}
 use Rattle.pcache_base.specs.declared.poll.Poll.{Poll}
 use Rattle.pcache_base.specs.declared.poll.Poll.TheVariants.{Ready, Pending}
-use Rattle.pcache_base.specs.declared.reason.NoCacheReason.{NoCacheReason}
-use Rattle.pcache_cache.specs.OwnPut.{put_past}
 use Rattle.pcache_cache.specs.Parts.{written_past}
-use Rattle.pcache_cache.specs.Renewing.{IsNotSet, IsSet, Renews, Stock, meta_given, reweighs}
-use Rattle.pcache_cache.specs.declared.weighing.Weighing.{Weighing}
-use Rattle.pcache_evict.specs.Tracked.{Limits}
-use Rattle.pcache_evict.specs.declared.eviction.entry_key.CacheEntryKey.{CacheEntryKey}
-use Rattle.pcache_lock.specs.Deeds as deeds
-use Rattle.pcache_lock.specs.Deeds.{Deed, Left, Published, Released, asked, asked_again, given_up, tells_old}
-use Rattle.pcache_lock.specs.Locks.{Locks, holder, is_permit, lock_given, number_of_lock}
-use Rattle.pcache_lock.specs.PastLaws.{is_unlocking}
+use Rattle.pcache_lock.specs.Deeds.{Left, Published, Released, asked, asked_again, given_up, tells_old}
+use Rattle.pcache_lock.specs.Locks.{holder, is_permit, lock_given, number_of_lock}
 use Rattle.pcache_lock.specs.Permits.{Permit}
 use Rattle.pcache_lock.specs.Waiting.{polled}
 use Rattle.pcache_lock.specs.declared.lock.outcome.LockWaitOutcome.{LockWaitOutcome}
-use Rattle.pcache_lock.specs.declared.lock.permit.Locked.{Locked}
 use Rattle.pcache_lock.specs.declared.lock.permit.Locked.TheVariants.{Write, Read}
-use Rattle.pcache_lock.specs.declared.lock.status.LockStatus.{LockStatus}
-use Rattle.pcache_lock.specs.declared.lock.status.LockStatus.TheVariants.{Done, TransientError}
-use Rattle.pcache_meta.specs.Meta.{Meta}
-use Rattle.pcache_predict.specs.declared.admission.Decision.{Decision}
+use Rattle.pcache_lock.specs.declared.lock.status.LockStatus.TheVariants.{TransientError}
 use Rattle.pcache_put.specs.Pasts.{EndsPutPast, past_begun, past_left, past_wrote}
-use Rattle.pcache_put.specs.State.{Put, Stage, InHead, InBody, HasDeclined, IsOver, write_in}
-use Rattle.pcache_put.specs.Steps as steps
-use Rattle.pcache_put.specs.Steps.{stage_begun, write_end}
-use Rattle.pcache_put.specs.declared.report.PutEnd.{PutEnd}
 use Rattle.pcache_put.specs.declared.report.Written.{Written}
-use Rattle.pcache_request.specs.Admissions.{is_deferral}
 use Rattle.pcache_request.specs.Finishing.{TakesAll}
-use Rattle.pcache_request.specs.LockPasts.{Deeds, asked_deeds, end_deeds, ended_deeds, found_deeds, given_deed, handed_deeds, key_locked_deeds, let_go_deed, let_go_deeds, looked_deeds, looked_with_deeds, polled_deeds, published_deeds, settled_deeds, varied_deeds, waited_deeds}
+use Rattle.pcache_request.specs.LockPasts.{asked_deeds, ended_deeds, given_deed, key_locked_deeds, let_go_deed, polled_deeds}
 use Rattle.pcache_request.specs.LockWaits.{unusable_in, wait_result}
-use Rattle.pcache_request.specs.Requests.{Request, asks_as_stale, asks_for_hit, begin_followed, found_for}
-use Rattle.pcache_request.specs.Phases.{is_treated_as_miss}
-use Rattle.pcache_request.specs.StorePasts.{EndsPast, EndsRequestPast, Past, begun_past, begun_past_for, dropped_past, entry_past, found_past, hidden_past, left_past, searched_past, taken_past, writing_past}
-use Rattle.pcache_request.specs.Variants.{is_hidden, is_unseen_for, leaves_variant}
+use Rattle.pcache_request.specs.Requests.{asks_as_stale, asks_for_hit, begin_followed}
+use Rattle.pcache_request.specs.StorePasts.{EndsPast, EndsRequestPast, begun_past, begun_past_for, entry_past, found_past, hidden_past, left_past, searched_past, taken_past, writing_past}
+use Rattle.pcache_request.specs.Variants.{leaves_variant}
 use Rattle.pcache_request.specs.WriteEnds.{status_after}
-use Rattle.pcache_request.specs.declared.cache.finish.WriteEnd.{WriteEnd}
-use Rattle.pcache_request.specs.declared.cache.finish.WriteEnd.TheVariants as end
-use Rattle.pcache_request.specs.declared.phase.HitStatus.{HitStatus}
 use Rattle.pcache_store.specs.Notes.{leave_noted, look_noted, noted}
-use Rattle.pcache_store.specs.Past.{Began, Dropped, Finished, MetaSet, Note, Purged, Wrote}
-use Rattle.pcache_store.specs.Store.{Guarantees, Reader as BodyReader, Store, is_told}
+use Rattle.pcache_store.specs.Past.{Began, Dropped, Finished, MetaSet, Purged, Wrote}
+use Rattle.pcache_store.specs.Store.{Guarantees, Reader as BodyReader, is_told}
+use Rattle.pcache_cache.proofs.Words.{◌≡◌, inl, inr, ℕ, Bool, true, false, List, [], ◌∷◌, Option, None, Some, Result, Ok, Err, cond, refl, sym, subst, option_map, get, Key, slot, ErrorType, NoCacheReason, put_past, IsNotSet, IsSet, Renews, Stock, meta_given, reweighs, Weighing, Limits, CacheEntryKey, Deed, Locks, is_unlocking, Locked, LockStatus, Done, Meta, Decision, Put, Stage, InHead, InBody, HasDeclined, IsOver, write_in, stage_begun, write_end, PutEnd, is_deferral, Deeds, end_deeds, found_deeds, handed_deeds, let_go_deeds, looked_deeds, looked_with_deeds, published_deeds, settled_deeds, varied_deeds, waited_deeds, Request, found_for, is_treated_as_miss, Past, dropped_past, is_hidden, is_unseen_for, WriteEnd, HitStatus, Note, Store}
+use Rattle.pcache_lock.specs.Deeds as deeds
+use Rattle.pcache_put.specs.Steps as steps
+use Rattle.pcache_request.specs.declared.cache.finish.WriteEnd.TheVariants as end
 
 -- ---- deeds
 

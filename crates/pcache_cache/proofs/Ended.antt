@@ -1,33 +1,13 @@
 -- What always holds of a cache still holds after the end of a write.
-use Rattle.pcache_store.specs.Readers.{in_memory}
-use Rattle.std.proofs.Common.{◌≡◌, ◌≢◌, ℕ, inl, inr, Bool, true, false, cond, Option, None, Some, Result, Ok, Err, List, [], ◌∷◌, refl, ap, sym, subst, ◌∙◌, arith, is_none, nat_eq, option_map}
-use Rattle.std.specs.Option.{option_and_then, option_eq}
-use Rattle.std.specs.Ordering.{nat_cmp, eq_by_cmp, is_eq}
-use Rattle.std.specs.Cmp.{tied_itself}
-use Rattle.std.specs.FinMap.{FinMap, get, insert, remove, get-insert, get-remove}
-use Rattle.std.proofs.lemmas.Bool.{both_ways, eq-eqb, eqb-true, and_parts}
-use Rattle.pcache_base.specs.CompactKey.{compact_of}
-use Rattle.pcache_base.specs.Key.{Key, slot}
-use Rattle.pcache_base.specs.declared.error.ErrorType.{ErrorType}
-use Rattle.pcache_evict.specs.declared.eviction.entry_key.CacheEntryKey.{CacheEntryKey}
-use Rattle.pcache_evict.specs.Entry.{entry_cmp, entries_total, id_of}
-use Rattle.pcache_evict.specs.Tracked.{Tracked, IsFair, Limits, without}
-use Rattle.pcache_lock.specs.Locks.{Locks}
-use Rattle.pcache_lock.specs.declared.lock.status.LockStatus.{LockStatus}
-use Rattle.pcache_request.specs.Finishing.{Drops, PurgesAll, Stores, Withdraws, entry_slot}
-use Rattle.pcache_request.specs.Replacing.{tracked_before, tracked_before_end, without_entry}
-use Rattle.pcache_request.specs.Requests.{Request, entry_of, settled}
-use Rattle.pcache_request.specs.WriteEnds.{Ends, EndsAs, EndsBody, EndsIdle}
-use Rattle.pcache_request.specs.declared.cache.finish.FinishReport.{FinishReport}
-use Rattle.pcache_request.specs.declared.cache.finish.WriteEnd.{WriteEnd}
-use Rattle.pcache_request.specs.declared.cache.finish.WriteEnd.TheVariants as end
+use Rattle.std.proofs.Common.{is_none}
+use Rattle.std.proofs.lemmas.Bool.{and_parts}
+use Rattle.pcache_request.specs.Finishing.{Drops}
+use Rattle.pcache_request.specs.WriteEnds.{EndsAs}
 use Rattle.pcache_store.specs.declared.storage.MissFinishType.{MissFinishType}
-use Rattle.pcache_store.specs.declared.storage.MissFinishType.TheVariants.{Created}
-use Rattle.pcache_store.specs.Purge.{entry_purged, entry_purged_in}
-use Rattle.pcache_store.specs.Store.{Store, Slot, Stored, Written, complete_body, dropped, finished, finished_on, is_untouched, is_untouched_in, is_untouched_on, is_write_under, purged, stored_on, is_idle, with_slot, slot_without, write_gone_on, body_without, has_body_of, write_purged}
-use Rattle.pcache_cache.specs.Parts.{IsBounded, IsKept, MayEnd, TracksExactly, is_own_write}
-use Rattle.pcache_cache.specs.Weighing.{body_weight, ending_weight, entered, write_weight}
-use Rattle.pcache_cache.specs.declared.weighing.Weighing.{Weighing}
+use Rattle.pcache_store.specs.Purge.{entry_purged_in}
+use Rattle.pcache_store.specs.Store.{Written, finished_on, is_untouched_in, is_untouched_on, stored_on, slot_without, write_gone_on}
+use Rattle.pcache_cache.proofs.Words.{in_memory, ◌≡◌, ◌≢◌, ℕ, inl, inr, Bool, true, false, cond, Option, None, Some, Result, Ok, Err, List, [], ◌∷◌, refl, ap, sym, subst, ◌∙◌, arith, nat_eq, option_map, option_and_then, option_eq, nat_cmp, eq_by_cmp, is_eq, tied_itself, FinMap, get, insert, remove, get-insert, get-remove, both_ways, eq-eqb, eqb-true, compact_of, Key, slot, ErrorType, CacheEntryKey, entry_cmp, entries_total, id_of, Tracked, IsFair, Limits, without, Locks, LockStatus, PurgesAll, Stores, Withdraws, entry_slot, tracked_before, tracked_before_end, without_entry, Request, entry_of, settled, Ends, EndsBody, EndsIdle, FinishReport, WriteEnd, Created, entry_purged, Store, Slot, Stored, complete_body, dropped, finished, is_untouched, is_write_under, purged, is_idle, with_slot, body_without, has_body_of, write_purged, IsBounded, IsKept, MayEnd, TracksExactly, is_own_write, body_weight, ending_weight, entered, write_weight, Weighing}
+use Rattle.pcache_request.specs.declared.cache.finish.WriteEnd.TheVariants as end
 use Rattle.pcache_cache.proofs.Kept.{kept_fewer}
 use Rattle.pcache_cache.proofs.Standing.{Fewer, Stands, body-insert, body-remove, cmp_same, fewer-dropped, same-key}
 use Rattle.pcache_cache.proofs.Sums.{bounded-fewer, bounded-within, entries-apart, entry-same}

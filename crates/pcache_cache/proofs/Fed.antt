@@ -1,26 +1,9 @@
 -- What always holds of a cache still holds after each call of a put, and a put's write stays its own.
-use Rattle.std.proofs.Common.{◌≡◌, ℕ, inl, inr, true, Option, None, Some, Result, Ok, Err, refl, ap, sym, subst, ◌∙◌}
-use Rattle.pcache_base.specs.Key.{Key, slot}
-use Rattle.pcache_base.specs.declared.error.ErrorType.{ErrorType}
-use Rattle.pcache_base.specs.declared.reason.NoCacheReason.{NoCacheReason}
-use Rattle.pcache_evict.specs.Tracked.{Tracked, Limits}
-use Rattle.pcache_meta.specs.Meta.{Meta}
-use Rattle.pcache_response.specs.Progress.{Parsed}
-use Rattle.pcache_put.specs.State.{Stage, InHead, InBody, HasDeclined, IsOver, entry_in, write_in}
-use Rattle.pcache_put.specs.Steps.{EndsAs, EndsPut, EndsEarly, stage_begun, store_after, store_begun, store_left, store_wrote, tracked_before_put, write_end}
-use Rattle.pcache_put.specs.declared.report.PutEnd.{PutEnd}
-use Rattle.pcache_put.specs.declared.report.PutEnd.TheVariants as end
-use Rattle.pcache_put.specs.declared.report.PutOutcome.{PutOutcome}
-use Rattle.pcache_put.specs.declared.report.PutOutcome.TheVariants as answer
+use Rattle.pcache_put.specs.Steps.{EndsAs, store_after, store_begun, store_left, store_wrote}
 use Rattle.pcache_put.specs.declared.report.Written.{Written}
-use Rattle.pcache_request.specs.Requests.{dropped_by}
-use Rattle.pcache_request.specs.WriteEnds.{EndsBody, HoldsNoLock}
-use Rattle.pcache_store.specs.Readers.{in_memory}
-use Rattle.pcache_store.specs.declared.storage.MissFinishType.TheVariants.{Created}
-use Rattle.pcache_store.specs.Store.{Store, begun, dropped}
-use Rattle.pcache_cache.specs.Parts.{IsKept, is_own_write}
-use Rattle.pcache_cache.specs.Weighing.{ending_weight, entered}
-use Rattle.pcache_cache.specs.declared.weighing.Weighing.{Weighing}
+use Rattle.pcache_cache.proofs.Words.{◌≡◌, ℕ, inl, inr, true, Option, None, Some, Result, Ok, Err, refl, ap, sym, subst, ◌∙◌, Key, slot, ErrorType, NoCacheReason, Tracked, Limits, Meta, Parsed, Stage, InHead, InBody, HasDeclined, IsOver, entry_in, write_in, EndsPut, EndsEarly, stage_begun, tracked_before_put, write_end, PutEnd, PutOutcome, dropped_by, EndsBody, HoldsNoLock, in_memory, Created, Store, begun, dropped, IsKept, is_own_write, ending_weight, entered, Weighing}
+use Rattle.pcache_put.specs.declared.report.PutEnd.TheVariants as end
+use Rattle.pcache_put.specs.declared.report.PutOutcome.TheVariants as answer
 use Rattle.pcache_cache.proofs.Ended.{kept_body}
 use Rattle.pcache_cache.proofs.Kept.{kept_dropped, kept_fewer}
 use Rattle.pcache_cache.proofs.Own.{flies-begun, flies-under, wrote-own}

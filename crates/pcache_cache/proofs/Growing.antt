@@ -1,11 +1,7 @@
 -- Each call of a cache leaves its two pasts as they were, or adds to them.
-use Rattle.std.proofs.Common.{◌≡◌, List, [], ◌∷◌, Option, None, Some, Result, Ok, Err, OnErr, OnOk, refl, sym, ap, subst}
-use Rattle.pcache_base.specs.declared.error.ErrorType.{ErrorType}
 use Rattle.pcache_cache.specs.Growing.{Grew}
-use Rattle.pcache_cache.specs.Parts.{Adds}
+use Rattle.pcache_cache.proofs.Words.{◌≡◌, List, [], ◌∷◌, Option, None, Some, Result, Ok, Err, OnErr, OnOk, refl, sym, ap, subst, ErrorType, Adds, Deed, Note}
 use Rattle.pcache_cache.proofs.Adding.{KeptByDeeds, KeptByNotes}
-use Rattle.pcache_lock.specs.Deeds.{Deed}
-use Rattle.pcache_store.specs.Past.{Note}
 
 -- the same of a past that may not be kept
 abbrev pub GrewFrom : {A : Type 0} → Option (List A) → Option (List A) → Type 0

@@ -1,37 +1,11 @@
 -- What always holds of a cache still holds after each call but the end of a write.
-use Rattle.std.proofs.Common.{◌≡◌, ◌≢◌, ℕ, ◌≤◌, arith, inl, inr, Bool, true, false, cond, Option, None, Some, is_some, Result, Ok, Err, refl, ap, sym, subst, ◌∙◌, option_map}
-use Rattle.std.specs.Prelude.{IfErr, IfSome, OnErr, OnOk}
-use Rattle.std.specs.Ordering.{eq_by_cmp, nat_cmp}
-use Rattle.std.specs.FinMap.{get, remove, empty, get-empty, get-remove}
-use Rattle.std.specs.Cmp.{nat_cmp_total}
-use Rattle.pcache_base.proofs.Totals.{total-empty}
-use Rattle.pcache_store.specs.Totals.{body_count, body_size, slots}
-use Rattle.std.proofs.lemmas.Bool.{both_ways, eq-eqb}
-use Rattle.pcache_base.specs.Key.{Key, slot}
-use Rattle.pcache_base.specs.CompactKey.{compact_of}
-use Rattle.pcache_base.specs.declared.error.ErrorType.{ErrorType}
-use Rattle.pcache_evict.specs.declared.eviction.entry_key.CacheEntryKey.{CacheEntryKey}
-use Rattle.pcache_evict.specs.Entry.{entries_total, id_of}
-use Rattle.pcache_evict.specs.Tracked.{Tracked, Limits}
-use Rattle.pcache_meta.specs.Meta.{Meta, expired_at}
-use Rattle.pcache_predict.specs.declared.admission.Decision.{Decision}
-use Rattle.pcache_request.specs.Admissions.{is_deferral, store_looked_with}
-use Rattle.pcache_lock.specs.Locks.{Locks}
-use Rattle.pcache_request.specs.Failures.{FailsToBegin, FailsToLook}
-use Rattle.pcache_request.specs.Finishing.{entry_slot}
-use Rattle.pcache_request.specs.LockPasts.{Deeds}
-use Rattle.pcache_request.specs.Requests.{Request, begun_for, dropped_by, entry_of, found_for, followed_for, left_by, store_found, store_writing, tracked_gone, tracked_gone_for}
-use Rattle.pcache_request.specs.Phases.{is_treated_as_miss}
-use Rattle.pcache_request.specs.StorePasts.{Past}
-use Rattle.pcache_request.specs.Variants.{is_hidden, searched, without_hidden}
-use Rattle.pcache_request.specs.declared.phase.HitStatus.{HitStatus}
+use Rattle.std.specs.FinMap.{empty, get-empty}
+use Rattle.pcache_request.specs.Admissions.{store_looked_with}
+use Rattle.pcache_request.specs.Failures.{FailsToLook}
+use Rattle.pcache_request.specs.Requests.{store_found}
+use Rattle.pcache_request.specs.Variants.{searched, without_hidden}
+use Rattle.pcache_cache.proofs.Words.{◌≡◌, ◌≢◌, ℕ, ◌≤◌, arith, inl, inr, Bool, true, false, cond, Option, None, Some, is_some, Result, Ok, Err, refl, ap, sym, subst, ◌∙◌, option_map, IfErr, IfSome, OnErr, OnOk, eq_by_cmp, nat_cmp, get, remove, get-remove, nat_cmp_total, total-empty, body_count, body_size, slots, both_ways, eq-eqb, Key, slot, compact_of, ErrorType, CacheEntryKey, entries_total, id_of, Tracked, Limits, Meta, expired_at, Decision, is_deferral, Locks, FailsToBegin, entry_slot, Deeds, Request, begun_for, dropped_by, entry_of, found_for, followed_for, left_by, store_writing, tracked_gone, tracked_gone_for, is_treated_as_miss, Past, is_hidden, HitStatus, purge_outcome, purged_at, expire_outcome, slot_outcome, Store, Slot, Reader, complete_body, followed, left, meta_changed, purged, number_of_body, NotFound, Expired, IsKept, body_weight, slot_weight, Weighing}
 use Rattle.pcache_store.specs.Purge as purge
-use Rattle.pcache_store.specs.Purge.{purge_outcome, purged_at, expire_outcome, slot_outcome}
-use Rattle.pcache_store.specs.Store.{Store, Slot, Reader, complete_body, followed, left, meta_changed, purged, number_of_body}
-use Rattle.pcache_store.specs.declared.storage.PurgeOutcome.TheVariants.{NotFound, Expired}
-use Rattle.pcache_cache.specs.Parts.{IsKept}
-use Rattle.pcache_cache.specs.Weighing.{body_weight, slot_weight}
-use Rattle.pcache_cache.specs.declared.weighing.Weighing.{Weighing}
 use Rattle.pcache_cache.proofs.Standing.{Fewer, body-remove, cmp_same, fewer-begun_for, fewer-changed, fewer-dropped_by, fewer-purged_at, fewer-slots, fewer-then, slots-followed, slots-left, slots-left_by}
 use Rattle.pcache_cache.proofs.Sums.{bounded-fewer, entries-apart}
 

@@ -14,3 +14,4 @@ pub mod Adding
 pub mod Growing
 pub mod Unlocking
 pub mod Ways
+pub mod Words

@@ -1,48 +1,14 @@
 -- What is tracked stays what is stored, through each call of a cache.
-use Rattle.std.proofs.Common.{◌≡◌, ◌≢◌, ℕ, inl, inr, Bool, true, false, cond, if◌then◌else◌, Option, None, Some, is_some, List, Result, Ok, Err, refl, ap, sym, subst, ◌∙◌, length, option_map}
-use Rattle.std.specs.Option.{option_and_then}
-use Rattle.std.specs.Prelude.{OnErr, OnOk}
-use Rattle.std.specs.Ordering.{nat_cmp, eq_by_cmp}
-use Rattle.std.specs.FinMap.{FinMap, get, insert, remove}
-use Rattle.pcache_base.specs.CompactKey.{compact_of}
-use Rattle.pcache_base.specs.Key.{Key, slot}
-use Rattle.pcache_base.specs.Totals.{share}
-use Rattle.pcache_base.specs.declared.error.ErrorType.{ErrorType}
+use Rattle.std.proofs.Common.{if◌then◌else◌}
 use Rattle.pcache_base.specs.declared.key.CompactCacheKey.{CompactCacheKey}
-use Rattle.pcache_evict.specs.Tracked.{IsFair, Limits, Tracked, without}
-use Rattle.pcache_evict.specs.declared.eviction.entry_key.CacheEntryKey.{CacheEntryKey}
-use Rattle.pcache_lock.specs.Locks.{Locks}
-use Rattle.pcache_lock.specs.declared.lock.status.LockStatus.{LockStatus}
-use Rattle.pcache_meta.specs.HeaderText.{header_written}
-use Rattle.pcache_meta.specs.Meta.{Meta, expired_at}
-use Rattle.pcache_response.specs.Progress.{Parsed}
-use Rattle.pcache_put.specs.State.{Stage, InHead, InBody, HasDeclined, IsOver, entry_in, write_in}
-use Rattle.pcache_put.specs.Steps.{EndsEarly, EndsPut, tracked_before_put, write_end}
-use Rattle.pcache_put.specs.Steps as put_steps
-use Rattle.pcache_put.specs.declared.report.PutEnd.{PutEnd}
-use Rattle.pcache_put.specs.declared.report.PutOutcome.{PutOutcome}
-use Rattle.pcache_request.specs.Finishing.{PurgesAll, Stores, Withdraws}
-use Rattle.pcache_request.specs.Replacing.{tracked_before, tracked_before_end, without_entry}
-use Rattle.pcache_request.specs.Requests.{Request, entry_of, settled, tracked_gone, tracked_gone_for}
-use Rattle.pcache_request.specs.WriteEnds.{Ends, EndsAs, EndsBody, EndsIdle, HoldsNoLock}
-use Rattle.pcache_request.specs.declared.cache.finish.FinishReport.{FinishReport}
-use Rattle.pcache_request.specs.declared.cache.finish.WriteEnd.{WriteEnd}
-use Rattle.pcache_request.specs.declared.cache.finish.WriteEnd.TheVariants as end
-use Rattle.pcache_store.specs.Finishes.{body_number}
+use Rattle.pcache_request.specs.WriteEnds.{EndsAs}
 use Rattle.pcache_store.specs.PastLaws.{BodiesAreLast, NothingIsLost}
-use Rattle.pcache_store.specs.Past.{Note}
 use Rattle.pcache_store.specs.PastSays.{body_stored, is_removed, last_finished}
+use Rattle.pcache_store.specs.Store.{Written}
+use Rattle.pcache_cache.proofs.Words.{◌≡◌, ◌≢◌, ℕ, inl, inr, Bool, true, false, cond, Option, None, Some, is_some, List, Result, Ok, Err, refl, ap, sym, subst, ◌∙◌, length, option_map, option_and_then, OnErr, OnOk, nat_cmp, eq_by_cmp, FinMap, get, insert, remove, compact_of, Key, slot, share, ErrorType, IsFair, Limits, Tracked, without, CacheEntryKey, Locks, LockStatus, header_written, Meta, expired_at, Parsed, Stage, InHead, InBody, HasDeclined, IsOver, entry_in, write_in, EndsEarly, EndsPut, tracked_before_put, write_end, PutEnd, PutOutcome, PurgesAll, Stores, Withdraws, tracked_before, tracked_before_end, without_entry, Request, entry_of, settled, tracked_gone, tracked_gone_for, Ends, EndsBody, EndsIdle, HoldsNoLock, FinishReport, WriteEnd, body_number, Note, expire_outcome, purge_outcome, purged_at, slot_outcome, in_memory, Slot, Store, Stored, complete_body, dropped, dropped_on, finished, is_untouched, is_write_under, meta_changed, meta_changed_in, meta_changed_on, meta_set, number_of_body, purged, shut, shut_on, with_meta, Created, Expired, NotFound, MayEnd, is_own_write, replaced_in, IsNotSet, IsSet, Renews, Stock, entry_at, meta_given, reweighs, weight_at, Account, IsItsKey, TracksOnly, body_weight, ending_weight, entered, weight_of, write_weight, Weighing}
+use Rattle.pcache_put.specs.Steps as put_steps
+use Rattle.pcache_request.specs.declared.cache.finish.WriteEnd.TheVariants as end
 use Rattle.pcache_store.specs.Purge as purge
-use Rattle.pcache_store.specs.Purge.{expire_outcome, purge_outcome, purged_at, slot_outcome}
-use Rattle.pcache_store.specs.Readers.{in_memory}
-use Rattle.pcache_store.specs.Store.{Slot, Store, Stored, Written, complete_body, dropped, dropped_on, finished, is_untouched, is_write_under, meta_changed, meta_changed_in, meta_changed_on, meta_set, number_of_body, purged, shut, shut_on, with_meta}
-use Rattle.pcache_store.specs.declared.storage.MissFinishType.TheVariants.{Created}
-use Rattle.pcache_store.specs.declared.storage.PurgeOutcome.TheVariants.{Expired, NotFound}
-use Rattle.pcache_cache.specs.Parts.{MayEnd, is_own_write, replaced_in}
-use Rattle.pcache_cache.specs.Renewing.{IsNotSet, IsSet, Renews, Stock, entry_at, meta_given, reweighs, weight_at}
-use Rattle.pcache_cache.specs.Strays.{Account, IsItsKey, TracksOnly}
-use Rattle.pcache_cache.specs.Weighing.{body_weight, ending_weight, entered, weight_of, write_weight}
-use Rattle.pcache_cache.specs.declared.weighing.Weighing.{Weighing}
 use Rattle.pcache_cache.proofs.Ended.{EndsOf, body-slot, body-stored, ends-of, idle-before, purged_each, purges-each, written-under}
 use Rattle.pcache_cache.proofs.Fed.{any-end}
 use Rattle.pcache_cache.proofs.Renewed.{body-set, given, same_weight, slots-unset, weight-set, weight-unset}

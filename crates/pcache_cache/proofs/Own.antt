@@ -1,22 +1,14 @@
 -- A request's own write stays its own: what a look-up and a begin leave of a request, and of the write.
-use Rattle.std.proofs.Common.{◌≡◌, ℕ, ◌+◌, ◌-◌, nat_eq, Bool, true, false, cond, Option, None, Some, IsSome, List, ◌++◌, Result, Ok, Err, refl, ap, sym, subst, ◌∙◌}
-use Rattle.std.specs.Prelude.{OnErr, OnOk}
-use Rattle.std.specs.Ordering.{nat_cmp, eq_by_cmp, is_eq}
-use Rattle.std.specs.Cmp.{nat_cmp_total, tied_itself}
-use Rattle.std.specs.FinMap.{FinMap, get, insert, remove, get-insert, get-remove}
-use Rattle.std.specs.Option.{option_eq}
-use Rattle.std.proofs.lemmas.Bool.{both_ways, eq-eqb, or_left, and_from}
-use Rattle.pcache_base.specs.Key.{Key, slot}
-use Rattle.pcache_lock.specs.Locks.{Locks}
-use Rattle.pcache_lock.specs.declared.lock.permit.Locked.{Locked}
-use Rattle.pcache_meta.specs.Meta.{Meta, numbered}
-use Rattle.pcache_request.specs.Requests.{Request, begun_for, followed_for, left_by, store_writing, with_lock, writing, HasKey, MayWrite}
+use Rattle.std.proofs.Common.{IsSome, ◌++◌}
+use Rattle.std.proofs.lemmas.Bool.{or_left, and_from}
+use Rattle.pcache_meta.specs.Meta.{numbered}
+use Rattle.pcache_request.specs.Requests.{with_lock, writing, HasKey, MayWrite}
 use Rattle.pcache_request.specs.Phases.{IsFilling}
 use Rattle.pcache_request.specs.declared.phase.CachePhase.{CachePhase}
+use Rattle.pcache_request.specs.Variants.{looked_for, with_key_lock}
+use Rattle.pcache_store.specs.Store.{Written, is_named, followed_on, kept, left_on, new_write, wrote, wrote_on}
+use Rattle.pcache_cache.proofs.Words.{◌≡◌, ℕ, ◌+◌, ◌-◌, nat_eq, Bool, true, false, cond, Option, None, Some, List, Result, Ok, Err, refl, ap, sym, subst, ◌∙◌, OnErr, OnOk, nat_cmp, eq_by_cmp, is_eq, nat_cmp_total, tied_itself, FinMap, get, insert, remove, get-insert, get-remove, option_eq, both_ways, eq-eqb, Key, slot, Locks, Locked, Meta, Request, begun_for, followed_for, left_by, store_writing, is_unseen_for, Store, Reader, Whole, Part, begun, followed, followed_by, is_write_under, left, MayEnd, is_own_write}
 use Rattle.pcache_request.specs.declared.phase.CachePhase.TheVariants as phase
-use Rattle.pcache_request.specs.Variants.{is_unseen_for, looked_for, with_key_lock}
-use Rattle.pcache_store.specs.Store.{Store, Written, Reader, Whole, Part, begun, followed, followed_by, is_named, is_write_under, followed_on, kept, left, left_on, new_write, wrote, wrote_on}
-use Rattle.pcache_cache.specs.Parts.{MayEnd, is_own_write}
 use Rattle.pcache_cache.proofs.Standing.{same-key}
 
 -- ---- what does not look at the lock that is held stays over a look-up

@@ -1,16 +1,12 @@
 -- A piece of a put is read, and then stored: both halves together.
-use Rattle.std.proofs.Common.{◌≡◌, Option, Result, ap, subst}
-use Rattle.pcache_base.specs.declared.error.ErrorType.{ErrorType}
-use Rattle.pcache_base.specs.declared.reason.NoCacheReason.{NoCacheReason}
 use Rattle.pcache_put.proofs.Halves.{reads_and_stores, why_answered}
 use Rattle.pcache_put.specs.Puts.{Piece, Says}
 use Rattle.pcache_put.specs.Readings.{IfUnread, MayFailRead, ReadsPiece}
-use Rattle.pcache_put.specs.State.{Put}
 use Rattle.pcache_put.specs.Steps.{RepeatsResult}
 use Rattle.pcache_put.specs.declared.reading.ReadPiece.{ReadPiece}
 use Rattle.pcache_cache.specs.Feeding.{StoresRead, TakesIn}
-use Rattle.pcache_cache.specs.OwnPut.{MayEndPut, put_past, store_put}
-use Rattle.pcache_cache.specs.Parts.{Adds, Parts}
+use Rattle.pcache_cache.specs.OwnPut.{MayEndPut, store_put}
+use Rattle.pcache_cache.proofs.Words.{◌≡◌, Option, Result, ap, subst, ErrorType, NoCacheReason, Put, put_past, Adds, Parts}
 
 -- `says` is what a policy decides
 pub takes_in : {C : Type 0} (says : C → Says) (x mid y : Put C) (piece : Piece) (read : ReadPiece) (result : Result (Option NoCacheReason) ErrorType) (p q : Parts) → ReadsPiece (says x.policy) x mid piece read → IfUnread read (MayFailRead x.stage x.parser) → StoresRead result (says mid.policy) mid y read p q

@@ -1,23 +1,7 @@
 -- What always holds of a cache still holds after a meta was set.
-use Rattle.std.proofs.Common.{◌≡◌, ◌==◌, ℕ, inl, inr, Bool, true, false, not, cond, Option, None, Some, Result, Ok, Err, List, refl, ap, sym, subst, ◌∙◌}
-use Rattle.std.specs.Ordering.{nat_cmp, eq_by_cmp}
-use Rattle.std.specs.FinMap.{get, insert, remove}
-use Rattle.std.proofs.lemmas.Bool.{eq-eqb, eqb-true}
-use Rattle.pcache_base.specs.Key.{Key, slot}
-use Rattle.pcache_base.specs.Totals.{share}
-use Rattle.pcache_base.specs.declared.error.ErrorType.{ErrorType}
-use Rattle.pcache_evict.specs.Entry.{id_of}
-use Rattle.pcache_evict.specs.Tracked.{IsFair, Limits, Tracked, without}
-use Rattle.pcache_evict.specs.declared.eviction.entry_key.CacheEntryKey.{CacheEntryKey}
-use Rattle.pcache_meta.specs.Meta.{Meta, in_place_of}
-use Rattle.pcache_request.specs.Finishing.{PurgesAll, entry_slot}
-use Rattle.pcache_request.specs.Requests.{entry_of}
-use Rattle.pcache_store.specs.Finishes.{body_number}
-use Rattle.pcache_store.specs.Store.{Store, Stored, complete_body, meta_changed_in, meta_changed_on, meta_set, number_of_body, purged, with_meta}
-use Rattle.pcache_cache.specs.Parts.{IsKept}
-use Rattle.pcache_cache.specs.Renewing.{IsNotSet, IsSet, Renews, Stock, entry_at, meta_given, reweighs, weight_at}
-use Rattle.pcache_cache.specs.Weighing.{body_weight}
-use Rattle.pcache_cache.specs.declared.weighing.Weighing.{Weighing}
+use Rattle.std.proofs.Common.{not}
+use Rattle.pcache_meta.specs.Meta.{in_place_of}
+use Rattle.pcache_cache.proofs.Words.{◌≡◌, ◌==◌, ℕ, inl, inr, Bool, true, false, cond, Option, None, Some, Result, Ok, Err, List, refl, ap, sym, subst, ◌∙◌, nat_cmp, eq_by_cmp, get, insert, remove, eq-eqb, eqb-true, Key, slot, share, ErrorType, id_of, IsFair, Limits, Tracked, without, CacheEntryKey, Meta, PurgesAll, entry_slot, entry_of, body_number, Store, Stored, complete_body, meta_changed_in, meta_changed_on, meta_set, number_of_body, purged, with_meta, IsKept, IsNotSet, IsSet, Renews, Stock, entry_at, meta_given, reweighs, weight_at, body_weight, Weighing}
 use Rattle.pcache_cache.proofs.Ended.{kept-anew, purged_each, purges-each}
 use Rattle.pcache_cache.proofs.Kept.{entry-of-slot, kept_fewer, kept_purged, kept_slots}
 use Rattle.pcache_cache.proofs.Standing.{Fewer, Stands, body-insert, body-remove, cmp_same, same-key}

@@ -1,43 +1,14 @@
 -- A body that has room beside the others evicts none.
-use Rattle.std.proofs.Common.{◌≡◌, ℕ, ◌+◌, ◌≤◌, Bool, true, false, cond, is_some, Option, None, Some, List, [], inl, inr, Result, Ok, Err, IfSome, OnOk, refl, ap, sym, subst, ◌∙◌, arith}
-use Rattle.std.specs.FinMap.{get, insert, len, remove}
-use Rattle.std.specs.Ordering.{nat_cmp, eq_by_cmp}
-use Rattle.pcache_base.proofs.Totals.{len-total, total-insert, total-remove}
-use Rattle.pcache_base.specs.CompactKey.{compact_of}
-use Rattle.pcache_base.specs.Key.{Key, slot}
-use Rattle.pcache_base.specs.Totals.{share, total}
-use Rattle.pcache_base.specs.declared.error.ErrorType.{ErrorType}
-use Rattle.pcache_evict.proofs.EntryOrder.{exact_entries}
+use Rattle.pcache_base.proofs.Totals.{total-insert}
 use Rattle.pcache_evict.proofs.Fair.{none-within}
-use Rattle.pcache_evict.specs.Entry.{entries_total}
-use Rattle.pcache_evict.specs.Tracked.{IsWithin, Limits, Tracked, weight}
-use Rattle.pcache_evict.specs.declared.eviction.entry_key.CacheEntryKey.{CacheEntryKey}
-use Rattle.pcache_lock.specs.Locks.{Locks}
-use Rattle.pcache_lock.specs.declared.lock.status.LockStatus.{LockStatus}
-use Rattle.pcache_response.specs.Progress.{Parsed}
-use Rattle.pcache_put.specs.State.{Stage, InHead, InBody, HasDeclined, IsOver}
-use Rattle.pcache_put.specs.Steps.{EndsPut, tracked_before_put}
+use Rattle.pcache_request.specs.WriteEnds.{EndsAs}
+use Rattle.pcache_cache.specs.Renewing.{Readmits, stock}
+use Rattle.pcache_cache.specs.Room.{evicted_by_put, evicted_in}
+use Rattle.pcache_cache.proofs.Words.{◌≡◌, ℕ, ◌+◌, ◌≤◌, Bool, true, false, cond, is_some, Option, None, Some, List, [], inl, inr, Result, Ok, Err, IfSome, OnOk, refl, ap, sym, subst, ◌∙◌, arith, get, insert, len, remove, nat_cmp, eq_by_cmp, len-total, total-remove, compact_of, Key, slot, share, total, ErrorType, exact_entries, entries_total, IsWithin, Limits, Tracked, weight, CacheEntryKey, Locks, LockStatus, Parsed, Stage, InHead, InBody, HasDeclined, IsOver, EndsPut, tracked_before_put, PutOutcome, Meta, PurgesAll, Stores, tracked_before, tracked_before_end, without_entry, Request, entry_of, settled, Ends, EndsBody, HoldsNoLock, FinishReport, body_number, in_memory, Store, complete_body, meta_set, purged, slots, Created, Parts, replaced_in, IsSet, Renews, Stock, entry_at, meta_given, reweighs, weight_at, HasRoom, IfRoom, KeepsBodies, beside, weight_with, Account, IsItsKey, TracksOnly, Weighing}
 use Rattle.pcache_put.specs.Steps as put_steps
 use Rattle.pcache_put.specs.declared.report.PutEnd.TheVariants as put_end
-use Rattle.pcache_put.specs.declared.report.PutOutcome.{PutOutcome}
 use Rattle.pcache_put.specs.declared.report.PutOutcome.TheVariants as answer
-use Rattle.pcache_meta.specs.Meta.{Meta}
-use Rattle.pcache_request.specs.Finishing.{PurgesAll, Stores}
-use Rattle.pcache_request.specs.Replacing.{tracked_before, tracked_before_end, without_entry}
-use Rattle.pcache_request.specs.Requests.{Request, entry_of, settled}
-use Rattle.pcache_request.specs.WriteEnds.{Ends, EndsAs, EndsBody, HoldsNoLock}
-use Rattle.pcache_request.specs.declared.cache.finish.FinishReport.{FinishReport}
 use Rattle.pcache_request.specs.declared.cache.finish.WriteEnd.TheVariants as end
-use Rattle.pcache_store.specs.Finishes.{body_number}
-use Rattle.pcache_store.specs.Readers.{in_memory}
-use Rattle.pcache_store.specs.Store.{Store, complete_body, meta_set, purged}
-use Rattle.pcache_store.specs.Totals.{slots}
-use Rattle.pcache_store.specs.declared.storage.MissFinishType.TheVariants.{Created}
-use Rattle.pcache_cache.specs.Parts.{Parts, replaced_in}
-use Rattle.pcache_cache.specs.Renewing.{IsSet, Readmits, Renews, Stock, entry_at, meta_given, reweighs, stock, weight_at}
-use Rattle.pcache_cache.specs.Room.{HasRoom, IfRoom, KeepsBodies, beside, evicted_by_put, evicted_in, weight_with}
-use Rattle.pcache_cache.specs.Strays.{Account, IsItsKey, TracksOnly}
-use Rattle.pcache_cache.specs.declared.weighing.Weighing.{Weighing}
 use Rattle.pcache_cache.proofs.Ended.{EndsOf, ends-of}
 use Rattle.pcache_cache.proofs.Only.{only_before}
 use Rattle.pcache_cache.proofs.Renewed.{body-set, given, slots-unset}

@@ -1,18 +1,7 @@
 -- What is complete in a store after a call: no more than before, and with the same bytes.
-use Rattle.std.proofs.Common.{◌≡◌, ℕ, ◌==◌, true, false, cond, Option, None, Some, length, refl, ap, sym, subst, ◌∙◌, arith}
-use Rattle.std.specs.Ordering.{nat_cmp, eq_by_cmp}
-use Rattle.std.specs.Cmp.{nat_cmp_total}
-use Rattle.std.specs.FinMap.{FinMap, get, insert, remove, get-insert, get-remove}
-use Rattle.std.proofs.lemmas.Bool.{eqb-true}
 use Rattle.std.proofs.lemmas.Bool.Decides.{nat_tests}
-use Rattle.pcache_base.specs.Key.{Key, slot}
-use Rattle.pcache_meta.specs.Meta.{Meta}
-use Rattle.pcache_request.specs.Requests.{begun_for, dropped_by, left_by}
-use Rattle.pcache_meta.specs.HeaderText.{header_written}
-use Rattle.pcache_store.specs.Purge.{purged_at}
-use Rattle.pcache_store.specs.Store.{Store, Slot, Stored, Reader, Whole, Part, complete_body, begun, dropped, dropped_on, followed, followed_by, is_idle, left, meta_changed, meta_changed_in, meta_changed_on, opened_in, shut, shut_on, slot_or_new, with_meta, with_slot}
-use Rattle.pcache_cache.specs.Weighing.{body_weight, weight_of}
-use Rattle.pcache_cache.specs.declared.weighing.Weighing.{Weighing}
+use Rattle.pcache_store.specs.Store.{opened_in, slot_or_new}
+use Rattle.pcache_cache.proofs.Words.{◌≡◌, ℕ, ◌==◌, true, false, cond, Option, None, Some, length, refl, ap, sym, subst, ◌∙◌, arith, nat_cmp, eq_by_cmp, nat_cmp_total, FinMap, get, insert, remove, get-insert, get-remove, eqb-true, Key, slot, Meta, begun_for, dropped_by, left_by, header_written, purged_at, Store, Slot, Stored, Reader, Whole, Part, complete_body, begun, dropped, dropped_on, followed, followed_by, is_idle, left, meta_changed, meta_changed_in, meta_changed_on, shut, shut_on, with_meta, with_slot, body_weight, weight_of, Weighing}
 
 -- the two tests of numbers agree
 pub cmp_same : (q w : ℕ) → eq_by_cmp nat_cmp q w ≡ (w == q)

@@ -1,25 +1,10 @@
 -- What is tracked stays what is stored.
-use Rattle.std.proofs.Common.{◌≡◌, ◌≢◌, ℕ, ◌⊎◌, inl, inr, true, false, cond, Option, None, Some, is_some, List, [], ◌∷◌, refl, ap, sym, ◌∙◌, nat_eq}
 use Rattle.std.specs.Prelude.{All, IsTrue}
-use Rattle.std.specs.Option.{option_eq}
-use Rattle.std.specs.Ordering.{nat_cmp, eq_by_cmp, is_eq}
-use Rattle.std.specs.Cmp.{tied_itself}
-use Rattle.std.specs.FinMap.{contains_key, get, insert, remove, get-insert, get-remove}
-use Rattle.std.proofs.lemmas.Bool.{both_ways, eq-eqb, eqb-true}
+use Rattle.std.specs.FinMap.{contains_key}
 use Rattle.std.proofs.lemmas.List.Elements.{All-head, All-tail}
-use Rattle.pcache_base.specs.Key.{Key, slot}
-use Rattle.pcache_evict.specs.Entry.{entry_cmp, entries_total}
-use Rattle.pcache_evict.specs.Tracked.{Tracked, without}
-use Rattle.pcache_evict.specs.declared.eviction.entry_key.CacheEntryKey.{CacheEntryKey}
-use Rattle.pcache_evict.specs.declared.eviction.entry_key.CacheEntryKey.TheVariants.{KeyOnly, Identified}
-use Rattle.pcache_request.specs.Finishing.{entry_slot}
-use Rattle.pcache_request.specs.Requests.{entry_of}
-use Rattle.pcache_store.specs.Finishes.{body_number}
-use Rattle.pcache_store.specs.Purge.{entry_purged}
-use Rattle.pcache_store.specs.Store.{Store, Stored, body_without, complete_body, has_body_of, number_of_body, purged, write_purged}
-use Rattle.pcache_cache.specs.Strays.{Account, IsBody, IsItsKey, IsStored, TracksOnly}
-use Rattle.pcache_cache.specs.Weighing.{body_weight}
-use Rattle.pcache_cache.specs.declared.weighing.Weighing.{Weighing}
+use Rattle.pcache_evict.specs.declared.eviction.entry_key.CacheEntryKey.TheVariants.{KeyOnly}
+use Rattle.pcache_cache.specs.Strays.{IsStored}
+use Rattle.pcache_cache.proofs.Words.{◌≡◌, ◌≢◌, ℕ, ◌⊎◌, inl, inr, true, false, cond, Option, None, Some, is_some, List, [], ◌∷◌, refl, ap, sym, ◌∙◌, nat_eq, option_eq, nat_cmp, eq_by_cmp, is_eq, tied_itself, get, insert, remove, get-insert, get-remove, both_ways, eq-eqb, eqb-true, Key, slot, entry_cmp, entries_total, Tracked, without, CacheEntryKey, Identified, entry_slot, entry_of, body_number, entry_purged, Store, Stored, body_without, complete_body, has_body_of, number_of_body, purged, write_purged, Account, IsBody, IsItsKey, TracksOnly, body_weight, Weighing}
 use Rattle.pcache_cache.proofs.Ended.{body-lost, purged_each}
 use Rattle.pcache_cache.proofs.Standing.{Fewer, body-remove, cmp_same, same-key}
 use Rattle.pcache_cache.proofs.Sums.{entry-same}

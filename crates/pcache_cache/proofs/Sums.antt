@@ -1,25 +1,9 @@
 -- Sums over the slots of a store, against those of another store and against what is tracked.
-use Rattle.std.proofs.Common.{◌≡◌, ◌≢◌, ℕ, zero, suc, ◌-◌, ◌≤◌, true, false, cond, Option, None, Some, is_some, List, [], ◌∷◌, length, refl, ap, sym, subst, ◌∙◌, arith, ◌⊎◌, inl, inr}
-use Rattle.std.specs.Prelude.{IfSome}
 use Rattle.std.specs.declared.cmp.Ordering.{Ordering}
 use Rattle.std.specs.declared.cmp.Ordering.TheVariants.{Less, Equal, Greater}
-use Rattle.std.specs.Ordering.{nat_cmp, eq_by_cmp, is_eq}
-use Rattle.std.specs.Cmp.{nat_cmp_total, tied_itself}
-use Rattle.std.specs.FinMap.{FinMap, get, remove, entries, len, find, get-remove, get-entries, len-remove, len-entries, empty_of_len, nat_cmp-IsAntisymmetric}
-use Rattle.std.proofs.lemmas.Bool.{both_ways, eq-eqb}
-use Rattle.pcache_base.specs.Totals.{total, share}
-use Rattle.pcache_base.proofs.Totals.{total-remove, total-empty, len-total}
-use Rattle.pcache_evict.specs.Entry.{entry_cmp, entries_total}
-use Rattle.pcache_evict.specs.Tracked.{Tracked, Limits, IsWithin, weight}
-use Rattle.pcache_evict.specs.declared.eviction.entry_key.CacheEntryKey.{CacheEntryKey}
-use Rattle.pcache_evict.proofs.EntryOrder.{exact_entries}
-use Rattle.pcache_request.specs.Finishing.{entry_slot}
-use Rattle.pcache_store.specs.Store.{Store, Slot, Stored, complete_body}
-use Rattle.pcache_store.specs.Totals.{body_len, body_size, body_count, one, stored_bytes, slots}
-use Rattle.pcache_cache.specs.Parts.{IsBounded, TracksExactly}
-use Rattle.pcache_cache.specs.Weighing.{body_weight, slot_weight, stored_weight}
-use Rattle.pcache_cache.specs.declared.weighing.Weighing.{Weighing}
+use Rattle.pcache_store.specs.Totals.{body_len, stored_bytes}
 use Rattle.pcache_cache.specs.declared.weighing.Weighing.TheVariants.{Bodies, Entries}
+use Rattle.pcache_cache.proofs.Words.{◌≡◌, ◌≢◌, ℕ, zero, suc, ◌-◌, ◌≤◌, true, false, cond, Option, None, Some, is_some, List, [], ◌∷◌, length, refl, ap, sym, subst, ◌∙◌, arith, ◌⊎◌, inl, inr, IfSome, nat_cmp, eq_by_cmp, is_eq, nat_cmp_total, tied_itself, FinMap, get, remove, entries, len, find, get-remove, get-entries, len-remove, len-entries, empty_of_len, nat_cmp-IsAntisymmetric, both_ways, eq-eqb, total, share, total-remove, total-empty, len-total, entry_cmp, entries_total, Tracked, Limits, IsWithin, weight, CacheEntryKey, exact_entries, entry_slot, Store, Slot, Stored, complete_body, body_size, body_count, one, slots, IsBounded, TracksExactly, body_weight, slot_weight, stored_weight, Weighing}
 use Rattle.pcache_cache.proofs.Standing.{Fewer, cmp_same}
 
 head_here : {X : Type 0} (m : FinMap nat_cmp X) (e : ℕ × X) (es : List (ℕ × X)) → entries m ≡ e ∷ es → get m e.0 ≡ Some e.1

@@ -1,23 +1,6 @@
 -- Where only what is stored is tracked, what is tracked sums to what is stored.
-use Rattle.std.proofs.Common.{◌≡◌, ℕ, zero, suc, ◌-◌, ◌≤◌, true, false, cond, None, Some, is_some, List, [], ◌∷◌, inl, inr, length, refl, ap, sym, subst, ◌∙◌, arith}
-use Rattle.std.specs.Ordering.{nat_cmp, eq_by_cmp, is_eq}
-use Rattle.std.specs.Cmp.{nat_cmp_total, tied_itself}
-use Rattle.std.specs.FinMap.{FinMap, entries, empty_of_len, find, get, get-entries, get-remove, len, len-entries, len-remove, nat_cmp-IsAntisymmetric, remove}
-use Rattle.std.proofs.lemmas.Bool.{both_ways}
-use Rattle.pcache_base.specs.Totals.{share, total}
-use Rattle.pcache_base.proofs.Totals.{len-total, total-empty, total-remove}
-use Rattle.pcache_evict.proofs.EntryOrder.{exact_entries}
-use Rattle.pcache_evict.specs.Entry.{entries_total, entry_cmp}
-use Rattle.pcache_evict.specs.Tracked.{Tracked, weight}
-use Rattle.pcache_evict.specs.declared.eviction.entry_key.CacheEntryKey.{CacheEntryKey}
-use Rattle.pcache_evict.specs.declared.eviction.entry_key.CacheEntryKey.TheVariants.{Identified}
-use Rattle.pcache_request.specs.Finishing.{entry_slot}
-use Rattle.pcache_store.specs.Store.{Slot, Store, Stored, complete_body, number_of_body}
-use Rattle.pcache_store.specs.Totals.{body_count, one, slots}
-use Rattle.pcache_cache.specs.Parts.{Parts, TracksExactly}
-use Rattle.pcache_cache.specs.Strays.{Account, IsBody, SumsToStored, TracksOnly}
-use Rattle.pcache_cache.specs.Weighing.{body_weight, slot_weight, stored_weight}
-use Rattle.pcache_cache.specs.declared.weighing.Weighing.{Weighing}
+use Rattle.pcache_cache.specs.Strays.{SumsToStored}
+use Rattle.pcache_cache.proofs.Words.{◌≡◌, ℕ, zero, suc, ◌-◌, ◌≤◌, true, false, cond, None, Some, is_some, List, [], ◌∷◌, inl, inr, length, refl, ap, sym, subst, ◌∙◌, arith, nat_cmp, eq_by_cmp, is_eq, nat_cmp_total, tied_itself, FinMap, entries, empty_of_len, find, get, get-entries, get-remove, len, len-entries, len-remove, nat_cmp-IsAntisymmetric, remove, both_ways, share, total, len-total, total-empty, total-remove, exact_entries, entries_total, entry_cmp, Tracked, weight, CacheEntryKey, Identified, entry_slot, Slot, Store, Stored, complete_body, number_of_body, body_count, one, slots, Parts, TracksExactly, Account, IsBody, TracksOnly, body_weight, slot_weight, stored_weight, Weighing}
 use Rattle.pcache_cache.proofs.Standing.{same-key}
 use Rattle.pcache_cache.proofs.Sums.{sized, total-tracked, tracked-at}
 

@@ -1,20 +1,10 @@
 -- No call of a cache unlocks a permit that is held.
-use Rattle.std.proofs.Common.{◌≡◌, ◌||◌, inl, inr, ℕ, true, false, Option, None, Some, Result, Ok, Err, IfErr, OnOk, OnErr, sym, subst}
+use Rattle.std.proofs.Common.{◌||◌}
 use Rattle.std.specs.List.{list_any}
-use Rattle.pcache_base.specs.declared.error.ErrorType.{ErrorType}
-use Rattle.pcache_cache.proofs.Adding.{KeptByDeeds, end_keeps, settled_keeps}
-use Rattle.pcache_lock.specs.Locks.{Locks}
-use Rattle.pcache_lock.specs.PastLaws.{UnlocksNone, is_unlocking}
-use Rattle.pcache_lock.specs.declared.lock.permit.Locked.{Locked}
-use Rattle.pcache_lock.specs.declared.lock.status.LockStatus.TheVariants.{Done}
-use Rattle.pcache_request.specs.Failures.{FailsToBegin}
-use Rattle.pcache_request.specs.LockPasts.{Deeds, end_deeds, settled_deeds}
-use Rattle.pcache_request.specs.Requests.{Request}
-use Rattle.pcache_request.specs.StorePasts.{Past}
 use Rattle.pcache_request.specs.WriteEnds.{EndsAs}
-use Rattle.pcache_request.specs.declared.cache.finish.FinishReport.{FinishReport}
+use Rattle.pcache_cache.proofs.Words.{◌≡◌, inl, inr, ℕ, true, false, Option, None, Some, Result, Ok, Err, IfErr, OnOk, OnErr, sym, subst, ErrorType, Locks, UnlocksNone, is_unlocking, Locked, Done, FailsToBegin, Deeds, end_deeds, settled_deeds, Request, Past, FinishReport, Store}
+use Rattle.pcache_cache.proofs.Adding.{KeptByDeeds, end_keeps, settled_keeps}
 use Rattle.pcache_request.specs.declared.cache.finish.WriteEnd.TheVariants as end
-use Rattle.pcache_store.specs.Store.{Store}
 
 -- in a past, if one is kept, no permit was unlocked
 abbrev pub NoneIn : Deeds → Type 0

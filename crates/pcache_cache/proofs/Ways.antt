@@ -1,14 +1,9 @@
 -- A call that may have ended in several ways: what follows of each way follows of its result.
-use Rattle.std.proofs.Common.{inl, inr, Option, None, Some, Result, Ok, Err}
-use Rattle.pcache_base.specs.declared.error.ErrorType.{ErrorType}
-use Rattle.pcache_put.specs.Steps as put
-use Rattle.pcache_put.specs.declared.report.PutEnd.{PutEnd}
-use Rattle.pcache_put.specs.declared.report.PutEnd.TheVariants as put_end
-use Rattle.pcache_put.specs.declared.report.PutOutcome.{PutOutcome}
-use Rattle.pcache_put.specs.declared.report.PutOutcome.TheVariants as answer
 use Rattle.pcache_request.specs.WriteEnds.{EndsAs}
-use Rattle.pcache_request.specs.declared.cache.finish.FinishReport.{FinishReport}
-use Rattle.pcache_request.specs.declared.cache.finish.WriteEnd.{WriteEnd}
+use Rattle.pcache_cache.proofs.Words.{inl, inr, Option, None, Some, Result, Ok, Err, ErrorType, PutEnd, PutOutcome, FinishReport, WriteEnd}
+use Rattle.pcache_put.specs.Steps as put
+use Rattle.pcache_put.specs.declared.report.PutEnd.TheVariants as put_end
+use Rattle.pcache_put.specs.declared.report.PutOutcome.TheVariants as answer
 use Rattle.pcache_request.specs.declared.cache.finish.WriteEnd.TheVariants as end
 
 -- of the end of a write

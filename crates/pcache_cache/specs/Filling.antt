@@ -1,33 +1,22 @@
 -- Writes: what a call does to a cache, from p to q, with this result. The request is r before it and s after it (own).
-use Rattle.std.specs.Prelude.{[], ◌≡◌, ◌⊎◌, ℕ, Bool, true, List, Option, Some, IfErr, IfOk, IsSome, OnErr, OnOk, Result}
+use Rattle.std.specs.Prelude.{[], ◌≡◌, ℕ, Bool, true, List, Option, IfErr, IfOk, OnErr, OnOk, Result}
 use Rattle.pcache_base.specs.declared.error.ErrorType.{ErrorType}
 use Rattle.pcache_base.specs.declared.error.ErrorType.TheVariants.{OutOfMemory}
-use Rattle.pcache_lock.specs.declared.lock.status.LockStatus.TheVariants.{Done}
-use Rattle.pcache_request.specs.Failures.{FailsToBegin}
 use Rattle.pcache_request.specs.Finishing.{after_finish}
-use Rattle.pcache_request.specs.LockPasts.{end_deeds, settled_deeds}
 use Rattle.pcache_request.specs.NoBody.{LeavesNone}
-use Rattle.pcache_request.specs.Requests.{Request, begin_followed, settled, store_begun, write_begun}
-use Rattle.pcache_request.specs.StorePasts.{EndsRequestPast, writing_past}
-use Rattle.pcache_request.specs.WriteEnds.{Ends, EndsAs, evicted_after}
+use Rattle.pcache_request.specs.Requests.{Request}
+use Rattle.pcache_request.specs.WriteEnds.{EndsAs}
 use Rattle.pcache_request.specs.declared.cache.finish.FinishReport.{FinishReport}
 use Rattle.pcache_store.specs.Readers.{in_memory}
-use Rattle.pcache_store.specs.Refusals.{MayFailWrite}
-use Rattle.pcache_cache.specs.Parts.{Adds, MayEnd, Parts, takes_bytes, tracked_at_end, written_by, written_past}
+use Rattle.pcache_request.specs.Writing as writing
+use Rattle.pcache_cache.specs.Parts.{Adds, MayEnd, Parts, locks_of, manager_of, store_of, takes_bytes, tracked_at_end, written_by, written_past}
 use Rattle.pcache_cache.specs.Room.{IfRoom, evicted_in}
 use Rattle.pcache_cache.specs.Strays.{LeavesNoStray}
 use Rattle.pcache_cache.specs.Weighing.{ending_weight, entered}
 
 -- the write begins
 pub record BeginsWrite (result : Result (Unit {0}) ErrorType) (r s : Request) (p q : Parts) : Type 0 where
-  pub request : OnOk result (s ≡ write_begun true true p.store r)
-  pub store : OnOk result (q.store ≡ store_begun true p.store r)
-  pub past : OnOk result (Adds (writing_past true p.store r) p.past q.past)
-  pub table : OnOk result (q.locks ≡ settled Done r.held p.locks)
-  pub deeds : OnOk result (Adds (settled_deeds Done r.held) p.deeds q.deeds)
-  pub err : IfErr result (λ e. FailsToBegin true p.store (Some p.past) p.locks (Some p.deeds) r e q.store (Some q.past) q.locks (Some q.deeds) s)
-  pub kind : IfErr result (λ e. (e ≡ OutOfMemory) ⊎ MayFailWrite p.store e)
-  pub something : OnErr result ((q.store ≡ p.store) ⊎ IsSome (begin_followed p.store r))
+  pub takes : writing.BeginsWrite result true true r s (store_of p) (store_of q) (locks_of p) (locks_of q)
   pub phase : s.phase ≡ r.phase
   pub own : r.uses.eviction ≡ true → OnOk result (MayEnd q.store s)
   pub rest : q ≡ record p { store = q.store; past = q.past; locks = q.locks; deeds = q.deeds }
@@ -46,11 +35,7 @@ pub record Writes (result : Result Bool ErrorType) (bytes : List ℕ) (eof : Boo
 -- the write ends
 pub record EndsWrite (result : Result (Option FinishReport) ErrorType) (r s : Request) (p q : Parts) : Type 0 where
   pub request : s ≡ after_finish r
-  pub ended :
-      EndsAs result (λ end. Ends in_memory r r.key r.write (entered p.weighing p.store r.write) p.limits end p.store q.store (tracked_at_end p r end) q.tracked p.locks q.locks
-      × EndsRequestPast in_memory r.key r.write end (Some p.past) (Some q.past)
-      × Adds (end_deeds r.write r.held end) p.deeds q.deeds
-      × (q.evicted ≡ evicted_after r r.key (entered p.weighing p.store r.write) (tracked_at_end p r end) p.evicted end))
+  pub ended : EndsAs result (λ end. writing.Finishes in_memory r (entered p.weighing p.store r.write) (tracked_at_end p r end) end (store_of p) (store_of q) (manager_of p) (manager_of q) (locks_of p) (locks_of q))
   pub only : LeavesNoStray r.key p q
   pub room : IfRoom r.key (ending_weight p.weighing p.store r.write) p (evicted_in result ≡ [])
   pub withdrawn : OnErr result (LeavesNone r.key r.write p.store q.store)

@@ -1,83 +1,40 @@
 -- Look-ups, and the hits that come of them: what a call does to a cache, from p to q, with this result. The request is r before it and
 -- s after it (own).
-use Rattle.std.specs.Prelude.{◌≡◌, ◌⊎◌, ℕ, List, Option, None, Some, false, true, IfErr, IfOk, IfSome, IsOk, IsSome, IsTrue, OnErr, OnOk, Result, option_map}
+use Rattle.std.specs.Prelude.{◌≡◌, ◌⊎◌, ℕ, List, Option, None, true, IfErr, IfOk, IfSome, IsOk, IsTrue, OnErr, OnOk, Result, option_map}
 use Rattle.pcache_base.specs.declared.error.ErrorType.{ErrorType}
-use Rattle.pcache_base.specs.declared.error.ErrorType.TheVariants.{NumbersExhausted, OutOfMemory}
+use Rattle.pcache_base.specs.declared.error.ErrorType.TheVariants.{OutOfMemory}
 use Rattle.pcache_base.specs.declared.poll.Poll.{Poll}
-use Rattle.pcache_lock.specs.Locks.{MayFailLock}
 use Rattle.pcache_meta.specs.Meta.{Meta}
-use Rattle.pcache_request.specs.Admissions.{decision_taken, looked_with, store_looked_with, table_looked_with, with_decision}
-use Rattle.pcache_request.specs.Failures.{FailsToLook}
-use Rattle.pcache_request.specs.LockPasts.{found_deeds, looked_deeds, looked_with_deeds}
-use Rattle.pcache_request.specs.Requests.{Request, asks_for_hit, counts_found, found_for, found_row, left_by, store_found, table_found, without_reader}
-use Rattle.pcache_request.specs.StorePasts.{left_past, looked_past, searched_past, taken_past}
-use Rattle.pcache_request.specs.Variants.{asks_unseen, hides_for, looked_for, searched, seen_for, table_looked_for}
+use Rattle.pcache_request.specs.Admissions.{decision_taken}
+use Rattle.pcache_request.specs.Looking as looking
+use Rattle.pcache_request.specs.Requests.{Request, asks_for_hit, counts_found, left_by, without_reader}
+use Rattle.pcache_request.specs.StorePasts.{left_past}
 use Rattle.pcache_request.specs.declared.phase.HitStatus.{HitStatus}
 use Rattle.pcache_store.specs.Notes.{leave_noted, noted}
 use Rattle.pcache_store.specs.Readers.{reader_of}
 use Rattle.pcache_store.specs.Store.{Reader, gives_piece, left, read_of, reader_after}
 use Rattle.pcache_store.specs.declared.memory.hit.MemHitHandler.{MemHitHandler}
-use Rattle.pcache_cache.specs.Parts.{Adds, Parts}
+use Rattle.pcache_cache.specs.Parts.{Adds, Parts, locks_of, store_of}
 use Rattle.pcache_cache.specs.Strays.{LeavesNoStray}
 
--- the key is looked up, with this pair
+-- the key is looked up, and no policy is asked
 pub record LooksUp (result : Result (Option (Meta × MemHitHandler)) ErrorType) (now : ℕ) (r s : Request) (p q : Parts) : Type 0 where
-  pub found : IfOk result (λ f. option_map (λ x. (x.0, reader_of x.1)) f ≡ seen_for p.store r)
-  pub request : OnOk result (s ≡ looked_for p.store p.locks r)
-  pub store : OnOk result (q.store ≡ searched p.store r)
-  pub past : OnOk result (Adds (searched_past p.store r) p.past q.past)
-  pub table : OnOk result (q.locks ≡ table_looked_for p.store now r p.locks)
-  pub deeds : OnOk result (Adds (looked_deeds p.store now p.locks r) p.deeds q.deeds)
+  pub takes : looking.LooksUp reader_of result None now r s (store_of p) (store_of q) (locks_of p) (locks_of q)
   pub phase : OnOk result (s.phase ≡ r.phase)
   pub uses : OnOk result (s.uses ≡ r.uses)
-  pub same_request : OnErr result (s ≡ r)
-  pub left : OnErr result (FailsToLook p.store r (Some p.past) q.store (Some q.past))
-  pub same_store : OnErr result (hides_for p.store r ≡ false → q.store ≡ p.store)
-  pub same_table : OnErr result (q.locks ≡ p.locks)
-  pub same_deeds : OnErr result (q.deeds ≡ p.deeds)
-  pub kind : IfErr result (λ e. MayFailLock p.locks e)
-  pub numbers : IfErr result (λ e. e ≡ NumbersExhausted → IsTrue (asks_unseen p.store r))
-  pub something : OnErr result (IsSome (found_for p.store r.key) ⊎ IsTrue r.uses.lock)
   pub rest : q ≡ record p { store = q.store; past = q.past; locks = q.locks; deeds = q.deeds }
 
--- the key is looked up, with this pair; if the store had nothing, a policy in use was asked first, and decided so
+-- the key is looked up; if the store has nothing, a policy in use is asked first
 pub record LooksUpAsking (result : Result (Option (Meta × MemHitHandler)) ErrorType) (now : ℕ) (r s : Request) (p q : Parts) : Type 0 where
-  pub found : IfOk result (λ f. option_map (λ x. (x.0, reader_of x.1)) f ≡ seen_for p.store r)
-  pub request : OnOk result (s ≡ looked_with (decision_taken p.store r s) p.store p.locks r)
-  pub store : OnOk result (q.store ≡ store_looked_with (decision_taken p.store r s) r p.store)
-  pub past : OnOk result (Adds (looked_past (decision_taken p.store r s) p.store r) p.past q.past)
-  pub table : OnOk result (q.locks ≡ table_looked_with (decision_taken p.store r s) p.store now r p.locks)
-  pub deeds : OnOk result (Adds (looked_with_deeds (decision_taken p.store r s) p.store now p.locks r) p.deeds q.deeds)
-  pub decided : OnErr result (s ≡ with_decision (decision_taken p.store r s) r)
-  pub left : OnErr result (FailsToLook p.store r (Some p.past) q.store (Some q.past))
-  pub same_store : OnErr result (hides_for p.store r ≡ false → q.store ≡ p.store)
-  pub same_table : OnErr result (q.locks ≡ p.locks)
-  pub same_deeds : OnErr result (q.deeds ≡ p.deeds)
-  pub kind : IfErr result (λ e. MayFailLock p.locks e)
-  pub numbers : IfErr result (λ e. e ≡ NumbersExhausted → IsTrue (asks_unseen p.store r))
-  pub something : OnErr result (IsSome (found_for p.store r.key) ⊎ IsTrue r.uses.lock)
+  pub takes : looking.LooksUp reader_of result (decision_taken p.store r s) now r s (store_of p) (store_of q) (locks_of p) (locks_of q)
   pub rest : q ≡ record p { store = q.store; past = q.past; locks = q.locks; deeds = q.deeds }
 
--- the pair that a look-up found is taken
+-- the pair that a look-up found is taken; nothing more is tracked, and nothing less
 pub record TakesFound (result : Result (Unit {0}) ErrorType) (status : HitStatus) (m : Meta) (h : Reader) (now : ℕ) (r s : Request) (p q : Parts) : Type 0 where
-  pub request : OnOk result (s ≡ found_row status m h p.locks r)
-  pub store : OnOk result (q.store ≡ store_found status h r p.store)
-  pub past : OnOk result (Adds (taken_past status h r) p.past q.past)
-  pub table : OnOk result (q.locks ≡ table_found status now r p.locks)
-  pub deeds : OnOk result (Adds (found_deeds status now p.locks r) p.deeds q.deeds)
-  pub tracked : q.tracked ≡ p.tracked
-  pub only : LeavesNoStray None p q
-  pub same_request : OnErr result (s ≡ r)
-  pub left_store : OnErr result (q.store ≡ left p.store h)
-  pub left_past : OnErr result (Adds (noted (leave_noted h)) p.past q.past)
-  pub same_table : OnErr result (q.locks ≡ p.locks)
-  pub same_deeds : OnErr result (q.deeds ≡ p.deeds)
-  pub kind : IfErr result (λ e. MayFailLock p.locks e)
-  pub numbers : IfErr result (λ e. e ≡ NumbersExhausted → IsTrue (asks_for_hit status r))
+  pub takes : looking.TakesFound result status m h now r s (store_of p) (store_of q) (locks_of p) (locks_of q)
   pub something : OnErr result (IsTrue (counts_found status h r) ⊎ IsTrue (asks_for_hit status r))
-  pub limits : q.limits ≡ p.limits
-  pub weighing : q.weighing ≡ p.weighing
-  pub evicted : q.evicted ≡ p.evicted
+  pub only : LeavesNoStray None p q
+  pub rest : q ≡ record p { store = q.store; past = q.past; locks = q.locks; deeds = q.deeds }
 
 -- a reader is let go
 pub record LetsGo (h : Reader) (p q : Parts) : Type 0 where

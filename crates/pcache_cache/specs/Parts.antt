@@ -10,6 +10,7 @@ use Rattle.pcache_lock.specs.Locks.{Locks}
 use Rattle.pcache_request.specs.Finishing.{entry_slot}
 use Rattle.pcache_request.specs.Replacing.{tracked_before_end}
 use Rattle.pcache_request.specs.Requests.{Request}
+use Rattle.pcache_request.specs.Sides.{LockSide, ManagerSide, StoreSide}
 use Rattle.pcache_request.specs.StorePasts.{Past}
 use Rattle.pcache_request.specs.declared.cache.finish.WriteEnd.{WriteEnd}
 use Rattle.pcache_store.specs.Finishes.{body_number}
@@ -33,6 +34,16 @@ pub record Parts : Type 0 where
   pub locks : Locks
   -- what was done to the lock table, the newest first
   pub deeds : List Deed
+
+-- its parts, as the calls of a request are lent them
+abbrev pub store_of : Parts → StoreSide
+store_of p = record { store = p.store; past = Some p.past }
+
+abbrev pub manager_of : Parts → ManagerSide
+manager_of p = record { tracked = p.tracked; limits = p.limits; evicted = p.evicted }
+
+abbrev pub locks_of : Parts → LockSide
+locks_of p = record { locks = p.locks; deeds = Some p.deeds }
 
 -- a call adds this to a past
 abbrev pub Adds : {A : Type 0} → (Option (List A) → Option (List A)) → List A → List A → Type 0

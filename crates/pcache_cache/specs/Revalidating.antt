@@ -7,15 +7,14 @@ use Rattle.pcache_base.specs.declared.reason.NoCacheReason.{NoCacheReason}
 use Rattle.pcache_lock.specs.declared.lock.status.LockStatus.TheVariants.{Done, GiveUp}
 use Rattle.pcache_meta.specs.Header.{Header}
 use Rattle.pcache_meta.specs.Meta.{Meta}
-use Rattle.pcache_request.specs.LockPasts.{settled_deeds, varied_deeds}
 use Rattle.pcache_request.specs.Releasing.{status_for}
 use Rattle.pcache_request.specs.Renewals.{renewed, renewed_by}
 use Rattle.pcache_request.specs.Reports.{name_of}
-use Rattle.pcache_request.specs.Requests.{Request, settled}
+use Rattle.pcache_request.specs.Requests.{Request}
 use Rattle.pcache_request.specs.Stale.{uncacheable}
-use Rattle.pcache_request.specs.Variants.{released_by_variance, table_varied, varied}
 use Rattle.pcache_request.specs.declared.cache.report.LockName.{LockName}
-use Rattle.pcache_cache.specs.Parts.{Adds, Parts}
+use Rattle.pcache_request.specs.Locking as locking
+use Rattle.pcache_cache.specs.Parts.{Parts, locks_of}
 use Rattle.pcache_cache.specs.Renewing.{Renews, stock}
 use Rattle.pcache_cache.specs.Room.{IfRoom, KeepsBodies, weight_with}
 use Rattle.pcache_cache.specs.Strays.{LeavesNoStray}
@@ -27,22 +26,17 @@ pub record Revalidates (result : Result Bool ErrorType) (m : Meta) (r s : Reques
   pub kind : IfErr result (λ e. e ≡ OutOfMemory)
   pub only : LeavesNoStray r.key p q
   pub room : OnOk result (IfRoom r.key (weight_with p.weighing (renewed_by m r.meta) r.key p.store) p (KeepsBodies p.store q.store))
-  pub table : q.locks ≡ settled Done r.held p.locks
-  pub deeds : Adds (settled_deeds Done r.held) p.deeds q.deeds
+  pub settles : locking.Settles Done r (locks_of p) (locks_of q)
   pub rest : q ≡ record p { store = q.store; past = q.past; tracked = q.tracked; evicted = q.evicted; locks = q.locks; deeds = q.deeds }
 
 -- the stale body is served with this head, and the response is not stored
 pub record ServesUncacheable (result : Option LockName) (h : Header) (reason : NoCacheReason) (r s : Request) (p q : Parts) : Type 0 where
   pub request : s ≡ uncacheable h reason r
-  pub table : q.locks ≡ settled (status_for (λ text. GiveUp) reason) r.held p.locks
-  pub deeds : Adds (settled_deeds (status_for (λ text. GiveUp) reason) r.held) p.deeds q.deeds
+  pub settles : locking.Settles (status_for (λ text. GiveUp) reason) r (locks_of p) (locks_of q)
   pub released : result ≡ option_map name_of r.held
   pub rest : q ≡ record p { locks = q.locks; deeds = q.deeds }
 
 -- what the response varies on is set
 pub record Varies (result : Option LockName) (variance : Option (List ℕ)) (r s : Request) (p q : Parts) : Type 0 where
-  pub request : s ≡ varied variance r
-  pub table : q.locks ≡ table_varied variance r p.locks
-  pub deeds : Adds (varied_deeds variance r) p.deeds q.deeds
-  pub released : result ≡ released_by_variance variance r
+  pub takes : locking.Varies result variance r s (locks_of p) (locks_of q)
   pub rest : q ≡ record p { locks = q.locks; deeds = q.deeds }

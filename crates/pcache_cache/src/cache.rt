@@ -55,6 +55,8 @@ impl<M: EvictionManager, K> Model for Cache<M, K> {
 
     ghost view = { λ c. record { store = c.store.state; past = c.store.past; weighing = c.weighing; tracked = M.tracked c.manager; limits = M.limits c.manager; evicted = M.evicted c.manager; locks = c.lock.table; deeds = c.lock.past } };
 
+    // Facts of the store and of what is tracked, and of no events: a world's invariant speaks of
+    // its history, which a server has no room for.
     ghost invariant = { λ c. IsKept c.weighing (M.limits c.manager) (M.tracked c.manager) c.store.state × UnlocksNone c.lock.past };
 }
 
@@ -83,6 +85,7 @@ impl<M: EvictionManager, K> Cache<M, K> {
               deeds = [];
             } }
     {
+        // As in the Rust, whose limits bound the bodies alone.
         Cache::with_weighing(alloc, seed, manager, age_timeout, Weighing::Bodies)
     }
 
@@ -168,6 +171,9 @@ impl<M: EvictionManager, K> Cache<M, K> {
     pub fn may_end(&self, request: &CacheRequest<K>) -> bool
         ensures { IsTrue result ↔ MayEnd self.now.store request.now.cache }
     {
+        // A test of the store, since a fact about the store cannot be one of the request's type.
+        // Straight code does without it: the begin of a write and each piece say that it holds after
+        // them.
         request.cache.uses().eviction && is_own_write(&self.store, &request.cache)
     }
 }

@@ -54,6 +54,8 @@ impl<M: EvictionManager, K> Cache<M, K> {
         ensures takes { TakesIn result (C.says put.old.put.policy) put.old.put put.new.put
             (record { bytes = piece.now; now = now }) self.old self.new }
     {
+        // Two calls, so that a cache behind a lock can read the piece and ask the policy before it
+        // locks.
         let read = put.put.read_piece(piece, now);
         self.store_piece(put, read)
     }
@@ -86,6 +88,8 @@ impl<M: EvictionManager, K> Cache<M, K> {
         // number.
         let _writer = put.put.writer();
         let entering = Entering {
+            // As at the end of a request's write: an entry of a body that is gone would fill the
+            // limit.
             replaced: self.store.body_number(put.put.key()),
             weight: Some(put_weight(self.weighing, &self.store, &put.put)),
         };

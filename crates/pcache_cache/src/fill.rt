@@ -97,7 +97,10 @@ impl<M: EvictionManager, K> Cache<M, K> {
         // number.
         let writer = request.cache.writer();
         let entering = Entering {
+            // A body that is gone must not stay tracked: its entry would fill the limit, and fresh
+            // bodies would be evicted for it.
             replaced: replaced_by(&self.store, &request.cache),
+            // Asked of the store here: the end of a write only learns how long the body is.
             weight: Some(ending_weight(self.weighing, &self.store, writer)),
         };
         request.cache.finish_replacing(&mut self.store, &mut self.manager, &mut self.lock, entering)

@@ -55,6 +55,7 @@ impl<M: EvictionManager, K> Cache<M, K> {
         ensures gives { GivesByPast self.now.locks self.now.deeds }
         ensures fetches { OneFetchAtATime self.now.deeds }
     {
+        // Nothing runs here: a caller's proof can ask for these facts at any moment.
         self.store.headline();
         self.lock.headline();
     }
@@ -65,6 +66,7 @@ impl<M: EvictionManager, K> Cache<M, K> {
         ensures limits { M.limits result.now ≡ self.now.limits }
         ensures evicted { M.evicted result.now ≡ self.now.evicted }
     {
+        // Lent to be read only: a load now would track entries that no call brought in.
         &self.manager
     }
 
@@ -89,7 +91,8 @@ impl<M: EvictionManager, K> Cache<M, K> {
     pub fn is_kept(&self)
         ensures { IsKept self.now.weighing self.now.limits self.now.tracked self.now.store }
     {
-        // For the prover: once a field is used, the invariant is known.
+        // For the prover: a use of a field brings in the invariant, so `IsKept` of the store and of
+        // what is tracked.
         let _store = &self.store;
     }
 }

@@ -96,6 +96,8 @@ impl<M: EvictionManager, K> Cache<M, K> {
         ensures takes { TakesFound result status meta (reader_of hit) now request.old.cache
             request.new.cache self.old self.new }
     {
+        // Since the look-up the body may have gone, and its entry with it. A plain use would admit
+        // that entry again, with no body.
         request.cache.cache_found_tracked(
             &mut self.store,
             &mut self.manager,

@@ -42,6 +42,7 @@ impl<C: CachePut, K> PendingPut<C, K> {
     pub fn into_left(self) -> LeftWrite<K>
         ensures { result ≡ write_in self.put.stage }
     {
+        // The policy is dropped here, so that a cache behind a lock can drop it before it locks.
         let PendingPut { put, of: _ } = self;
         LeftWrite {
             writer: put.into_writer(),

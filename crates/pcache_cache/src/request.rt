@@ -14,6 +14,7 @@ use std::marker::PhantomData;
 /// A request of the cache with the mark `K`. Calls that need no part of the cache are those of `cache`, which is the request
 /// itself; the others are calls of the [`Cache`](crate::Cache) with this mark. It must be spent by `Cache::end`.
 pub struct CacheRequest<K> {
+    // Public, so that the calls which need no part of the cache are those of the request itself.
     /// The request itself.
     pub cache: HttpCache<MemCache>,
     of: PhantomData<K>,

@@ -86,6 +86,7 @@ fn admit_anew<M: EvictionManager>(
     ensures kind { IfErr result (λ e. e ≡ OutOfMemory) }
 {
     let Twice { entry, copy } = twice;
+    // An admission of a tracked entry sets its weight. No other call of a manager can lower one.
     match manager.admit(entry, weight, fresh_until) {
         Ok(evicted) => {
             let _failed = purge_all(store, evicted.as_slice());
@@ -93,6 +94,8 @@ fn admit_anew<M: EvictionManager>(
             Ok(())
         }
         Err(refused) => {
+            // The entry still has the weight of the old head, which is not what the store keeps
+            // now. The bound would be lost, so the body goes too.
             manager.remove(&copy);
             let _ = store.purge(PurgeTarget::Active(copy.key()), PurgeType::Invalidation);
             drop(copy);
@@ -130,11 +133,13 @@ fn set_of_body<M: EvictionManager>(
         }) }
     ensures limits { M.limits manager.new ≡ M.limits manager.old }
 {
+    // Before the admission: a refusal here leaves body and entry as they were.
     if let Err(refused) = store.update_meta(alloc, key, meta) {
         drop(twice);
         return Err(refused);
     }
     let weight = weight_at(weighing, store, key);
+    // Not admitted anew, since that would count as a use of the entry.
     if weight == before {
         drop(twice);
         return Ok(true);

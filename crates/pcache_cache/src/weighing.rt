@@ -28,6 +28,8 @@ pub(crate) fn weight_of(weighing: Weighing, lengths: (usize, usize)) -> usize
     match weighing {
         Weighing::Bodies => body,
         Weighing::Entries => {
+            // What the meta says beside its head is within `OVERHEAD` and not counted by its
+            // length. So an expiry, which writes it anew, changes no weight.
             let all = body as u128 + head as u128 + OVERHEAD as u128;
             usize::try_from(all).unwrap_or(usize::MAX)
         }

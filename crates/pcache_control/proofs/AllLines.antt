@@ -1,15 +1,8 @@
 -- The directives of a field's lines, one more line at a time.
-use Rattle.std.proofs.Common.{◌≡◌, ℕ, List, [], ◌∷◌, ◌++◌, Option, refl, sym, ap, ◌∙◌, append_assoc, append-nil, bytes_eq}
 use Rattle.std.specs.List.{AllZip}
-use Rattle.std.proofs.lemmas.List.Sums.{fold-append}
 use Rattle.std.proofs.lemmas.Slice.Zip.{all_zipped_more}
-use Rattle.http_header.specs.FieldValue.{FieldValue}
-use Rattle.indexmap.specs.IndexMap.{insert_all, insert_entry}
-use Rattle.pcache_control.specs.declared.key.DirectiveKey.{DirectiveKey}
-use Rattle.pcache_control.specs.declared.scan.Span.{Span}
-use Rattle.pcache_control.specs.declared.value.DirectiveValue.{DirectiveValue}
-use Rattle.pcache_control.specs.Directives.{AreDirectives}
-use Rattle.pcache_control.specs.Maps.{entries_of, directives_at, all_directives, by_name, lines_of, AreNamed, AreRead, AreReadOnce}
+use Rattle.pcache_control.specs.Maps.{all_directives, by_name, lines_of, AreNamed, AreRead, AreReadOnce}
+use Rattle.pcache_control.proofs.Words.{◌≡◌, ℕ, List, [], ◌∷◌, ◌++◌, Option, refl, sym, ap, ◌∙◌, append_assoc, append-nil, bytes_eq, fold-append, FieldValue, insert_all, insert_entry, DirectiveKey, Span, DirectiveValue, AreDirectives, entries_of, directives_at}
 use Rattle.pcache_control.proofs.Keys.{AreNamed-nil}
 use Rattle.pcache_control.proofs.Only.{directives_only}
 

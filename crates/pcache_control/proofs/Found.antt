@@ -1,18 +1,10 @@
 -- Looking a directive up.
-use Rattle.std.proofs.Common.{◌≡◌, ℕ, Bool, true, false, not, cond, List, [], ◌∷◌, All, Option, Some, refl, sym, ap, ◌∙◌}
-use Rattle.std.specs.Prelude.{◌&&◌, bytes_eq, is_some}
+use Rattle.std.specs.Prelude.{is_some}
 use Rattle.std.specs.Bool.{one_answer}
-use Rattle.std.specs.Map.{lookup}
-use Rattle.std.proofs.lemmas.Slice.Eq.{bytes_eq-Decides}
-use Rattle.std.proofs.lemmas.List.Elements.{All-head, All-tail}
-use Rattle.std.specs.Option.{option_map}
-use Rattle.pcache_control.specs.Names.{name_of, is_known, is_known_name}
-use Rattle.pcache_control.specs.Maps.{same_key, value_of, entries_of, AreNamed}
+use Rattle.pcache_control.specs.Maps.{AreNamed}
 use Rattle.pcache_control.specs.Control.{directive_given, has}
 use Rattle.pcache_control.specs.declared.cache_control.CacheControl.{CacheControl}
-use Rattle.pcache_control.specs.declared.key.DirectiveKey.{DirectiveKey}
-use Rattle.pcache_control.specs.declared.value.DirectiveValue.{DirectiveValue}
-use Rattle.pcache_control.specs.contracts.key.DirectiveKeyPartialEq.TheImpl.{eq-value}
+use Rattle.pcache_control.proofs.Words.{◌≡◌, ℕ, Bool, true, false, not, cond, List, [], ◌∷◌, All, Option, Some, refl, sym, ap, ◌∙◌, ◌&&◌, bytes_eq, lookup, bytes_eq-Decides, All-head, All-tail, option_map, name_of, is_known, is_known_name, same_key, value_of, entries_of, DirectiveKey, DirectiveValue, eq-value}
 use Rattle.pcache_control.proofs.Keys.{eq_is, same_named}
 
 pub lookup_is : {V : Type 0} (es : List (DirectiveKey × V)) (k : DirectiveKey) → lookup (eq-value.it k) es ≡ lookup (same_key k) es

@@ -1,15 +1,7 @@
 -- The derived equality of keys, and a map of keys seen by their names.
-use Rattle.std.proofs.Common.{◌≡◌, ℕ, Bool, true, false, not, cond, List, [], ◌∷◌, map, All, Option, refl, sym, ap, ◌∙◌}
-use Rattle.std.specs.Prelude.{◌&&◌, bytes_eq, if◌then◌else◌}
-use Rattle.std.proofs.lemmas.Slice.Eq.{bytes_eq-Decides}
-use Rattle.std.proofs.lemmas.List.Elements.{All-nil, All-cons, All-head, All-tail}
-use Rattle.indexmap.specs.IndexMap.{insert_entry}
-use Rattle.pcache_control.specs.Names.{name_of, is_known, is_known_name}
-use Rattle.pcache_control.specs.Maps.{same_key, value_of, entry_of, entries_of, AreNamed}
-use Rattle.pcache_control.specs.declared.key.DirectiveKey.{DirectiveKey}
+use Rattle.pcache_control.specs.Maps.{entry_of, AreNamed}
 use Rattle.pcache_control.specs.declared.key.DirectiveKey.TheVariants.{MaxAge, SMaxAge, NoCache, NoStore, Private, Public, MustRevalidate, ProxyRevalidate, MustUnderstand, NoTransform, Immutable, StaleWhileRevalidate, StaleIfError, OnlyIfCached, Unknown}
-use Rattle.pcache_control.specs.declared.value.DirectiveValue.{DirectiveValue}
-use Rattle.pcache_control.specs.contracts.key.DirectiveKeyPartialEq.TheImpl.{eq-value}
+use Rattle.pcache_control.proofs.Words.{◌≡◌, ℕ, Bool, true, false, not, cond, List, [], ◌∷◌, map, All, Option, refl, sym, ap, ◌∙◌, ◌&&◌, bytes_eq, if◌then◌else◌, bytes_eq-Decides, All-nil, All-cons, All-head, All-tail, insert_entry, name_of, is_known, is_known_name, same_key, value_of, entries_of, DirectiveKey, DirectiveValue, eq-value}
 
 -- the derived equality is the one that the definition gives
 pub eq_is : (k j : DirectiveKey) → eq-value.it k j ≡ same_key k j

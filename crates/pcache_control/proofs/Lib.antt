@@ -10,3 +10,4 @@ pub mod AllLines
 pub mod Found
 pub mod Stored
 pub mod Room
+pub mod Words

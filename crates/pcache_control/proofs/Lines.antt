@@ -1,11 +1,8 @@
 -- The directives of a line, and of all lines, one more at a time.
-use Rattle.std.proofs.Common.{◌≡◌, ℕ, ◌≤◌, List, [], ◌∷◌, ◌++◌, Option, Some, None, length, sym, ap, ◌∙◌, append_assoc, append-nil, bytes_eq}
 use Rattle.std.proofs.lemmas.List.Elements.{filter_map-append}
-use Rattle.std.proofs.lemmas.List.Sums.{fold-append}
-use Rattle.indexmap.specs.IndexMap.{insert_all, insert_entry}
-use Rattle.pcache_control.specs.declared.scan.Span.{Span}
-use Rattle.pcache_control.specs.Directives.{AreDirectives, AreDirectivesFrom, FindsNext, IsNextStart, IsDirective, LiesWithin, IsAdmitted}
-use Rattle.pcache_control.specs.Maps.{directive_of, directives_at}
+use Rattle.pcache_control.specs.Directives.{FindsNext, LiesWithin, IsAdmitted}
+use Rattle.pcache_control.specs.Maps.{directive_of}
+use Rattle.pcache_control.proofs.Words.{◌≡◌, ℕ, ◌≤◌, List, [], ◌∷◌, ◌++◌, Option, Some, None, length, sym, ap, ◌∙◌, append_assoc, append-nil, bytes_eq, fold-append, insert_all, insert_entry, Span, AreDirectives, AreDirectivesFrom, IsNextStart, IsDirective, directives_at}
 use Rattle.pcache_control.proofs.Only.{directives_only}
 
 pub next_line : (line : List ℕ) (it later : List ℕ × ℕ) (p : Span) → it.0 ≡ line → FindsNext it (Some p) later → later.0 ≡ line

@@ -1,9 +1,10 @@
 -- A list's items, from the first comma on.
-use Rattle.std.proofs.Common.{◌≡◌, ℕ, ◌+◌, ◌≤◌, Bool, true, false, not, cond, List, [], ◌∷◌, length, take, drop, map, position, Some, None, refl, ap, ◌∙◌, arith}
+use Rattle.std.proofs.Common.{position}
 use Rattle.std.specs.List.{slice_split, onto_first, position_or_len}
 use Rattle.std.proofs.lemmas.List.Splits.{slice_split_first}
 use Rattle.pcache_control.specs.Values.{is_comma, trim_ows, list_items}
 use borrow.Author.Tests.{ltb-true, ltb-false}
+use Rattle.pcache_control.proofs.Words.{◌≡◌, ℕ, ◌+◌, ◌≤◌, Bool, true, false, not, cond, List, [], ◌∷◌, length, take, drop, map, Some, None, refl, ap, ◌∙◌, arith}
 
 some_of : (b : Bool) (n m : ℕ) → cond b (Some n) None ≡ Some m → (b ≡ true) × (n ≡ m)
 some_of true n m e = (refl, (cc))

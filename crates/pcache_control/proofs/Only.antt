@@ -1,9 +1,6 @@
 -- A line has one list of directives.
-use Rattle.std.proofs.Common.{◌≡◌, ℕ, ◌+◌, ◌≤◌, inl, inr, false, List, [], ◌∷◌, slice_index, Option, Some, None, refl, sym, ap, ◌∙◌, arith}
-use Rattle.std.proofs.lemmas.Bool.{cases_lt}
-use Rattle.pcache_control.specs.Bytes.{is_token_byte}
-use Rattle.pcache_control.specs.Directives.{IsTokenAt, IsLongestRun, IsNextStart, IsText, HasValue, EndsWith, IsDirective, AreDirectivesFrom}
-use Rattle.pcache_control.specs.declared.scan.Span.{Span}
+use Rattle.pcache_control.specs.Directives.{EndsWith}
+use Rattle.pcache_control.proofs.Words.{◌≡◌, ℕ, ◌+◌, ◌≤◌, inl, inr, false, List, [], ◌∷◌, slice_index, Option, Some, None, refl, sym, ap, ◌∙◌, arith, cases_lt, is_token_byte, IsTokenAt, IsLongestRun, IsNextStart, IsText, HasValue, IsDirective, AreDirectivesFrom, Span}
 use Rattle.pcache_control.proofs.Quotes.{closed_once}
 use Rattle.pcache_control.proofs.Starts.{clash}
 

@@ -1,14 +1,14 @@
 -- Where a quoted text is closed: as a scan finds it, byte by byte, and as it is defined.
-use Rattle.std.proofs.Common.{◌≡◌, ◌≢◌, ℕ, suc, get_or, ◌+◌, ◌<◌, ◌≤◌, inl, inr, Bool, true, false, cond, List, [], ◌∷◌, ◌++◌, length, drop, Option, Some, None, refl, sym, ap, subst, ◌∙◌, append_assoc, arith, length-append, length-drop}
-use Rattle.std.specs.Prelude.{All, ◌==◌, if◌then◌else◌}
+use Rattle.std.proofs.Common.{suc, length-append, length-drop}
+use Rattle.std.specs.Prelude.{◌==◌}
 use Rattle.std.specs.List.{flat_map}
 use Rattle.std.proofs.lemmas.Bool.{eqb-true, eqb-false, ne_eqb}
 use Rattle.std.proofs.lemmas.List.Concat.{flat_map-cons}
-use Rattle.std.proofs.lemmas.List.Elements.{All-nil, All-cons, All-head, All-tail}
 use Rattle.std.proofs.lemmas.Option.{same_Some}
 use Rattle.std.proofs.Math.Seq.{drop-cons}
 use Rattle.std.proofs.lemmas.List.{nil_from_length}
-use Rattle.pcache_control.specs.Directives.{IsTokenAt, IsLongestRun, IsText, HasValue, IsUnit, IsClosed}
+use Rattle.pcache_control.specs.Directives.{IsUnit, IsClosed}
+use Rattle.pcache_control.proofs.Words.{◌≡◌, ◌≢◌, ℕ, get_or, ◌+◌, ◌<◌, ◌≤◌, inl, inr, Bool, true, false, cond, List, [], ◌∷◌, ◌++◌, length, drop, Option, Some, None, refl, sym, ap, subst, ◌∙◌, append_assoc, arith, All, if◌then◌else◌, All-nil, All-cons, All-head, All-tail, IsTokenAt, IsLongestRun, IsText, HasValue}
 
 -- the index after the quote that closes a text, from index `at` on; a backslash takes the next byte along
 abbrev pub quote_end : Bool → ℕ → List ℕ → Option ℕ

@@ -1,14 +1,10 @@
 -- How many fields a request has once it asks by those that are stored.
-use Rattle.std.proofs.Common.{◌≡◌, ℕ, ◌+◌, ◌<◌, ◌≤◌, Bool, true, false, cond, List, [], ◌∷◌, length, Option, Some, None, Result, Ok, Err, refl, sym, ap, ◌∙◌, arith, inl, inr, bytes_eq}
-use Rattle.std.specs.Prelude.{◌≢◌, All, OnOk, IsErr, codes}
-use Rattle.std.proofs.lemmas.List.Elements.{All-head, All-tail}
-use Rattle.http_header.specs.FieldValue.{FieldValue}
-use Rattle.http_header.specs.HeaderMap.{Entry, Entries, insert, get_all, value_count, IsHeaderMap}
+use Rattle.std.specs.Prelude.{IsErr}
+use Rattle.http_header.specs.HeaderMap.{Entry, insert, value_count, IsHeaderMap}
 use Rattle.http_header.proofs.HeaderMapLemmas.{get_all-insert_other}
-use Rattle.pcache_base.specs.declared.error.ErrorType.{ErrorType}
-use Rattle.pcache_meta.specs.Header.{Fields}
 use Rattle.pcache_meta.proofs.HeaderMaps.{count_cons}
-use Rattle.pcache_control.specs.Requests.{as_number, bytes_of, with_field, LacksRoom, AsksSince, AsksUnlike}
+use Rattle.pcache_control.specs.Requests.{as_number}
+use Rattle.pcache_control.proofs.Words.{◌≡◌, ℕ, ◌+◌, ◌<◌, ◌≤◌, Bool, true, false, cond, List, [], ◌∷◌, length, Option, Some, None, Result, Ok, Err, refl, sym, ap, ◌∙◌, arith, inl, inr, bytes_eq, ◌≢◌, All, OnOk, codes, All-head, All-tail, FieldValue, Entries, get_all, ErrorType, Fields, bytes_of, with_field, LacksRoom, AsksSince, AsksUnlike}
 
 -- the map is one name and one value longer
 abbrev Grown : Entries FieldValue → Entries FieldValue → ℕ → Type 0

@@ -1,8 +1,8 @@
 -- Where a directive may start.
-use Rattle.std.proofs.Common.{◌≡◌, ℕ, ◌+◌, ◌≤◌, inl, inr, Bool, true, false, List, slice_index, refl, arith, ltb}
-use Rattle.std.proofs.lemmas.Bool.{cases_lt, le-ltb}
-use Rattle.pcache_control.specs.Bytes.{is_token_byte, is_white_space}
-use Rattle.pcache_control.specs.Directives.{IsTokenAt, IsWhiteSpaceRun, Leads}
+use Rattle.std.proofs.Common.{ltb}
+use Rattle.std.proofs.lemmas.Bool.{le-ltb}
+use Rattle.pcache_control.specs.Directives.{IsWhiteSpaceRun}
+use Rattle.pcache_control.proofs.Words.{◌≡◌, ℕ, ◌+◌, ◌≤◌, inl, inr, Bool, true, false, List, slice_index, refl, arith, cases_lt, is_token_byte, is_white_space, IsTokenAt, Leads}
 
 -- a test does not go both ways
 pub clash : (b : Bool) → b ≡ true → b ≡ false → ⊥

@@ -1,11 +1,9 @@
 -- A field of a stored response, as its meta shows it.
-use Rattle.std.proofs.Common.{◌≡◌, ℕ, Bool, true, false, cond, List, [], ◌∷◌, map, Option, Some, None, Result, Ok, Err, refl, ap, ◌∙◌, bytes_eq}
-use Rattle.std.specs.Prelude.{slice_get, codes, OnOk}
-use Rattle.http_header.specs.FieldValue.{FieldValue}
-use Rattle.http_header.specs.HeaderMap.{Entries, get, get_all}
-use Rattle.pcache_meta.specs.Header.{Fields, shown_fields}
-use Rattle.pcache_base.specs.declared.error.ErrorType.{ErrorType}
-use Rattle.pcache_control.specs.Requests.{values_in, first_in, bytes_of, with_field, AsksSince, AsksUnlike}
+use Rattle.std.specs.Prelude.{slice_get}
+use Rattle.http_header.specs.HeaderMap.{get}
+use Rattle.pcache_meta.specs.Header.{shown_fields}
+use Rattle.pcache_control.specs.Requests.{values_in, first_in}
+use Rattle.pcache_control.proofs.Words.{◌≡◌, ℕ, Bool, true, false, cond, List, [], ◌∷◌, map, Option, Some, None, Result, Ok, Err, refl, ap, ◌∙◌, bytes_eq, codes, OnOk, FieldValue, Entries, get_all, Fields, ErrorType, bytes_of, with_field, AsksSince, AsksUnlike}
 
 values_pick : (b : Bool) (xs ys : List FieldValue) (zs : List (List ℕ)) → map (λ (v : FieldValue). v.bytes) ys ≡ zs
     → map (λ (v : FieldValue). v.bytes) (cond b xs ys) ≡ cond b (map (λ (v : FieldValue). v.bytes) xs) zs

@@ -21,7 +21,7 @@ use http_header::{GetAll, HeaderMap, HeaderValue};
 use indexmap::IndexMap;
 use pcache_base::error::Result;
 use pcache_meta::header::{ReqHeader, RespHeader};
-use std::alloc::Global;
+use std::alloc::{AllocError, Global};
 
 /// Directives by name, in the order of their first occurrences, with their last values. A directive
 /// without a value has `None`. The key of its hasher is made of the lines that were read, since the
@@ -29,11 +29,10 @@ use std::alloc::Global;
 pub type DirectiveMap = IndexMap<DirectiveKey, Option<DirectiveValue>, NameHasher>;
 
 // The key of the name that these bytes are, in upper or lower case; `None` if they are not UTF-8.
-fn key_of(alloc: Global, name: &[u8]) -> Result<Option<DirectiveKey>>
+fn key_of(alloc: Global, name: &[u8]) -> Result<Option<DirectiveKey>, AllocError>
     ensures ok { IfOk result (λ key.
         MatchOption key (is_utf8 name.now ≡ false) (IsNamed (str_to_ascii_lowercase name.now))) }
     ensures text { IfOk result (λ key. IfSome key (λ _. is_utf8 name.now ≡ true)) }
-    ensures kind { IfErr result (λ e. e ≡ OutOfMemory) }
 {
     let Ok(text) = str::from_utf8(name) else {
         return Ok(None);
@@ -48,11 +47,10 @@ fn value_at(
     alloc: Global,
     line: &[u8],
     place: Option<(usize, usize)>,
-) -> Result<Option<DirectiveValue>>
+) -> Result<Option<DirectiveValue>, AllocError>
     requires { IfSome place (λ v. (v.0 ≤ v.1) × (v.1 ≤ length line.now)) }
     ensures ok { IfOk result (λ value.
         value_of value ≡ option_map (λ v. slice_range line.now v.0 v.1) place) }
-    ensures kind { IfErr result (λ e. e ≡ OutOfMemory) }
 {
     match place {
         Some((start, end)) => Ok(Some(DirectiveValue(Vec::from_slice(alloc, &line[start..end])?))),
@@ -65,13 +63,12 @@ fn add(
     directives: &mut DirectiveMap,
     key: DirectiveKey,
     value: Option<DirectiveValue>,
-) -> Result<()>
+) -> Result<(), AllocError>
     requires { is_known key ≡ is_known_name (name_of key) }
     ensures added { OnOk result (AreNamed directives.old.entries →
         Adds directives.old.entries ((name_of key, value_of value) ∷ []) directives.new.entries) }
     ensures named { OnOk result (AreNamed directives.old.entries
         → AreNamed directives.new.entries) }
-    ensures kind { IfErr result (λ e. e ≡ OutOfMemory) }
 {
     directives.insert(key, value)?;
     Ok(())
@@ -83,13 +80,12 @@ fn add_directive(
     directives: &mut DirectiveMap,
     line: &[u8],
     span: Span,
-) -> Result<()>
+) -> Result<(), AllocError>
     requires { LiesWithin (length line.now) span }
     ensures added { OnOk result (AreNamed directives.old.entries →
         Adds directives.old.entries (directives_at line.now (span ∷ [])) directives.new.entries) }
     ensures named { OnOk result (AreNamed directives.old.entries
         → AreNamed directives.new.entries) }
-    ensures kind { IfErr result (λ e. e ≡ OutOfMemory) }
 {
     let Some(key) = key_of(alloc, &line[span.start..span.name_end])? else {
         return Ok(());
@@ -99,14 +95,13 @@ fn add_directive(
 }
 
 // Adds the directives of a line, from left to right.
-fn add_line(alloc: Global, directives: &mut DirectiveMap, line: &[u8]) -> Result<()>
+fn add_line(alloc: Global, directives: &mut DirectiveMap, line: &[u8]) -> Result<(), AllocError>
     ensures added { OnOk result (AreNamed directives.old.entries →
         (spans : List Span) → AreDirectives line.now spans →
         Adds directives.old.entries (directives_at line.now spans) directives.new.entries) }
     ensures there { OnOk result ((spans : List Span) × AreDirectives line.now spans) }
     ensures named { OnOk result (AreNamed directives.old.entries
         → AreNamed directives.new.entries) }
-    ensures kind { IfErr result (λ e. e ≡ OutOfMemory) }
 {
     'spans: for span in Directives::new(line) {
         add_directive(alloc, directives, line, span)?;
@@ -128,11 +123,10 @@ fn from_lines(
     alloc: Global,
     names: NameHasher,
     lines: GetAll<'_, HeaderValue>,
-) -> Result<DirectiveMap>
+) -> Result<DirectiveMap, AllocError>
     ensures read { IfOk result (λ directives. AreRead (lines_of lines.entry) directives.entries) }
     ensures only { IfOk result (λ directives.
         AreReadOnce (lines_of lines.entry) directives.entries) }
-    ensures kind { IfErr result (λ e. e ≡ OutOfMemory) }
 {
     let mut directives = IndexMap::with_hasher(alloc, names);
     'lines: for line in lines {

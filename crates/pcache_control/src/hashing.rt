@@ -34,6 +34,8 @@ impl NameHasher {
     pub fn keyed_by(lines: GetAll<'_, HeaderValue>) -> NameHasher
         ensures { result ≡ keyed_by lines.entry }
     {
+        // By a cryptographic hash, so that lines cannot be steered towards a key that is known. A
+        // usual line is one or two blocks of it.
         let mut message = blake2b::Hasher::new();
         'lines: for line in lines {
             message.update(line.as_bytes());

@@ -133,6 +133,8 @@ fn without_old_age(brought: &HeaderMap, updated: HeaderMap) -> HeaderMap
         return updated;
     }
     let mut headers = updated;
+    // The age counts from the 304 on (RFC 9111 section 4.2.3), and the old Age would make what was
+    // freshened look older than it is.
     let _removed = headers.remove("age");
     headers
 }
@@ -190,6 +192,8 @@ fn freshened_to(
         (FailsToUpdate rules.now.kind validated.now response.now.headers) }
 {
     let kept = updated_by(rules, validated, response, received)?;
+    // By the same gates as a full response: with `no-store` in the 304 or the request, what it
+    // updates answers this request alone.
     let storing = stores(rules.kind, request, &kept.head);
     let answer = answer_of(request, &kept.head, received);
     Ok(Freshened {
@@ -226,6 +230,8 @@ fn by_304(
 {
     let stored = &validated.stored.head.headers;
     if !identifies(&response.headers, stored, validated.alone) {
+        // Its client asked without a condition, so that the 304 cannot be passed on (section
+        // 4.3.4).
         return Ok(Outcome::FetchAgain);
     }
     let freshened = freshened_to(rules, request, validated, response, received)?;

@@ -1,22 +1,9 @@
 -- Shards in the order in which they give up their entries.
-use Rattle.std.proofs.Common.{◌≡◌, ℕ, zero, suc, ◌+◌, ◌-◌, ◌<◌, ◌≤◌, true, false, cond, not, Option, None, Some, is_some, List, [], ◌∷◌, ◌++◌, refl, ap, sym, subst, ◌∙◌, arith, length, append_assoc, length-append, inl, inr}
-use Rattle.std.specs.Prelude.{IsSome, IfSome, IfNone, slice_set, slice_index_or}
-use Rattle.std.specs.List.{AllByRecursion, IsDistinct}
-use Rattle.std.specs.Map.{keys_of}
-use Rattle.std.proofs.lemmas.Bool.{cases_eq, cases_lt}
-use Rattle.std.proofs.lemmas.List.{get_or-set_same, get_or-set_other}
-use Rattle.std.proofs.lemmas.List.Elements.{filter-append}
-use Rattle.std.proofs.lemmas.List.Sums.{sum_by-append}
-use Rattle.std.proofs.lemmas.Map.{length-set_value}
-use Rattle.std.proofs.lemmas.Map.Keys.{IsDistinct-tail}
-use Rattle.pcache_evict.specs.declared.eviction.entry_key.CacheEntryKey.{CacheEntryKey}
-use Rattle.pcache_evict.specs.declared.eviction.recency.Walk.{Walk}
-use Rattle.pcache_evict.specs.Entry.{entry_eq}
-use Rattle.pcache_evict.specs.Tracked.{Limits}
-use Rattle.pcache_evict.specs.Recency.{Recency, weight, weight_of, others, moved, IsWithinAsList}
-use Rattle.pcache_evict.specs.Listed.{IsOnce, IsEnough}
-use Rattle.pcache_evict.specs.Shards.{ArePlaced, AreKept, RunsOut, all, list_at, shard_of, in_shard, reweighed}
-use Rattle.pcache_evict.specs.Chain.{span, chain, Pops, IsWithinTotals, Walks, RoomFor, IsFirst, IsFirstFrom}
+use Rattle.std.specs.Prelude.{IfNone}
+use Rattle.std.specs.List.{IsDistinct}
+use Rattle.pcache_evict.specs.Recency.{weight}
+use Rattle.pcache_evict.specs.Chain.{Pops, IsWithinTotals, RoomFor, IsFirst, IsFirstFrom}
+use Rattle.pcache_evict.proofs.Words.{◌≡◌, ℕ, zero, suc, ◌+◌, ◌-◌, ◌<◌, ◌≤◌, true, false, cond, not, Option, None, Some, is_some, List, [], ◌∷◌, ◌++◌, refl, ap, sym, subst, ◌∙◌, arith, length, append_assoc, length-append, inl, inr, IsSome, IfSome, slice_set, slice_index_or, AllByRecursion, keys_of, cases_eq, cases_lt, get_or-set_same, get_or-set_other, filter-append, sum_by-append, length-set_value, IsDistinct-tail, CacheEntryKey, Walk, entry_eq, Limits, Recency, weight_of, others, moved, IsWithinAsList, IsOnce, IsEnough, ArePlaced, AreKept, RunsOut, all, list_at, shard_of, in_shard, reweighed, span, chain, Walks}
 use Rattle.pcache_evict.proofs.Recency.{distinct-front, length-others, others-none, weight-moved}
 use Rattle.pcache_evict.proofs.Reweighs.{weight-reweighed}
 use Rattle.pcache_evict.proofs.Walks.{append_nil, Walking}

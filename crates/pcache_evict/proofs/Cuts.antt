@@ -1,19 +1,11 @@
 -- Entries put at the back of lists, and taken off again; a list copied from its end.
-use Rattle.std.proofs.Common.{◌≡◌, ℕ, zero, suc, ◌+◌, ◌-◌, ◌<◌, ◌≤◌, ◌^◌, true, false, cond, None, Some, is_some, List, [], ◌∷◌, ◌++◌, refl, ap, sym, subst, ◌∙◌, arith, length, take, All, append_assoc, length-append, inl, inr}
-use Rattle.std.specs.Prelude.{Err, Ok, OnErr, Result, slice_set, slice_index_or}
-use Rattle.std.specs.List.{IsDistinct, AllByRecursion}
-use Rattle.std.specs.Map.{keys_of}
-use Rattle.std.proofs.lemmas.Bool.{cases_eq}
-use Rattle.std.proofs.lemmas.List.{append-nil, get_or-set_same, get_or-set_other, length-set, length-take, take_all, take_at, take-take, same_lists, get_or_default, get_or_append_left, set-get_or}
+use Rattle.std.specs.Prelude.{Err, Ok, OnErr, Result}
+use Rattle.std.specs.List.{IsDistinct}
+use Rattle.std.proofs.lemmas.List.{append-nil, length-take, take-take, same_lists, get_or_append_left, set-get_or}
 use Rattle.std.proofs.Math.Seq.{get_or-append_seam}
-use Rattle.std.proofs.lemmas.List.Elements.{All-append, All-nil, All-cons}
-use Rattle.std.proofs.lemmas.List.Sums.{sum_by-cons, sum_by-append}
-use Rattle.std.proofs.lemmas.Map.Keys.{IsDistinct-head, IsDistinct-tail}
-use Rattle.pcache_evict.specs.declared.eviction.entry_key.CacheEntryKey.{CacheEntryKey}
-use Rattle.pcache_evict.specs.Entry.{entry_eq}
-use Rattle.pcache_evict.specs.Recency.{Recency, weight, weight_of, moved}
-use Rattle.pcache_evict.specs.Listed.{IsOnce}
-use Rattle.pcache_evict.specs.Shards.{IsShard, ArePlaced, AreKept, AreLengths, AreLonger, all, list_at, shard_of, in_shard, added_last, added_last_all}
+use Rattle.pcache_evict.specs.Recency.{weight}
+use Rattle.pcache_evict.specs.Shards.{added_last}
+use Rattle.pcache_evict.proofs.Words.{◌≡◌, ℕ, zero, suc, ◌+◌, ◌-◌, ◌<◌, ◌≤◌, ◌^◌, true, false, cond, None, Some, is_some, List, [], ◌∷◌, ◌++◌, refl, ap, sym, subst, ◌∙◌, arith, length, take, All, append_assoc, length-append, inl, inr, slice_set, slice_index_or, AllByRecursion, keys_of, cases_eq, get_or-set_same, get_or-set_other, length-set, take_all, take_at, get_or_default, All-append, All-nil, All-cons, sum_by-cons, sum_by-append, IsDistinct-head, IsDistinct-tail, CacheEntryKey, entry_eq, Recency, weight_of, moved, IsOnce, IsShard, ArePlaced, AreKept, AreLengths, AreLonger, all, list_at, shard_of, in_shard, added_last_all}
 use Rattle.pcache_evict.proofs.Recency.{all_apart, laws, same_key}
 use Rattle.pcache_evict.proofs.Sharded.{E, at_home, both, each-put, in_range, kept-popped, length-around, once-append, placed-put, read_at, weight-around}
 

@@ -1,14 +1,11 @@
 -- Keys of entries that compare alike are one, and `==` is a tie in their order.
-use Rattle.std.proofs.Common.{◌≡◌, ℕ, Option, None, Some, is_some, List, refl, ap, sym, ◌∙◌}
-use Rattle.std.specs.declared.cmp.Ordering.{Ordering}
-use Rattle.std.specs.declared.cmp.Ordering.TheVariants.{Less, Equal, Greater}
-use Rattle.std.specs.Ordering.{nat_cmp, bool_cmp, ordering_then, eq_by_cmp}
+use Rattle.std.specs.Ordering.{nat_cmp, bool_cmp, ordering_then}
 use Rattle.std.specs.Option.{option_cmp}
 use Rattle.std.specs.Cmp.Lexicographic.{slice_cmp}
 use Rattle.std.proofs.lemmas.Map.Lookups.{CmpEqualImpliesEq, exact_pairs, exact_unsigned, exact_bytes}
-use Rattle.pcache_evict.specs.declared.eviction.entry_key.CacheEntryKey.{CacheEntryKey}
 use Rattle.pcache_evict.specs.declared.eviction.entry_key.CacheEntryKey.TheVariants.{KeyOnly, Identified}
-use Rattle.pcache_evict.specs.Entry.{key_of, id_of, entry_cmp, entry_eq, entry_ties}
+use Rattle.pcache_evict.specs.Entry.{key_of, id_of}
+use Rattle.pcache_evict.proofs.Words.{◌≡◌, ℕ, Option, None, Some, is_some, List, refl, ap, sym, ◌∙◌, Ordering, Less, Equal, Greater, eq_by_cmp, CacheEntryKey, entry_cmp, entry_eq, entry_ties}
 
 exact_options : {X : Type 0} {R : X → X → Ordering} → CmpEqualImpliesEq R → CmpEqualImpliesEq (option_cmp R)
 exact_options x None None h = refl

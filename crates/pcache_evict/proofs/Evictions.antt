@@ -1,15 +1,9 @@
 -- One more eviction.
-use Rattle.std.proofs.Common.{◌≡◌, ℕ, Bool, true, false, cond, Option, None, is_some, IsTrue, All, List, [], ◌∷◌, ◌++◌, refl, ap, sym, subst, ◌∙◌, arith, length, inl, inr}
-use Rattle.std.specs.List.{list_any, IsDistinct}
-use Rattle.std.specs.Ordering.{eq_by_cmp}
-use Rattle.std.specs.Cmp.{eq_by_cmp_equiv}
-use Rattle.std.specs.FinMap as map
-use Rattle.std.proofs.lemmas.Bool.{both_ways, or_cases}
-use Rattle.std.proofs.lemmas.List.Elements.{All-push, All-nil}
+use Rattle.std.specs.List.{IsDistinct}
+use Rattle.std.proofs.lemmas.Bool.{or_cases}
 use Rattle.std.proofs.lemmas.Map.Keys.{IsDistinct-push}
-use Rattle.pcache_evict.specs.declared.eviction.entry_key.CacheEntryKey.{CacheEntryKey}
-use Rattle.pcache_evict.specs.Entry.{entry_cmp, entries_total}
-use Rattle.pcache_evict.specs.Tracked.{Tracked, Limits, IsWithin, without}
+use Rattle.pcache_evict.proofs.Words.{◌≡◌, ℕ, Bool, true, false, cond, Option, None, is_some, IsTrue, All, List, [], ◌∷◌, ◌++◌, refl, ap, sym, subst, ◌∙◌, arith, length, inl, inr, list_any, eq_by_cmp, eq_by_cmp_equiv, both_ways, All-push, All-nil, CacheEntryKey, entry_cmp, entries_total, Tracked, Limits, IsWithin, without}
+use Rattle.std.specs.FinMap as map
 
 -- what was evicted so far from a map
 pub record Gone (limits : Limits) (m : Tracked) (out : List CacheEntryKey) : Type 0 where

@@ -1,12 +1,10 @@
 -- An eviction that is fair takes nothing while the limits hold.
-use Rattle.std.proofs.Common.{◌≡◌, ℕ, ◌+◌, ◌≤◌, Option, None, Some, List, [], ◌∷◌, ◌++◌, IfSome, refl, ap, arith}
 use Rattle.std.specs.FinMap.{get, len, remove}
 use Rattle.pcache_base.proofs.Totals.{len-total, total-remove}
 use Rattle.pcache_base.specs.Totals.{share, total}
+use Rattle.pcache_evict.specs.Tracked.{weight}
+use Rattle.pcache_evict.proofs.Words.{◌≡◌, ℕ, ◌+◌, ◌≤◌, Option, None, Some, List, [], ◌∷◌, ◌++◌, IfSome, refl, ap, arith, entries_total, IsFair, IsWithin, Limits, Tracked, without, CacheEntryKey}
 use Rattle.pcache_evict.proofs.EntryOrder.{exact_entries}
-use Rattle.pcache_evict.specs.Entry.{entries_total}
-use Rattle.pcache_evict.specs.Tracked.{IsFair, IsWithin, Limits, Tracked, weight, without}
-use Rattle.pcache_evict.specs.declared.eviction.entry_key.CacheEntryKey.{CacheEntryKey}
 
 -- what is left of a map adds up to no more
 shrinks : (f : ℕ → ℕ) (out : List CacheEntryKey) (m : Tracked) → total f (without out m) ≤ total f m

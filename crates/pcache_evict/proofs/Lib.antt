@@ -12,3 +12,4 @@ pub mod Sharded
 pub mod TrackedMaps
 pub mod Walks
 pub mod Raised
+pub mod Words

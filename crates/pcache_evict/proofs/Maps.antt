@@ -1,21 +1,13 @@
 -- A recency list seen as a finite map.
-use Rattle.std.proofs.Common.{◌≡◌, ℕ, ◌+◌, ◌-◌, ◌^◌, min, ◌<◌, ◌≤◌, Bool, true, false, cond, not, None, Some, is_some, List, [], ◌∷◌, ◌++◌, map, reverse, refl, ap, sym, subst, ◌∙◌, arith, length, append_assoc, unwrap_or}
-use Rattle.std.specs.Prelude.{IfSome}
-use Rattle.std.specs.List.{sum_by, IsDistinct, AllByRecursion}
-use Rattle.std.specs.Map.{keys_of}
-use Rattle.std.specs.Ordering.{eq_by_cmp}
-use Rattle.std.specs.FinMap as fin
-use Rattle.std.proofs.lemmas.List.{reverse-append}
-use Rattle.std.proofs.lemmas.List.Sums.{sum_by-cons, sum_by-append}
-use Rattle.std.proofs.lemmas.Map.Keys.{IsDistinct-head, IsDistinct-tail}
-use Rattle.pcache_evict.specs.declared.eviction.entry_key.CacheEntryKey.{CacheEntryKey}
-use Rattle.pcache_evict.specs.Entry.{entry_eq, entry_cmp, entries_total, entry_ties}
-use Rattle.pcache_evict.proofs.EntryOrder.{exact_entries, same_test}
+use Rattle.std.proofs.Common.{map}
+use Rattle.std.specs.List.{sum_by, IsDistinct}
 use Rattle.pcache_base.proofs.Totals.{made-total, made-len}
-use Rattle.pcache_evict.specs.Tracked.{Tracked, Limits, IsWithin, IsFair, without, added, weight_in, evicted_with}
+use Rattle.pcache_evict.specs.Recency.{weight, Evicts}
+use Rattle.pcache_evict.specs.Listed.{Moves}
+use Rattle.pcache_evict.proofs.Words.{◌≡◌, ℕ, ◌+◌, ◌-◌, ◌^◌, min, ◌<◌, ◌≤◌, Bool, true, false, cond, not, None, Some, is_some, List, [], ◌∷◌, ◌++◌, reverse, refl, ap, sym, subst, ◌∙◌, arith, length, append_assoc, unwrap_or, IfSome, AllByRecursion, keys_of, eq_by_cmp, reverse-append, sum_by-cons, sum_by-append, IsDistinct-head, IsDistinct-tail, CacheEntryKey, entry_eq, entry_cmp, entries_total, entry_ties, Tracked, Limits, IsWithin, IsFair, without, added, weight_in, evicted_with, Recency, weight_of, others, moved, accessed, IsWithinAsList, Listed, map_of, IsOnce}
+use Rattle.std.specs.FinMap as fin
+use Rattle.pcache_evict.proofs.EntryOrder.{exact_entries, same_test}
 use Rattle.pcache_evict.specs.Tracked as tracked
-use Rattle.pcache_evict.specs.Recency.{Recency, weight, weight_of, others, moved, accessed, IsWithinAsList, Evicts}
-use Rattle.pcache_evict.specs.Listed.{Listed, Moves, map_of, IsOnce}
 use Rattle.pcache_evict.proofs.Evictions.{Gone, gone-none, gone-more, without-push}
 use Rattle.pcache_evict.proofs.Recency.{same_key, laws, distinct-front}
 

@@ -1,9 +1,7 @@
 -- What one look-up gives: the weight of the others, and how much heavier a change makes a list.
-use Rattle.std.proofs.Common.{◌≡◌, ℕ, ◌+◌, ◌-◌, ◌≤◌, true, Option, None, Some, is_some, cond, unwrap_or, [], refl, ap, sym, subst, arith, length, append-nil}
-use Rattle.pcache_evict.specs.declared.eviction.entry_key.CacheEntryKey.{CacheEntryKey}
-use Rattle.pcache_evict.specs.Tracked.{Limits, raised}
-use Rattle.pcache_evict.specs.Recency.{Recency, weight, weight_of, others, moved, incremented, IsWithinAsList}
-use Rattle.pcache_evict.specs.Listed.{IsEnough, IsOnce}
+use Rattle.std.proofs.Common.{append-nil}
+use Rattle.pcache_evict.specs.Recency.{weight}
+use Rattle.pcache_evict.proofs.Words.{◌≡◌, ℕ, ◌+◌, ◌-◌, ◌≤◌, true, Option, None, Some, is_some, cond, unwrap_or, [], refl, ap, sym, subst, arith, length, CacheEntryKey, Limits, raised, Recency, weight_of, others, moved, incremented, IsWithinAsList, IsEnough, IsOnce}
 use Rattle.pcache_evict.proofs.Recency.{weight-others, length-others, weight-moved}
 
 -- what the others weigh is what is left without the entry's own weight

@@ -1,23 +1,16 @@
 -- Lists of entries: an entry removed, moved to the front.
-use Rattle.std.proofs.Common.{◌≡◌, ℕ, zero, suc, ◌+◌, ◌-◌, ◌<◌, ◌≤◌, ◌^◌, true, false, cond, not, Option, None, Some, is_some, option_map, unwrap_or, [], ◌∷◌, ◌++◌, refl, ap, sym, subst, ◌∙◌, arith, length, length-append, take, All}
-use Rattle.std.specs.Prelude.{IfSome, IsSome}
-use Rattle.std.specs.Cmp.{IsEquivalence, eq_by_cmp_equiv}
-use Rattle.std.specs.List.{IsDistinct, AllByRecursion, slice_get}
+use Rattle.std.proofs.Common.{option_map}
+use Rattle.std.specs.Cmp.{IsEquivalence}
+use Rattle.std.specs.List.{IsDistinct, slice_get}
 use Rattle.std.specs.Option.{option_map_or}
-use Rattle.std.specs.Map.{lookup, lookup_entry, remove_entry, set_value, keys_of}
+use Rattle.std.specs.Map.{lookup, lookup_entry, remove_entry, set_value}
 use Rattle.std.specs.Ordering.{is_eq}
-use Rattle.std.specs.declared.cmp.Ordering.{Ordering}
-use Rattle.std.specs.declared.cmp.Ordering.TheVariants.{Less, Equal, Greater}
-use Rattle.std.proofs.lemmas.List.{take_all}
-use Rattle.std.proofs.lemmas.List.Elements.{All-filter, All-cons, All-head, All-tail, All-take, All-push}
-use Rattle.std.proofs.lemmas.List.Sums.{sum_by-cons, sum_by-le, sum_by-append}
-use Rattle.std.proofs.lemmas.Map.Keys.{IsDistinct-head, IsDistinct-tail, IsDistinct-cons}
-use Rattle.lru.specs.LruCache.{LruCache, put_entries, promoted, demoted, lru_cache, last_entry}
-use Rattle.pcache_evict.specs.declared.eviction.entry_key.CacheEntryKey.{CacheEntryKey}
-use Rattle.pcache_evict.specs.Entry.{entry_eq, entries_total, entry_ties}
+use Rattle.std.proofs.lemmas.List.Elements.{All-take}
+use Rattle.std.proofs.lemmas.List.Sums.{sum_by-le}
+use Rattle.lru.specs.LruCache.{put_entries, promoted, last_entry}
+use Rattle.pcache_evict.specs.Recency.{weight}
+use Rattle.pcache_evict.proofs.Words.{◌≡◌, ℕ, zero, suc, ◌+◌, ◌-◌, ◌<◌, ◌≤◌, ◌^◌, true, false, cond, not, Option, None, Some, is_some, unwrap_or, [], ◌∷◌, ◌++◌, refl, ap, sym, subst, ◌∙◌, arith, length, length-append, take, All, IfSome, IsSome, eq_by_cmp_equiv, AllByRecursion, keys_of, Ordering, Less, Equal, Greater, take_all, All-filter, All-cons, All-head, All-tail, All-push, sum_by-cons, sum_by-append, IsDistinct-head, IsDistinct-tail, IsDistinct-cons, LruCache, demoted, lru_cache, CacheEntryKey, entry_eq, entries_total, entry_ties, Recency, weight_of, others, moved, IsKept}
 use Rattle.pcache_evict.proofs.EntryOrder.{exact_entries, same_test}
-use Rattle.pcache_evict.specs.Recency.{Recency, weight, weight_of, others, moved}
-use Rattle.pcache_evict.specs.Listed.{IsKept}
 
 level : (r : Ordering) → is_eq r ≡ true → r ≡ Equal
 level Less h = cc

@@ -1,18 +1,8 @@
 -- A weight set in place.
-use Rattle.std.proofs.Common.{◌≡◌, ℕ, ◌+◌, ◌-◌, ◌≤◌, ◌^◌, true, false, cond, not, Some, [], ◌∷◌, refl, ap, sym, subst, ◌∙◌, arith, length, All}
-use Rattle.std.specs.Prelude.{IsSome}
 use Rattle.std.specs.List.{IsDistinct}
-use Rattle.std.specs.Map.{keys_of}
-use Rattle.std.proofs.lemmas.List.Elements.{All-cons, All-head, All-tail}
-use Rattle.std.proofs.lemmas.List.Sums.{sum_by-cons}
-use Rattle.std.proofs.lemmas.Map.{keys-set_value, length-set_value}
-use Rattle.std.proofs.lemmas.Map.Keys.{IsDistinct-head, IsDistinct-tail}
-use Rattle.lru.specs.LruCache.{LruCache, lru_cache}
-use Rattle.pcache_evict.specs.declared.eviction.entry_key.CacheEntryKey.{CacheEntryKey}
-use Rattle.pcache_evict.specs.Entry.{entry_eq}
-use Rattle.pcache_evict.specs.Recency.{Recency, weight, weight_of, others}
-use Rattle.pcache_evict.specs.Listed.{IsKept, IsOnce}
-use Rattle.pcache_evict.specs.Shards.{reweighed}
+use Rattle.std.proofs.lemmas.Map.{keys-set_value}
+use Rattle.pcache_evict.specs.Recency.{weight}
+use Rattle.pcache_evict.proofs.Words.{◌≡◌, ℕ, ◌+◌, ◌-◌, ◌≤◌, ◌^◌, true, false, cond, not, Some, [], ◌∷◌, refl, ap, sym, subst, ◌∙◌, arith, length, All, IsSome, keys_of, All-cons, All-head, All-tail, sum_by-cons, length-set_value, IsDistinct-head, IsDistinct-tail, LruCache, lru_cache, CacheEntryKey, entry_eq, Recency, weight_of, others, IsKept, IsOnce, reweighed}
 use Rattle.pcache_evict.proofs.Recency.{all_apart}
 
 pub once-reweighed : (k : CacheEntryKey) (n : ℕ) (l : Recency) → IsOnce l → IsOnce (reweighed k n l)

@@ -1,22 +1,11 @@
 -- Recency lists in shards seen as one finite map.
-use Rattle.std.proofs.Common.{◌≡◌, ℕ, ◌+◌, ◌-◌, ◌^◌, min, true, false, cond, not, Option, None, Some, is_some, IsTrue, List, [], ◌∷◌, ◌++◌, refl, ap, sym, subst, ◌∙◌, arith, append_assoc, unwrap_or}
-use Rattle.std.specs.Prelude.{IsSome, slice_set}
-use Rattle.std.specs.List.{IsDistinct, AllByRecursion}
-use Rattle.std.specs.Map.{keys_of}
-use Rattle.std.specs.Ordering.{eq_by_cmp}
-use Rattle.std.specs.Cmp.{eq_by_cmp_equiv}
+use Rattle.std.specs.List.{IsDistinct}
+use Rattle.std.proofs.lemmas.List.Elements.{All-weaker}
+use Rattle.pcache_evict.specs.Recency.{weight}
+use Rattle.pcache_evict.specs.Shards.{Sharded, Runs}
+use Rattle.pcache_evict.proofs.Words.{◌≡◌, ℕ, ◌+◌, ◌-◌, ◌^◌, min, true, false, cond, not, Option, None, Some, is_some, IsTrue, List, [], ◌∷◌, ◌++◌, refl, ap, sym, subst, ◌∙◌, arith, append_assoc, unwrap_or, IsSome, slice_set, AllByRecursion, keys_of, eq_by_cmp, eq_by_cmp_equiv, both_ways, All-cons, All-nil, recursion_from_All, sum_by-cons, sum_by-append, IsDistinct-head, IsDistinct-tail, IsDistinct-cons, CacheEntryKey, entry_eq, entry_cmp, entries_total, entry_ties, Tracked, Limits, IsWithin, IsFair, without, added, raised, weight_in, evicted_with, Recency, weight_of, others, moved, accessed, map_of, IsOnce, ArePlaced, RunsOut, all, list_at, shard_of, in_shard, reweighed, grown}
 use Rattle.std.specs.FinMap as fin
-use Rattle.std.proofs.lemmas.Bool.{both_ways}
-use Rattle.std.proofs.lemmas.List.Elements.{All-cons, All-nil, All-weaker, recursion_from_All}
-use Rattle.std.proofs.lemmas.List.Sums.{sum_by-cons, sum_by-append}
-use Rattle.std.proofs.lemmas.Map.Keys.{IsDistinct-head, IsDistinct-tail, IsDistinct-cons}
-use Rattle.pcache_evict.specs.declared.eviction.entry_key.CacheEntryKey.{CacheEntryKey}
-use Rattle.pcache_evict.specs.Entry.{entry_eq, entry_cmp, entries_total, entry_ties}
-use Rattle.pcache_evict.specs.Tracked.{Tracked, Limits, IsWithin, IsFair, without, added, raised, weight_in, evicted_with}
 use Rattle.pcache_evict.specs.Tracked as tracked
-use Rattle.pcache_evict.specs.Recency.{Recency, weight, weight_of, others, moved, accessed}
-use Rattle.pcache_evict.specs.Listed.{map_of, IsOnce}
-use Rattle.pcache_evict.specs.Shards.{ArePlaced, Sharded, Runs, RunsOut, all, list_at, shard_of, in_shard, reweighed, grown}
 use Rattle.pcache_evict.proofs.EntryOrder.{exact_entries}
 use Rattle.pcache_evict.proofs.Recency.{laws, same_key, distinct-others}
 use Rattle.pcache_evict.proofs.Evictions.{left_there, gone_here}

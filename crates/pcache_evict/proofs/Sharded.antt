@@ -1,21 +1,12 @@
 -- Recency lists in shards: the position of an entry among all of them, and how one list's changes change all.
-use Rattle.std.proofs.Common.{◌≡◌, ℕ, zero, suc, ◌+◌, ◌-◌, ◌<◌, ◌≤◌, ◌^◌, Bool, true, false, cond, not, Option, None, Some, is_some, unwrap_or, List, [], ◌∷◌, ◌++◌, refl, ap, sym, subst, ◌∙◌, arith, length, All, append_assoc, length-append, inl, inr}
-use Rattle.std.specs.Prelude.{◌↔◌, IsSome, IsTrue, IfSome, slice_set, slice_index_or}
-use Rattle.std.specs.List.{IsDistinct, AllByRecursion}
-use Rattle.std.specs.Map.{keys_of}
-use Rattle.std.proofs.lemmas.Bool.{both_ways, cases_eq, cases_lt}
-use Rattle.std.proofs.lemmas.List.{get_or-set_same, get_or-set_other, length-set, length-replicate, get_or-replicate, get_or_past}
-use Rattle.std.proofs.lemmas.List.Elements.{All-append, All-nil, All-cons, All-filter, All-from_recursion, recursion_from_All, filter-append}
-use Rattle.std.proofs.lemmas.List.Sums.{sum_by-cons, sum_by-append}
-use Rattle.std.proofs.lemmas.Map.Keys.{IsDistinct-head, IsDistinct-tail, IsDistinct-cons}
-use Rattle.pcache_evict.specs.declared.eviction.entry_key.CacheEntryKey.{CacheEntryKey}
-use Rattle.pcache_evict.specs.Entry.{entry_eq}
-use Rattle.pcache_evict.specs.Recency.{Recency, weight, weight_of, others, moved}
-use Rattle.pcache_evict.specs.Listed.{IsOnce}
-use Rattle.pcache_evict.specs.Shards.{IsShard, ArePlaced, AreKept, all, list_at, shard_of, in_shard, reweighed, no_entries}
+use Rattle.std.specs.Prelude.{◌↔◌}
+use Rattle.std.specs.List.{IsDistinct}
+use Rattle.std.proofs.lemmas.List.{length-replicate, get_or-replicate, get_or_past}
+use Rattle.std.proofs.lemmas.List.Elements.{All-from_recursion}
+use Rattle.pcache_evict.specs.Recency.{weight}
+use Rattle.pcache_evict.proofs.Words.{◌≡◌, ℕ, zero, suc, ◌+◌, ◌-◌, ◌<◌, ◌≤◌, ◌^◌, Bool, true, false, cond, not, Option, None, Some, is_some, unwrap_or, List, [], ◌∷◌, ◌++◌, refl, ap, sym, subst, ◌∙◌, arith, length, All, append_assoc, length-append, inl, inr, IsSome, IsTrue, IfSome, slice_set, slice_index_or, AllByRecursion, keys_of, both_ways, cases_eq, cases_lt, get_or-set_same, get_or-set_other, length-set, All-append, All-nil, All-cons, All-filter, recursion_from_All, filter-append, sum_by-cons, sum_by-append, IsDistinct-head, IsDistinct-tail, IsDistinct-cons, CacheEntryKey, entry_eq, Recency, weight_of, others, moved, IsOnce, IsShard, ArePlaced, AreKept, all, list_at, shard_of, in_shard, reweighed, no_entries, length-set_value}
 use Rattle.pcache_evict.proofs.Recency.{same_key, distinct-others, distinct-moved, distinct-front, weight-others, length-others, weight-moved, weight_bound, found-small}
 use Rattle.pcache_evict.proofs.Reweighs.{once-reweighed, weight-reweighed, small-reweighed}
-use Rattle.std.proofs.lemmas.Map.{length-set_value}
 
 -- shards that are not full
 pub not-full : (b : Bool) (count : ℕ) → (IsTrue b ↔ (2 ^ 63 - 1 ≤ count)) → b ≡ false → ¬ (2 ^ 63 - 1 ≤ count)

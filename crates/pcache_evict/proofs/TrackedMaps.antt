@@ -1,12 +1,7 @@
 -- What the changes of a tracked map leave at an entry, and its weight as a sum.
-use Rattle.std.proofs.Common.{◌≡◌, Bool, false, cond, None, List, [], ◌∷◌, refl, ap, ◌∙◌}
-use Rattle.std.specs.List.{list_any}
-use Rattle.std.specs.Ordering.{eq_by_cmp}
-use Rattle.std.specs.FinMap as map
 use Rattle.std.proofs.lemmas.Bool.{or_parts}
-use Rattle.pcache_evict.specs.declared.eviction.entry_key.CacheEntryKey.{CacheEntryKey}
-use Rattle.pcache_evict.specs.Entry.{entry_cmp, entries_total}
-use Rattle.pcache_evict.specs.Tracked.{Tracked, without}
+use Rattle.pcache_evict.proofs.Words.{◌≡◌, Bool, false, cond, None, List, [], ◌∷◌, refl, ap, ◌∙◌, list_any, eq_by_cmp, CacheEntryKey, entry_cmp, entries_total, Tracked, without}
+use Rattle.std.specs.FinMap as map
 
 abbrev ties : CacheEntryKey → CacheEntryKey → Bool
 ties = eq_by_cmp entry_cmp

@@ -1,16 +1,6 @@
 -- Walks over a recency list from its end: what is evicted, and how many at most.
-use Rattle.std.proofs.Common.{◌≡◌, ℕ, suc, ◌+◌, ◌-◌, ◌<◌, not, List, [], ◌∷◌, ◌++◌, reverse, refl, ap, sym, subst, ◌∙◌, arith, length, take, inl, inr, append_assoc, length-append}
-use Rattle.std.specs.Map.{keys_of}
-use Rattle.std.proofs.lemmas.List.{take_at, reverse-append}
-use Rattle.std.proofs.lemmas.Bool.{cases_lt}
-use Rattle.std.proofs.lemmas.List.Elements.{filter-append}
-use Rattle.std.proofs.lemmas.List.Sums.{sum_by-cons}
-use Rattle.pcache_evict.specs.declared.eviction.entry_key.CacheEntryKey.{CacheEntryKey}
-use Rattle.pcache_evict.specs.Entry.{entry_eq}
-use Rattle.pcache_evict.specs.declared.eviction.recency.Walk.{Walk}
-use Rattle.pcache_evict.specs.Tracked.{Limits}
-use Rattle.pcache_evict.specs.Recency.{Recency, weight, others, moved, IsWithinAsList}
-use Rattle.pcache_evict.specs.Listed.{IsEnough}
+use Rattle.pcache_evict.specs.Recency.{weight}
+use Rattle.pcache_evict.proofs.Words.{◌≡◌, ℕ, suc, ◌+◌, ◌-◌, ◌<◌, not, List, [], ◌∷◌, ◌++◌, reverse, refl, ap, sym, subst, ◌∙◌, arith, length, take, inl, inr, append_assoc, length-append, keys_of, take_at, reverse-append, cases_lt, filter-append, sum_by-cons, CacheEntryKey, entry_eq, Walk, Limits, Recency, others, moved, IsWithinAsList, IsEnough}
 
 -- what was evicted so far
 pub record Pops (limits : Limits) (before now : Recency) (out : List CacheEntryKey) : Type 0 where

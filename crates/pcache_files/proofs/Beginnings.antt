@@ -1,14 +1,8 @@
 -- No proper beginning of a file is a file: what follows a spelling can be made longer at its end.
-use Rattle.std.proofs.Common.{◌≡◌, ℕ, suc, false, eqb, arith, List, [], ◌∷◌, ◌++◌, length, Option, Some, None, refl, ap, ◌∙◌, append_assoc}
-use Rattle.pcache_base.specs.declared.key.CompactCacheKey.{CompactCacheKey}
-use Rattle.pcache_evict.specs.declared.eviction.entry_key.CacheEntryKey.{CacheEntryKey}
-use Rattle.pcache_evict.specs.Recency.{Recency}
-use Rattle.pcache_meta.specs.Spelling.{NumberThen, number_text, ArrayThen, array_text, TextThen, text_head, HashThen, BytesThen, OptionThen}
 use Rattle.pcache_files.specs.FileLaws.{NoBeginningIsAFile}
 use Rattle.pcache_files.specs.FileReading.{file_at}
-use Rattle.pcache_files.specs.FileSpelling.{KeyThen, EntryThen, NodeThen, NodesThen, SpellsFile}
+use Rattle.pcache_files.proofs.Words.{◌≡◌, ℕ, suc, false, eqb, arith, List, [], ◌∷◌, ◌++◌, length, Option, Some, None, refl, ap, ◌∙◌, append_assoc, CompactCacheKey, CacheEntryKey, Recency, NumberThen, number_text, ArrayThen, array_text, TextThen, text_head, HashThen, BytesThen, OptionThen, KeyThen, EntryThen, NodeThen, NodesThen, SpellsFile, array_again}
 use Rattle.pcache_files.specs.FileSpelling as spell
-use Rattle.pcache_meta.proofs.Exact.{array_again}
 use Rattle.pcache_files.proofs.FileExact.{file_again, nodes_again}
 
 -- ---- the forms: with more bytes after

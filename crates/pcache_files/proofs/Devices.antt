@@ -1,14 +1,12 @@
 -- What readers gave and writers took, call after call.
-use Rattle.std.proofs.Common.{◌≡◌, ℕ, suc, ◌+◌, ◌-◌, ◌^◌, List, ◌++◌, Option, Some, None, length, take, drop, sym, ap, subst, ◌∙◌, append_assoc, arith, inl, inr}
-use Rattle.std.specs.Prelude.{Result, Ok, Err, IsErrOf, ◌≢◌, ◌⊎◌, ◌%◌}
-use Rattle.pcache_base.specs.declared.error.ErrorType.{ErrorType}
-use Rattle.pcache_base.specs.declared.error.ErrorType.TheVariants.{Io, OutOfMemory}
-use Rattle.std_io.specs.declared.io.error.Error.{Error}
+use Rattle.std.proofs.Common.{take}
+use Rattle.std.specs.Prelude.{◌≢◌}
 use Rattle.std_io.specs.IoError.{error_kind}
-use Rattle.std_io.specs.declared.io.kind.ErrorKind.TheVariants as kinds
-use Rattle.pcache_files.specs.Device.{Counts, Interrupted, GaveUp, LackedMemory}
-use Rattle.std.specs.Io.KnownBytes.{Appends, Consumes, Keeps, ReadConsumes}
+use Rattle.pcache_files.specs.Device.{Counts, GaveUp, LackedMemory}
+use Rattle.std.specs.Io.KnownBytes.{Appends, ReadConsumes}
 use Rattle.std.proofs.lemmas.List.{length-drop, take-append-drop, take_all}
+use Rattle.pcache_files.proofs.Words.{◌≡◌, ℕ, suc, ◌+◌, ◌-◌, ◌^◌, List, ◌++◌, Option, Some, None, length, drop, sym, ap, subst, ◌∙◌, append_assoc, arith, inl, inr, Result, Ok, Err, IsErrOf, ◌⊎◌, ◌%◌, ErrorType, Io, OutOfMemory, Error, Interrupted, Consumes, Keeps}
+use Rattle.std_io.specs.declared.io.kind.ErrorKind.TheVariants as kinds
 
 -- ---- known bytes that stay
 

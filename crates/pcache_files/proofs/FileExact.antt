@@ -1,21 +1,11 @@
 -- A file is read exactly when it is spelled.
-use Rattle.std.proofs.Common.{◌≡◌, ℕ, zero, suc, eqb, List, [], ◌∷◌, length, Option, Some, None, refl, sym, ap, subst, ◌∙◌, inl, inr}
-use Rattle.std.specs.Prelude.{Result, Ok, Err, IfErr, IfOk, IsErrOf, ◌⊎◌}
+use Rattle.std.specs.Prelude.{IfErr, IfOk}
 use Rattle.std.proofs.lemmas.Bool.{eqb-true}
-use Rattle.std.proofs.lemmas.List.{nil_from_length}
-use Rattle.std.proofs.lemmas.Option.{some_pair_parts, same_Some}
-use Rattle.pcache_base.specs.declared.error.ErrorType.{ErrorType}
-use Rattle.pcache_base.specs.declared.error.ErrorType.TheVariants.{InternalError, OutOfMemory}
-use Rattle.pcache_base.specs.declared.key.CompactCacheKey.{CompactCacheKey}
-use Rattle.pcache_evict.specs.declared.eviction.entry_key.CacheEntryKey.{CacheEntryKey}
-use Rattle.pcache_evict.specs.Entry.{entry_with}
-use Rattle.pcache_evict.specs.Recency.{Recency}
-use Rattle.pcache_meta.specs.Spelling.{NumberThen, ArrayThen, HashThen, OptionThen}
-use Rattle.pcache_meta.specs.Reading.{when, GivesOrWants, number_at, array_at, items_at, text_at, hash_at, optional_at}
-use Rattle.pcache_meta.proofs.Exact.{IsBytes, after, after_rest, when_some, chosen, same_parts, number_takes, number_again, number_behind, number_exact, array_takes, array_again, array_behind, items_takes, items_again, optional_takes, optional_again, optional_behind, hash_exact}
+use Rattle.pcache_meta.specs.Reading.{when, GivesOrWants, number_at, text_at}
+use Rattle.pcache_meta.proofs.Exact.{when_some, same_parts, number_takes, number_again, number_behind, number_exact, array_behind}
 use Rattle.pcache_meta.proofs.TextExact.{text_takes, text_again, text_behind}
 use Rattle.pcache_files.specs.FileReading.{key_items_at, only_at, pair_at, entry_at, node_at, nodes_at, file_at}
-use Rattle.pcache_files.specs.FileSpelling.{KeyItemsThen, KeyThen, EntryThen, NodeThen, NodesThen, SpellsFile}
+use Rattle.pcache_files.proofs.Words.{◌≡◌, ℕ, zero, suc, eqb, List, [], ◌∷◌, length, Option, Some, None, refl, sym, ap, subst, ◌∙◌, inl, inr, Result, Ok, Err, IsErrOf, ◌⊎◌, nil_from_length, some_pair_parts, same_Some, ErrorType, InternalError, OutOfMemory, CompactCacheKey, CacheEntryKey, entry_with, Recency, NumberThen, ArrayThen, HashThen, OptionThen, array_at, items_at, hash_at, optional_at, IsBytes, after, after_rest, chosen, array_takes, array_again, items_takes, items_again, optional_takes, optional_again, optional_behind, hash_exact, KeyItemsThen, KeyThen, EntryThen, NodeThen, NodesThen, SpellsFile}
 use Rattle.pcache_files.specs.FileSpelling as spell
 
 -- ---- keys

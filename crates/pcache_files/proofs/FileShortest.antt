@@ -1,18 +1,11 @@
 -- No spelling of a list is shorter than the one that is written of it.
-use Rattle.std.proofs.Common.{◌≡◌, ℕ, ◌+◌, ◌≤◌, List, [], ◌∷◌, ◌++◌, length, Option, Some, None, sym, ap, subst, arith, length-append}
-use Rattle.std.specs.List.{flat_map}
-use Rattle.std.proofs.lemmas.List.Concat.{flat_map-cons}
-use Rattle.pcache_base.specs.declared.key.CompactCacheKey.{CompactCacheKey}
-use Rattle.pcache_evict.specs.declared.eviction.entry_key.CacheEntryKey.{CacheEntryKey}
-use Rattle.pcache_evict.specs.Entry.{entry_with}
-use Rattle.pcache_evict.specs.Recency.{Recency}
-use Rattle.pcache_meta.specs.Spelling.{NumberThen, ArrayThen, HashThen, OptionThen}
-use Rattle.pcache_meta.specs.Writing.{number_written, array_written, text_written, hash_written, optional_written}
+use Rattle.std.proofs.Common.{length-append}
+use Rattle.pcache_meta.specs.Writing.{optional_written}
 use Rattle.pcache_meta.proofs.Shortest.{array_shortest, hash_shortest, number_shortest, text_shortest}
 use Rattle.pcache_files.specs.FileLaws.{FilesAreShortest}
-use Rattle.pcache_files.specs.FileSpelling.{KeyItemsThen, KeyThen, EntryThen, NodeThen, NodesThen, SpellsFile}
-use Rattle.pcache_files.specs.FileSpelling as spell
 use Rattle.pcache_files.specs.FileWriting.{key_written, entry_written, node_written, file_written}
+use Rattle.pcache_files.proofs.Words.{◌≡◌, ℕ, ◌+◌, ◌≤◌, List, [], ◌∷◌, ◌++◌, length, Option, Some, None, sym, ap, subst, arith, flat_map, flat_map-cons, CompactCacheKey, CacheEntryKey, entry_with, Recency, NumberThen, ArrayThen, HashThen, OptionThen, number_written, array_written, text_written, hash_written, KeyItemsThen, KeyThen, EntryThen, NodeThen, NodesThen, SpellsFile}
+use Rattle.pcache_files.specs.FileSpelling as spell
 
 optional_shortest : {A : Type 0} (written : A → List ℕ) (Then : List ℕ → A → List ℕ → Type 0) → ((bytes : List ℕ) (x : A) (rest : List ℕ) → Then bytes x rest → length (written x) + length rest ≤ length bytes)
     → (bytes : List ℕ) (o : Option A) (rest : List ℕ) → OptionThen Then bytes o rest → length (optional_written written o) + length rest ≤ length bytes

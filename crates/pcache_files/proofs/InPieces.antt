@@ -1,18 +1,9 @@
 -- Bytes that come in pieces: what was read of them, and what those that are left can no longer change.
-use Rattle.std.proofs.Common.{◌≡◌, ℕ, ◌+◌, ◌-◌, ◌≤◌, ◌<◌, ◌^◌, ◌⊎◌, min, List, [], ◌∷◌, ◌++◌, length, Option, Some, None, refl, sym, ap, subst, ◌∙◌, append_assoc, arith, inl, inr, length-append}
-use Rattle.std.specs.Io.KnownBytes.{Consumes, IsAtEnd}
-use Rattle.std.proofs.lemmas.List.{append-nil, nil_from_length}
-use Rattle.std.proofs.lemmas.Option.{some_pair_parts, same_Some}
-use Rattle.pcache_evict.specs.declared.eviction.entry_key.CacheEntryKey.{CacheEntryKey}
-use Rattle.pcache_evict.specs.Recency.{Recency}
-use Rattle.pcache_meta.specs.Spelling.{ArrayThen}
-use Rattle.pcache_base.specs.declared.error.ErrorType.{ErrorType}
-use Rattle.pcache_base.specs.declared.error.ErrorType.TheVariants.{InternalError}
-use Rattle.pcache_meta.specs.Reading.{array_at, Fails}
-use Rattle.pcache_meta.proofs.Exact.{array_again}
+use Rattle.std.proofs.Common.{min, length-append}
+use Rattle.pcache_meta.specs.Reading.{Fails}
 use Rattle.pcache_files.specs.Device.{Gave}
 use Rattle.pcache_files.specs.FileReading.{node_at, tag_len_at}
-use Rattle.pcache_files.specs.FileSpelling.{NodeThen, NodesThen, SpellsFile}
+use Rattle.pcache_files.proofs.Words.{◌≡◌, ℕ, ◌+◌, ◌-◌, ◌≤◌, ◌<◌, ◌^◌, ◌⊎◌, List, [], ◌∷◌, ◌++◌, length, Option, Some, None, refl, sym, ap, subst, ◌∙◌, append_assoc, arith, inl, inr, Consumes, IsAtEnd, append-nil, nil_from_length, some_pair_parts, same_Some, CacheEntryKey, Recency, ArrayThen, ErrorType, InternalError, array_at, array_again, NodeThen, NodesThen, SpellsFile}
 use Rattle.pcache_files.proofs.Beginnings.{array_longer, nodes_longer}
 use Rattle.pcache_files.proofs.Devices.{consumes-more}
 use Rattle.pcache_files.proofs.FileExact.{node_again}

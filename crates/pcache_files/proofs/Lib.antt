@@ -8,3 +8,4 @@ pub mod NodeLoop
 pub mod PutIn
 pub mod Whole
 pub mod Written
+pub mod Words

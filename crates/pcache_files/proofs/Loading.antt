@@ -1,15 +1,8 @@
 -- A list that is loaded into an empty one.
-use Rattle.std.proofs.Common.{◌≡◌, ℕ, true, false, cond, Some, None, is_some, [], ◌∷◌, ◌++◌, refl, sym, ap, subst, ◌∙◌, append_assoc}
-use Rattle.std.specs.List.{AllByRecursion}
 use Rattle.std.specs.Map.{keys_of}
-use Rattle.std.proofs.lemmas.List.{append-nil}
 use Rattle.std.proofs.lemmas.Map.Keys.{IsDistinct-head, IsDistinct-tail}
-use Rattle.pcache_evict.specs.declared.eviction.entry_key.CacheEntryKey.{CacheEntryKey}
-use Rattle.pcache_evict.specs.Entry.{entry_eq}
-use Rattle.pcache_evict.specs.Recency.{Recency, loaded, loaded_all, moved, weight_of}
-use Rattle.pcache_evict.specs.Listed.{IsOnce}
-use Rattle.pcache_evict.proofs.Recency.{laws, same_key}
 use Rattle.pcache_files.specs.FileLaws.{FilesSpellOneList, SavedIsLoaded}
+use Rattle.pcache_files.proofs.Words.{◌≡◌, ℕ, true, false, cond, Some, None, is_some, [], ◌∷◌, ◌++◌, refl, sym, ap, subst, ◌∙◌, append_assoc, AllByRecursion, append-nil, CacheEntryKey, entry_eq, Recency, loaded, loaded_all, moved, weight_of, IsOnce, laws, same_key}
 use Rattle.pcache_files.proofs.FileExact.{one_list}
 use Rattle.pcache_files.proofs.Written.{file_then}
 

@@ -1,12 +1,8 @@
 -- Reading nodes one after the other, as a loop does.
-use Rattle.std.proofs.Common.{◌≡◌, ℕ, suc, ◌-◌, ◌+◌, ◌≤◌, ◌<◌, List, [], ◌∷◌, ◌++◌, Option, Some, None, refl, sym, ap, ◌∙◌, append_assoc, arith}
-use Rattle.std.proofs.lemmas.List.{append-nil}
-use Rattle.pcache_base.specs.declared.error.ErrorType.{ErrorType}
-use Rattle.pcache_meta.specs.Reading.{◌>>=◌, FailsOrWants}
+use Rattle.pcache_meta.specs.Reading.{FailsOrWants}
 use Rattle.pcache_meta.proofs.Refusals.{FailsOrWants-along}
-use Rattle.pcache_evict.specs.declared.eviction.entry_key.CacheEntryKey.{CacheEntryKey}
-use Rattle.pcache_evict.specs.Recency.{Recency}
 use Rattle.pcache_files.specs.FileReading.{node_at, nodes_at}
+use Rattle.pcache_files.proofs.Words.{◌≡◌, ℕ, suc, ◌-◌, ◌+◌, ◌≤◌, ◌<◌, List, [], ◌∷◌, ◌++◌, Option, Some, None, refl, sym, ap, ◌∙◌, append_assoc, arith, append-nil, ErrorType, ◌>>=◌, CacheEntryKey, Recency}
 
 -- what was read before, and what is still read
 abbrev pub with_front : Recency → Option (Recency × List ℕ) → Option (Recency × List ℕ)

@@ -1,25 +1,20 @@
 -- What is put in from files, on the map of what is tracked.
-use Rattle.std.proofs.Common.{◌≡◌, ℕ, suc, ◌+◌, ◌≤◌, true, false, cond, Option, None, Some, is_some, length, length-append, arith, List, [], ◌∷◌, ◌++◌, refl, ap, sym, subst, ◌∙◌, append_assoc}
-use Rattle.std.specs.List.{AllByRecursion, IsDistinct}
-use Rattle.std.specs.FinMap as fin
+use Rattle.std.proofs.Common.{length-append}
+use Rattle.std.specs.List.{IsDistinct}
 use Rattle.std.specs.Ordering.{eq_by_cmp}
-use Rattle.std.proofs.lemmas.List.{append-nil}
-use Rattle.pcache_evict.specs.declared.eviction.entry_key.CacheEntryKey.{CacheEntryKey}
-use Rattle.pcache_evict.specs.Entry.{entry_eq, entry_cmp, entries_total, entry_ties}
+use Rattle.pcache_evict.specs.Entry.{entry_cmp, entries_total, entry_ties}
 use Rattle.pcache_evict.specs.Tracked.{added}
-use Rattle.pcache_evict.specs.Recency.{Recency, weight_of, moved, loaded, loaded_all}
-use Rattle.pcache_evict.specs.Listed.{map_of, IsOnce}
-use Rattle.pcache_evict.specs.Shards.{ArePlaced, IsShard, all, list_at, shard_of, in_shard, added_last, added_last_all}
+use Rattle.pcache_evict.specs.Shards.{ArePlaced, IsShard, list_at, shard_of, in_shard, added_last, added_last_all}
 use Rattle.pcache_evict.proofs.EntryOrder.{exact_entries}
-use Rattle.pcache_evict.proofs.Recency.{laws, same_key}
 use Rattle.pcache_evict.proofs.Maps.{get-map_of, map-moved}
 use Rattle.pcache_evict.proofs.Sharded.{E, Apart, at_home, both, found-all, once-append, placed-put, in_range}
 use Rattle.pcache_evict.proofs.Cuts.{joined-there, joined-new}
-use Rattle.std.specs.Prelude.{zero, IfSome, IfNone, option_map}
+use Rattle.std.specs.Prelude.{IfSome, IfNone, option_map}
 use Rattle.std.specs.Path.{path_join}
-use Rattle.std_io.specs.declared.io.error.Error.{Error}
 use Rattle.pcache_files.specs.FileWriting.{file_written}
-use Rattle.pcache_files.specs.Folder.{AreFiles, AreSaved, IsFile, IsRead, IsSaved, Loads, found, missing, set_all, added_all, shard_files, shard_name, shard_names}
+use Rattle.pcache_files.specs.Folder.{AreFiles, IsFile, IsRead, IsSaved, found, missing, set_all, added_all, shard_name}
+use Rattle.pcache_files.proofs.Words.{◌≡◌, ℕ, suc, ◌+◌, ◌≤◌, true, false, cond, Option, None, Some, is_some, length, arith, List, [], ◌∷◌, ◌++◌, refl, ap, sym, subst, ◌∙◌, append_assoc, AllByRecursion, append-nil, CacheEntryKey, entry_eq, Recency, weight_of, moved, loaded, loaded_all, map_of, IsOnce, all, laws, same_key, zero, Error, AreSaved, Loads, shard_files, shard_names}
+use Rattle.std.specs.FinMap as fin
 
 apart_none : (k : CacheEntryKey) (l : Recency) → weight_of k l ≡ None → Apart k l
 apart_none k [] none = tt

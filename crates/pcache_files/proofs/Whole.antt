@@ -1,19 +1,15 @@
 -- A beginning that is long enough has the whole of what comes next, and no bytes after it change that.
-use Rattle.std.proofs.Common.{◌≡◌, ℕ, ◌+◌, ◌*◌, ◌^◌, inl, inr, cond, ◌-◌, ◌≤◌, ◌<◌, List, [], ◌∷◌, ◌++◌, length, drop, Option, Some, None, refl, sym, ap, subst, ◌∙◌, append_assoc, arith, eqb, ltb, true, false, length-append}
+use Rattle.std.proofs.Common.{◌*◌, ltb, length-append}
 use Rattle.std.specs.Int.{w8, w16, w32}
 use Rattle.std.proofs.lemmas.Bool.{lt-ltb, le-ltb}
 use Rattle.std.proofs.lemmas.List.{drop_at}
-use Rattle.pcache_base.specs.declared.key.CompactCacheKey.{CompactCacheKey}
-use Rattle.pcache_evict.specs.declared.eviction.entry_key.CacheEntryKey.{CacheEntryKey}
-use Rattle.pcache_evict.specs.Entry.{entry_with, key_of}
-use Rattle.pcache_meta.specs.Spelling.{NumberForm, number_text, NumberThen, ArrayForm, array_text, ArrayThen, TextForm, text_limit, text_head, TextThen, HashThen, BytesThen, OptionThen}
-use Rattle.pcache_meta.specs.Spelling as form
-use Rattle.pcache_meta.specs.Reading.{◌>>=◌, array_at, items_at, text_head_at, hash_at, optional_at}
-use Rattle.std.proofs.lemmas.Option.{same_Some}
-use Rattle.pcache_meta.proofs.Exact.{IsBytes, after, after_rest, chosen, items_takes, array_takes, optional_takes, optional_behind, wide_again, wide8, wide16, wide32, array_again, items_again, optional_again, hash_exact}
-use Rattle.pcache_meta.proofs.Exact as meta
+use Rattle.pcache_meta.specs.Spelling.{NumberForm, ArrayForm, TextForm, text_limit}
+use Rattle.pcache_meta.specs.Reading.{text_head_at}
+use Rattle.pcache_meta.proofs.Exact.{wide_again, wide8, wide16, wide32}
 use Rattle.pcache_files.specs.FileReading.{tag_at, tag_len_at, text_len_at}
-use Rattle.pcache_files.specs.FileSpelling.{KeyItemsThen, KeyThen, EntryThen, NodeThen}
+use Rattle.pcache_files.proofs.Words.{◌≡◌, ℕ, ◌+◌, ◌^◌, inl, inr, cond, ◌-◌, ◌≤◌, ◌<◌, List, [], ◌∷◌, ◌++◌, length, drop, Option, Some, None, refl, sym, ap, subst, ◌∙◌, append_assoc, arith, eqb, true, false, CompactCacheKey, CacheEntryKey, entry_with, key_of, number_text, NumberThen, array_text, ArrayThen, text_head, TextThen, HashThen, BytesThen, OptionThen, ◌>>=◌, array_at, items_at, hash_at, optional_at, same_Some, IsBytes, after, after_rest, chosen, items_takes, array_takes, optional_takes, optional_behind, array_again, items_again, optional_again, hash_exact, KeyItemsThen, KeyThen, EntryThen, NodeThen}
+use Rattle.pcache_meta.specs.Spelling as form
+use Rattle.pcache_meta.proofs.Exact as meta
 use Rattle.pcache_files.specs.FileSpelling as spell
 
 -- ---- what comes behind a spelling

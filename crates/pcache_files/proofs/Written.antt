@@ -1,25 +1,15 @@
 -- What is written of a list spells it.
-use Rattle.std.proofs.Common.{◌≡◌, ℕ, ◌<◌, ◌≤◌, ◌^◌, List, [], ◌∷◌, ◌++◌, length, Some, refl, sym, ap, subst, ◌∙◌, append_assoc, arith, inl, inr}
-use Rattle.std.specs.List.{flat_map, AllByRecursion}
-use Rattle.std.proofs.lemmas.List.{append-nil, length-append}
-use Rattle.std.proofs.lemmas.List.Concat.{flat_map-cons}
+use Rattle.std.proofs.lemmas.List.{length-append}
 use Rattle.std.proofs.lemmas.Grind.{flat_map-append}
 use Rattle.std.proofs.Math.Seq.{get_or-append_seam}
 use Rattle.std.proofs.lemmas.Bool.{cases_lt}
-use Rattle.std.specs.Prelude.{slice_index_or, Err, IsErrOf, Ok, Result, ◌↔◌}
-use Rattle.pcache_base.specs.declared.error.ErrorType.{ErrorType}
-use Rattle.pcache_base.specs.declared.error.ErrorType.TheVariants.{InternalError}
-use Rattle.pcache_base.specs.declared.key.CompactCacheKey.{CompactCacheKey}
-use Rattle.pcache_evict.specs.declared.eviction.entry_key.CacheEntryKey.{CacheEntryKey}
+use Rattle.std.specs.Prelude.{slice_index_or, ◌↔◌}
 use Rattle.pcache_evict.specs.declared.eviction.entry_key.CacheEntryKey.TheVariants.{KeyOnly, Identified}
-use Rattle.pcache_evict.specs.Entry.{key_of}
-use Rattle.pcache_evict.specs.Recency.{Recency}
-use Rattle.pcache_meta.specs.Spelling.{HashThen}
-use Rattle.pcache_meta.specs.Writing.{number_written, array_written, text_written, hash_written, optional_written, IsHash}
+use Rattle.pcache_meta.specs.Writing.{optional_written, IsHash}
 use Rattle.pcache_meta.proofs.Spelled.{array_then, hash_then, number_then, optional_then, text_then}
-use Rattle.pcache_files.specs.FileSpelling.{KeyThen, EntryThen, NodeThen, NodesThen, SpellsFile}
-use Rattle.pcache_files.specs.FileSpelling as spell
 use Rattle.pcache_files.specs.FileWriting.{key_written, entry_written, node_written, file_written, IsKey, IsNode, IsTooLong, AreNodes}
+use Rattle.pcache_files.proofs.Words.{◌≡◌, ℕ, ◌<◌, ◌≤◌, ◌^◌, List, [], ◌∷◌, ◌++◌, length, Some, refl, sym, ap, subst, ◌∙◌, append_assoc, arith, inl, inr, flat_map, AllByRecursion, append-nil, flat_map-cons, Err, IsErrOf, Ok, Result, ErrorType, InternalError, CompactCacheKey, CacheEntryKey, key_of, Recency, HashThen, number_written, array_written, text_written, hash_written, KeyThen, EntryThen, NodeThen, NodesThen, SpellsFile}
+use Rattle.pcache_files.specs.FileSpelling as spell
 
 pub key_then : (k : CompactCacheKey) (rest : List ℕ) → IsKey k → KeyThen (key_written k ++ rest) k rest
 unfolding key_written

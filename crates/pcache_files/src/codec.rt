@@ -18,7 +18,7 @@ use pcache_base::text::Text;
 use pcache_evict::eviction::{CacheEntryId, CacheEntryKey};
 use pcache_meta::msgpack::reader::Reader;
 use pcache_meta::msgpack::writer::{put_array, put_hash, put_number, put_optional_hash, put_text};
-use std::alloc::Global;
+use std::alloc::{AllocError, Global};
 
 /// The fewest bytes that a node has: two heads of one byte, one of three, sixteen bytes of a hash,
 /// nil, an empty tag and a weight.
@@ -33,9 +33,8 @@ pub(crate) fn unreadable() -> Error
     Error::new(ErrorType::InternalError)
 }
 
-fn owned(alloc: Global, text: &str) -> Result<Text>
+fn owned(alloc: Global, text: &str) -> Result<Text, AllocError>
     ensures ok { IfOk result (λ t. t ≡ text.now) }
-    ensures kind { IfErr result (λ e. e ≡ OutOfMemory) }
 {
     Ok(Text::new(String::from_str(alloc, text)?))
 }

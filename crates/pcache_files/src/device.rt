@@ -21,6 +21,8 @@ pub trait TriedRead {
     /// The bytes that reads will give from now on, if they are known.
     ghost remaining: { Self → Option (List ℕ) } = { λ _. None };
 
+    // So that "a read gave up" names the file that was opened at a path. Without it a read of any
+    // one file that gave up would be a cause to skip another.
     /// The number of what is read. Nothing is known of it but that a read keeps it.
     ghost source: { Self → ℕ };
 
@@ -40,6 +42,7 @@ pub trait TriedWrite {
     /// The bytes that the writer took so far, if they are known.
     ghost contents: { Self → Option (List ℕ) } = { λ _. None };
 
+    // A ghost, since what a flush does is not to be seen in the bytes that were taken.
     /// Whether all taken bytes were passed on, if the writer states it.
     ghost is_flushed: { Self → Type 0 };
 
@@ -85,6 +88,7 @@ impl<T: Write> TriedWrite for T {
 
     fn try_write(&mut self, buf: &[u8]) -> io::Result<usize> {
         match self.write(buf) {
+            // A write that takes no byte has failed: so a loop over writes ends.
             Ok(0) if !buf.is_empty() => Err(io::Error::from(ErrorKind::WriteZero)),
             Ok(count) => Ok(count),
             Err(error) => Err(error),
@@ -198,6 +202,7 @@ impl<T> Counted<T> {
         ensures device { self.new.device ≡ self.old.device }
         ensures counted { self.new.failures ≡ (self.old.failures + 1) % 2 ^ 64 }
     {
+        // It wraps, so that no reader has to fail because its count is full.
         self.failures = self.failures.wrapping_add(1);
         Error::new(ErrorType::Io)
     }
@@ -211,6 +216,7 @@ impl<T> Counted<T> {
         ensures counted { result ≡ Io → self.new.failures ≡ (self.old.failures + 1) % 2 ^ 64 }
         ensures uncounted { result ≡ OutOfMemory → self.new.failures ≡ self.old.failures }
     {
+        // No device is blamed for that.
         if is_lack_of_memory(error) {
             return Error::new(ErrorType::OutOfMemory);
         }
@@ -268,6 +274,8 @@ impl<T: TriedRead> CountedRead for Counted<T> {
             match self.device.try_read(buf) {
                 Ok(count) => return Ok(count),
                 Err(error) => {
+                    // Made again, and not counted; after 2^64 - 1 interruptions it has failed,
+                    // since every loop has to end.
                     if !is_interrupted(&error) {
                         return Err(self.refuse(&error));
                     }

@@ -13,7 +13,7 @@ use crate::named::NamedFiles;
 use crate::pieces::read_list_from;
 use pcache_base::error::{Error, ErrorType, Result};
 use pcache_evict::eviction::CacheEntryKey;
-use std::alloc::Global;
+use std::alloc::{AllocError, Global};
 use std::io;
 use std::path::{Path, PathBuf};
 
@@ -21,11 +21,10 @@ use std::path::{Path, PathBuf};
 const SUFFIXES: u32 = 64;
 
 // The path of a file of a folder.
-fn path_in(alloc: Global, dir: &str, name: &str) -> Result<PathBuf>
+fn path_in(alloc: Global, dir: &str, name: &str) -> Result<PathBuf, AllocError>
     ensures joined { IfOk result (λ p. path_buf_bytes p ≡ path_join dir.now name.now) }
-    ensures kind { IfErr result (λ e. e ≡ OutOfMemory) }
 {
-    Ok(Path::new(dir).join(alloc, name)?)
+    Path::new(dir).join(alloc, name)
 }
 
 // Opens a file for reading.
@@ -101,6 +100,8 @@ pub(crate) fn replace_file<R: NamedFiles>(
     make_folder(files, dir)?;
     'suffixes: for step in 0..SUFFIXES {
         let temporary = temporary_path(alloc, dir, name, suffix.wrapping_add(step))?;
+        // Never a file that existed: two programs that save into one folder each write their own,
+        // and what a killed one left bars no later save.
         match files.make_at(temporary.as_str()) {
             Ok(file) => {
                 return put_in_place(files, file, temporary.as_str(), path.as_str(), bytes);
@@ -127,9 +128,12 @@ fn make_folder<R: NamedFiles>(files: &R, dir: &str) -> Result<()>
 }
 
 // The path of the temporary file with a suffix.
-fn temporary_path(alloc: Global, dir: &str, name: &str, suffix: u32) -> Result<PathBuf>
-    ensures { IfErr result (λ e. e ≡ OutOfMemory) }
-{
+fn temporary_path(
+    alloc: Global,
+    dir: &str,
+    name: &str,
+    suffix: u32,
+) -> Result<PathBuf, AllocError> {
     let temporary = format!(in alloc; "{name}.{suffix:08x}.tmp")?;
     path_in(alloc, dir, temporary.as_str())
 }
@@ -152,6 +156,7 @@ fn put_in_place<R: NamedFiles>(
 {
     let placed = write_and_rename(files, file, temporary, path, bytes);
     if placed.is_err() {
+        // So that a full disk has its room again.
         let _removed = files.remove_at(temporary);
     }
     placed
@@ -171,6 +176,8 @@ fn write_and_rename<R: NamedFiles>(
     ensures unsaved { IsErrOf result Io → IsUnsaved (R.refuses files.now) R.File.write_fails }
     ensures kinds { IfErr result (λ e. (e ≡ OutOfMemory) ⊎ (e ≡ Io)) }
 {
+    // Closed, and not synced, as upstream does not: a save in shards would wait for the disk once a
+    // shard.
     write_new(file, bytes)?;
     rename(files, temporary, path)
 }

@@ -12,7 +12,7 @@ use crate::codec::{first_count, first_node, tag_len, unreadable};
 use crate::device::CountedRead;
 use pcache_base::error::Result;
 use pcache_evict::eviction::CacheEntryKey;
-use std::alloc::Global;
+use std::alloc::{AllocError, Global};
 use std::marker::Model;
 
 /// The most bytes that the head of an array has.
@@ -74,9 +74,8 @@ impl Ahead {
     }
 
     // Adds a piece. The used bytes are dropped as soon as they are half of all.
-    fn add(&mut self, piece: &[u8]) -> Result<()>
+    fn add(&mut self, piece: &[u8]) -> Result<(), AllocError>
         ensures added { OnOk result (self.new ≡ self.old ++ piece.now) }
-        ensures kind { IfErr result (λ e. e ≡ OutOfMemory) }
     {
         self.let_go();
         self.bytes.extend_from_slice(piece)?;
@@ -175,6 +174,8 @@ fn read_next<D: CountedRead>(
 {
     fill(from, ahead, ended, BEFORE_TAG)?;
     let tag = tag_len(ahead.as_slice())?;
+    // The tag is read whole before it is known to be UTF-8, since an honest list may have a long
+    // one.
     fill(from, ahead, ended, AROUND_TAG.saturating_add(tag))?;
     let (node, left) = first_node(alloc, ahead.as_slice())?;
     ahead.keep_last(left);
@@ -206,6 +207,7 @@ fn read_nodes<D: CountedRead>(
     ensures cause { IsErrOf result Io → D.gave_up from.new }
     ensures kinds { IfErr result (λ e. (e ≡ OutOfMemory) ⊎ (e ≡ InternalError) ⊎ (e ≡ Io)) }
 {
+    // No room is made by the number that is announced, and no length is asked: pipes have none.
     let mut nodes = Vec::new(alloc);
     'each: for i in 0..count {
         let node = read_next(alloc, from, ahead, ended)?;
@@ -237,6 +239,7 @@ pub(crate) fn read_list_from<D: CountedRead>(
     let mut ended = false;
     let count = read_count(from, &mut ahead, &mut ended)?;
     let nodes = read_nodes(alloc, from, &mut ahead, &mut ended, count)?;
+    // One piece more, to see that nothing follows the last node.
     fill(from, &mut ahead, &mut ended, 1)?;
     if ahead.len() != 0 {
         return Err(unreadable());

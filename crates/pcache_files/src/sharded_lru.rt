@@ -11,10 +11,10 @@ ghost use Rattle.pcache_files.specs.FileWriting.{file_written, IsTooLong};
 use crate::codec::{read_file, write_file};
 use crate::folder::{read_entries, replace_file};
 use crate::named::NamedFiles;
-use pcache_base::error::{Error, ErrorType, Result};
+use pcache_base::error::{ErrorType, Result};
 use pcache_evict::eviction::CacheEntryKey;
 use pcache_evict::eviction::sharded_lru::Manager;
-use std::alloc::Global;
+use std::alloc::{AllocError, Global};
 
 /// The bytes of a shard's file, which spell its list in its order.
 pub fn serialize_shard<const N: usize>(
@@ -123,6 +123,7 @@ pub fn load<R: NamedFiles, const N: usize>(
         let list = read_shard(alloc, files, dir, shard)?;
         take_in(&mut entries, &mut skipped, list)?;
     }
+    // Once all files are read, so that a lack of memory leaves the manager as it was.
     manager.load_entries(entries)?;
     Ok(skipped)
 }
@@ -132,13 +133,12 @@ fn take_in(
     entries: &mut Vec<(CacheEntryKey, usize)>,
     skipped: &mut usize,
     list: Option<Vec<(CacheEntryKey, usize)>>,
-) -> Result<()>
+) -> Result<(), AllocError>
     requires { skipped.old + 1 < 2 ^ 64 }
     ensures added { OnOk result (IfSome list (λ v.
         (entries.new.items ≡ entries.old.items ++ v.items) × (skipped.new ≡ skipped.old))) }
     ensures missed { OnOk result
         (IfNone list ((entries.new.items ≡ entries.old.items) × (skipped.new ≡ skipped.old + 1))) }
-    ensures kind { IfErr result (λ e. e ≡ OutOfMemory) }
 {
     match list {
         Some(mut list) => entries.append(&mut list)?,
@@ -153,26 +153,25 @@ fn read_shard<R: NamedFiles>(
     files: &R,
     dir: &str,
     shard: usize,
-) -> Result<Option<Vec<(CacheEntryKey, usize)>>>
+) -> Result<Option<Vec<(CacheEntryKey, usize)>>, AllocError>
     ensures read { IfOk result (λ o. IsFile (R.opens files.now) R.File.remaining R.File.source
         (R.refuses files.now) R.File.read_fails (path_join dir.now (shard_name shard))
         (option_map (λ v. v.items) o)) }
-    ensures kind { IfErr result (λ e. e ≡ OutOfMemory) }
 {
     let name = file_name(alloc, shard)?;
     match read_entries(alloc, files, dir, name.as_str()) {
         Ok(list) => Ok(Some(list)),
         Err(refused) => match refused.etype() {
-            ErrorType::OutOfMemory => Err(Error::new(ErrorType::OutOfMemory)),
+            // A shard whose read met a lack of memory is not skipped: its list may be good.
+            ErrorType::OutOfMemory => Err(AllocError),
             _ => Ok(None),
         },
     }
 }
 
 // The name of a shard's file.
-fn file_name(alloc: Global, shard: usize) -> Result<String>
+fn file_name(alloc: Global, shard: usize) -> Result<String, AllocError>
     ensures name { IfOk result (λ s. string_bytes s ≡ shard_name shard) }
-    ensures kind { IfErr result (λ e. e ≡ OutOfMemory) }
 {
-    Ok(format!(in alloc; "lru.data.{shard}")?)
+    format!(in alloc; "lru.data.{shard}")
 }

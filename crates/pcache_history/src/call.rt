@@ -29,6 +29,8 @@ pub struct Call {
     pub act: Act,
 }
 
+// Apart from `RequestAct`, so that each function of a world is lent the kind of act that it carries
+// out, and no arm is unreachable. What is large is in boxes, so that a call without it is small.
 /// What a request or a put is to do.
 #[derive(Drop)]
 pub enum Act {

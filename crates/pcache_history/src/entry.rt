@@ -27,6 +27,8 @@ pub enum Answer {
     },
 }
 
+// Metas are in boxes, so that an event without one is not as large as the largest. Keys of entries
+// are not: they are named after the effect, when no box may be refused any more.
 /// One thing that a call did.
 #[derive(Drop)]
 pub enum Event {

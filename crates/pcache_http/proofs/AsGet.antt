@@ -1,14 +1,8 @@
 -- A response to a GET may be stored if it may be as one to a GET.
-use Rattle.std.proofs.Common.{◌≡◌, Bool, true, false, refl, codes}
-use Rattle.pcache_meta.specs.declared.header.RequestHeader.{RequestHeader}
-use Rattle.pcache_meta.specs.declared.header.ResponseHeader.{ResponseHeader}
-use Rattle.pcache_http.specs.declared.rules.CacheKind.{CacheKind}
-use Rattle.pcache_http.specs.declared.control.ResponseControl.{ResponseControl}
-use Rattle.pcache_http.specs.declared.control.RequestControl.{RequestControl}
 use Rattle.pcache_http.specs.declared.storing.Storing.{Storing}
 use Rattle.pcache_http.specs.declared.storing.Storing.TheVariants.{Stored, NotStored}
-use Rattle.pcache_http.specs.declared.storing.NotStoredFor.TheVariants.{MethodNotUnderstood, StatusNotFinal, StatusNotUnderstood, NoStoreAsked, NoStoreSaid, PrivateSaid, Authorized, NothingAllowsIt}
 use Rattle.pcache_http.specs.Storing.{IsStoring, as_get, is_method_understood}
+use Rattle.pcache_http.proofs.Words.{◌≡◌, Bool, true, false, refl, codes, RequestHeader, ResponseHeader, CacheKind, ResponseControl, RequestControl, MethodNotUnderstood, StatusNotFinal, StatusNotUnderstood, NoStoreAsked, NoStoreSaid, PrivateSaid, Authorized, NothingAllowsIt}
 
 pub get_is_understood : is_method_understood (codes "GET") ≡ true
 unfolding is_method_understood

@@ -1,18 +1,13 @@
 -- What the decisions never do.
-use Rattle.std.proofs.Common.{◌≡◌, ℕ, Bool, true, false, not, ◌&&◌, ◌||◌, refl, sym, ap, ◌∙◌}
-use Rattle.pcache_meta.specs.declared.header.RequestHeader.{RequestHeader}
-use Rattle.pcache_meta.specs.declared.header.ResponseHeader.{ResponseHeader}
-use Rattle.pcache_http.specs.declared.rules.CacheKind.{CacheKind}
+use Rattle.std.proofs.Common.{not, ◌&&◌, ◌||◌}
 use Rattle.pcache_http.specs.declared.rules.Rules.{Rules}
-use Rattle.pcache_http.specs.declared.control.ResponseControl.{ResponseControl}
-use Rattle.pcache_http.specs.declared.control.RequestControl.{RequestControl}
 use Rattle.pcache_http.specs.declared.lifetime.Lifetime.{Lifetime}
 use Rattle.pcache_http.specs.declared.serving.Serving.{Serving}
 use Rattle.pcache_http.specs.declared.serving.Serving.TheVariants.{Fresh, StaleWhileRevalidating, StaleAccepted, Validate, GatewayTimeout}
 use Rattle.pcache_http.specs.declared.storing.NotStoredFor.{NotStoredFor}
-use Rattle.pcache_http.specs.declared.storing.NotStoredFor.TheVariants.{MethodNotUnderstood, StatusNotFinal, StatusNotUnderstood, NoStoreAsked, NoStoreSaid, PrivateSaid, Authorized, NothingAllowsIt}
 use Rattle.pcache_http.specs.Storing.{MayBeStored, Fails, is_whole}
 use Rattle.pcache_http.specs.Serving.{Serves, IsNotServed, is_fresh, wants_validation, prohibits_stale, may_be_reused, may_be_stale, is_while_revalidating, is_accepted_stale}
+use Rattle.pcache_http.proofs.Words.{◌≡◌, ℕ, Bool, true, false, refl, sym, ap, ◌∙◌, RequestHeader, ResponseHeader, CacheKind, ResponseControl, RequestControl, MethodNotUnderstood, StatusNotFinal, StatusNotUnderstood, NoStoreAsked, NoStoreSaid, PrivateSaid, Authorized, NothingAllowsIt}
 
 clash : (b : Bool) → b ≡ true → b ≡ false → ⊥
 clash b one other = absurd cc

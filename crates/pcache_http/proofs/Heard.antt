@@ -1,15 +1,16 @@
 -- What was heard, one directive more.
-use Rattle.std.proofs.Common.{◌≡◌, ℕ, Bool, true, false, List, [], ◌∷◌, ◌++◌, Option, Some, None, refl, sym, ap, ◌∙◌, append-nil, bytes_eq, cond}
+use Rattle.std.proofs.Common.{Some, None, cond}
 use Rattle.std.proofs.lemmas.List.Elements.{filter_map-append}
 use Rattle.std.specs.List.{filter_map}
 use Rattle.pcache_http.specs.declared.seconds.Amount.{Amount}
 use Rattle.pcache_http.specs.declared.seconds.Number.{Number}
 use Rattle.pcache_http.specs.declared.seconds.Number.TheVariants.{Absent, Once, Repeated}
 use Rattle.pcache_http.specs.declared.control.Reach.{Reach}
-use Rattle.pcache_http.specs.declared.control.Reach.TheVariants.{Nothing, Fields, Whole}
-use Rattle.pcache_http.specs.Said.{Directive, is_called, value_if, values_of}
-use Rattle.pcache_http.specs.Seconds.{amount_of, counted, count_next}
+use Rattle.pcache_http.specs.declared.control.Reach.TheVariants.{Nothing, Fields}
+use Rattle.pcache_http.specs.Said.{value_if}
+use Rattle.pcache_http.specs.Seconds.{amount_of, counted}
 use Rattle.pcache_http.specs.Control.{with_fields, reach_of}
+use Rattle.pcache_http.proofs.Words.{◌≡◌, ℕ, Bool, true, false, List, [], ◌∷◌, ◌++◌, Option, refl, sym, ap, ◌∙◌, append-nil, bytes_eq, Whole, Directive, is_called, values_of, count_next}
 
 -- a directive of another name changes nothing
 values_none : (name : List ℕ) (d : Directive) (b : Bool) → is_called name d ≡ b → b ≡ false → values_of name (d ∷ []) ≡ []

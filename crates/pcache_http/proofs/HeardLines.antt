@@ -1,14 +1,10 @@
 -- The directives of a field's lines, one more line at a time.
-use Rattle.std.proofs.Common.{◌≡◌, ℕ, List, [], ◌∷◌, ◌++◌, refl, sym, ap, ◌∙◌, subst, append_assoc, append-nil}
 use Rattle.std.specs.List.{AllZip}
 use Rattle.std.proofs.lemmas.List.{map-append}
 use Rattle.std.proofs.lemmas.Slice.Zip.{all_zipped_more}
-use Rattle.http_header.specs.FieldValue.{FieldValue}
-use Rattle.pcache_control.specs.declared.scan.Span.{Span}
 use Rattle.pcache_control.specs.Directives.{AreDirectives}
-use Rattle.pcache_control.specs.Maps.{lines_of}
-use Rattle.pcache_control.proofs.Only.{directives_only}
-use Rattle.pcache_http.specs.Said.{Directive, directive_in, directives_in, directives_of, AreSaid}
+use Rattle.pcache_http.specs.Said.{directives_of, AreSaid}
+use Rattle.pcache_http.proofs.Words.{◌≡◌, ℕ, List, [], ◌∷◌, ◌++◌, refl, sym, ap, ◌∙◌, subst, append_assoc, append-nil, FieldValue, Span, lines_of, directives_only, Directive, directive_in, directives_in}
 
 pub directives_in-more : (line : List ℕ) (ys : List Span) (p : Span) → directives_in line (ys ++ p ∷ []) ≡ directives_in line ys ++ directive_in line p ∷ []
 directives_in-more line ys p = map-append (directive_in line) ys (p ∷ [])

@@ -5,3 +5,4 @@ pub mod SameMembers
 pub mod Selected
 pub mod Forbidden
 pub mod AsGet
+pub mod Words

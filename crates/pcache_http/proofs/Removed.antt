@@ -1,20 +1,15 @@
 -- What is left of fields after one more directive that may list some.
-use Rattle.std.proofs.Common.{◌≡◌, ℕ, true, false, List, [], ◌∷◌, ◌++◌, Option, refl, sym, ap, ◌∙◌, append-nil}
-use Rattle.std.specs.Prelude.{codes}
 use Rattle.std.specs.List.{flat_map}
 use Rattle.std.proofs.lemmas.Grind.{flat_map-append}
 use Rattle.std.proofs.lemmas.List.Sums.{fold-append}
-use Rattle.http_header.specs.FieldValue.{FieldValue}
 use Rattle.http_header.specs.HeaderMap.{Entries, remove}
-use Rattle.http_header.specs.Token.{lowercase}
-use Rattle.pcache_http.specs.Said.{Directive, is_called, values_of}
-use Rattle.pcache_http.specs.StoredFields.{without_names, names_listed, names_under, names_kept_out, listing_name, HasRemoved}
+use Rattle.pcache_http.specs.StoredFields.{listing_name, HasRemoved}
 use Rattle.pcache_http.specs.Storing.{is_shared}
-use Rattle.pcache_http.specs.declared.rules.CacheKind.{CacheKind}
 use Rattle.pcache_http.specs.declared.rules.CacheKind.TheVariants.{Shared, Private}
 use Rattle.pcache_http.specs.declared.stored_fields.Listing.{Listing}
 use Rattle.pcache_http.specs.declared.stored_fields.Listing.TheVariants.{NoCache, Private as PrivateListing}
 use Rattle.pcache_http.specs.declared.stored_fields.Removing.{Removing}
+use Rattle.pcache_http.proofs.Words.{◌≡◌, ℕ, true, false, List, [], ◌∷◌, ◌++◌, Option, refl, sym, ap, ◌∙◌, append-nil, codes, FieldValue, lowercase, Directive, is_called, values_of, without_names, names_listed, names_under, names_kept_out, CacheKind}
 use Rattle.pcache_http.proofs.Heard.{values_of-more, values_of-other}
 
 -- the names of both are in lower case

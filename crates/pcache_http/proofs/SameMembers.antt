@@ -1,5 +1,5 @@
 -- Two lists, compared from their fronts.
-use Rattle.std.proofs.Common.{◌≡◌, ◌↔◌, ℕ, List}
+use Rattle.pcache_http.proofs.Words.{◌≡◌, ◌↔◌, ℕ, List}
 
 -- what is left of both is the same exactly if all is
 abbrev pub AreSameSoFar : List (List ℕ) → List (List ℕ) → List (List ℕ) → List (List ℕ) → Type 0

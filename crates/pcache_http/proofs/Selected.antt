@@ -1,7 +1,7 @@
 -- Whether all names are answered, seen from the front.
-use Rattle.std.proofs.Common.{◌≡◌, ◌↔◌, ℕ, Bool, true, false, List, [], ◌∷◌, sym}
-use Rattle.std.specs.Prelude.{IsTrue, All}
+use Rattle.std.specs.Prelude.{IsTrue}
 use Rattle.std.proofs.lemmas.List.Elements.{All-nil, All-cons, All-head, All-rest, All-same}
+use Rattle.pcache_http.proofs.Words.{◌≡◌, ◌↔◌, ℕ, Bool, true, false, List, [], ◌∷◌, sym, All}
 
 pub holds : (b : Bool) (P : Type 0) → IsTrue b ↔ P → b ≡ true → P
 holds b P is e = is.0 e

@@ -67,5 +67,7 @@ pub fn current_age(initial_age: u128, response_time: Moment, now: Moment) -> u32
     ensures { result ≡ current_age initial_age response_time now }
 {
     let resident = now.as_nanos().saturating_sub(response_time.as_nanos());
+    // Cut off once, at the end: a lifetime is whole, so it is more than the exact age exactly if it
+    // is more than the cut one.
     ((initial_age + resident) / SECOND).min(4294967295) as u32
 }

@@ -75,6 +75,8 @@ fn has_quote(bytes: &[u8]) -> bool
 fn split_line(line: &[u8]) -> (&[u8], Option<&[u8]>)
     ensures { members_in line.now ≡ trim_ows result.0.now ∷ items_left (option_copied result.1) }
 {
+    // A comma in quotes may mean itself, so white space round commas tells the variants of such a
+    // line apart. The order and case of members are the field's own, and left to callers.
     if has_quote(line) {
         (line, None)
     } else {

@@ -31,7 +31,8 @@ pub enum Number {
     Repeated(Amount),
 }
 
-// The largest number of seconds, as which longer runs of digits count.
+// The largest number of seconds, as which longer runs of digits count: 32 bits have 136 years, and
+// sums of them fit 64 bits.
 const LARGEST: u64 = 4294967295;
 
 // The number that these digits spell, at most the largest; `None` if a byte is no digit.
@@ -90,6 +91,7 @@ fn time_given(amount: Amount) -> u32
 {
     match amount {
         Amount::Seconds(seconds) => seconds,
+        // What is invalid is stale (RFC 9111 section 4.2.1).
         Amount::Bare | Amount::Invalid => 0,
     }
 }

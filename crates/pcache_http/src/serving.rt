@@ -84,6 +84,7 @@ fn bounds(amount: Amount, by: u32) -> bool
     match amount {
         Amount::Bare => true,
         Amount::Seconds(most) => by <= most,
+        // An invalid `max-stale` accepts nothing.
         Amount::Invalid => false,
     }
 }
@@ -165,6 +166,7 @@ fn is_while_revalidating(
     let by = staleness(lifetime, age);
     may_be_stale(rules.kind, said, asked, lifetime, age)
         && is_open(said.stale_while_revalidate.time(rules.repeats), by)
+        // Of two wishes the stricter one: a request's `max-stale` bounds this too.
         && accepts_stale(asked, by)
 }
 
@@ -236,6 +238,7 @@ pub fn may_follow_error(
 {
     let by = staleness(lifetime, age);
     !prohibits_stale(rules.kind, said)
+        // Also `no-cache` of a request, which asks for no stale response after an error either.
         && !asked.no_cache
         && (is_open(said.stale_if_error.time(rules.repeats), by)
             || is_open(asked.stale_if_error.time(Repeats::First), by))

@@ -16,6 +16,7 @@ use crate::seconds::without_quotes;
 use crate::storing::is_shared;
 use http_header::HeaderMap;
 use pcache_base::error::Result;
+use std::alloc::AllocError;
 
 // A directive that lists fields.
 #[derive(Clone, Copy, Debug, PartialEq, Eq)]
@@ -84,11 +85,10 @@ fn without_listed(kept: HeaderMap, listing: Listing, headers: &HeaderMap) -> Hea
     headers
 }
 
-fn copied(headers: &HeaderMap) -> Result<HeaderMap>
+fn copied(headers: &HeaderMap) -> Result<HeaderMap, AllocError>
     ensures ok { IfOk result (λ copy. copy ≡ headers.now) }
-    ensures kind { IfErr result (λ e. e ≡ OutOfMemory) }
 {
-    Ok(headers.clone()?)
+    headers.clone()
 }
 
 // The fields without those that directives keep out of this cache.

@@ -64,6 +64,8 @@ pub(crate) fn has_field(headers: &HeaderMap, name: &str) -> bool
 fn is_method_understood(method: &Method) -> bool
     ensures { result ≡ is_method_understood method.now }
 {
+    // RFC 9111 also lets responses to HEAD and POST be stored. What is stored here has a content,
+    // and its key has no method.
     *method == Method::GET
 }
 
@@ -108,6 +110,8 @@ fn keeps_to_status(said: &ResponseControl, status: StatusCode) -> bool
     ensures { result ≡ keeps_to_status said.now status }
 {
     let code = status.as_u16();
+    // Never stored, with or without `must-understand`: parts are not combined, and a 304 freshens
+    // what is stored.
     !(code == 206 || code == 304 || said.must_understand) || is_status_understood(status)
 }
 

@@ -1,19 +1,10 @@
 -- Of two logs of one keeper one begins the other, and is what both have. Assumes `Logic`.
-use Rattle.std.proofs.Common.{◌≡◌, ℕ, List, [], ◌∷◌, ◌++◌, map, refl, sym, ap, ◌∙◌, inl, inr, ◌⊎◌}
-use Rattle.std.proofs.lemmas.List.{append-nil}
-use mathlib.Core.List.{IsPrefix}
+use Rattle.std.proofs.Common.{ap, ◌∙◌, inr}
 use mathlib.Core.Option.{none}
-use seplogic.Ra.Ura.{Ura}
-use base.Stored.{Gv, Coded}
-use base.Logic.{SProp, ent, sep, ex, guard}
 use base.Graph.{sum_out}
 use base.Growing.{grows, growing, at_least}
-use types.Logic.{Logic, sem}
 use types.Owned.{own_sum}
-use types.Kit.{‵, ◌$◌, ◌∵◌, !, qed, move, drop, show, check, done}
-use Rattle.logbook.specs.Kept.{logs}
-use Rattle.logbook.proofs.Roster.{prefix_out}
-use Rattle.pcache_keeper.specs.Kept.{had}
+use Rattle.pcache_keeper.proofs.Words.{◌≡◌, ℕ, List, [], ◌∷◌, ◌++◌, map, refl, sym, inl, ◌⊎◌, append-nil, IsPrefix, Ura, Gv, Coded, SProp, ent, sep, ex, guard, Logic, sem, ‵, ◌$◌, ◌∵◌, !, qed, move, drop, show, check, done, logs, prefix_out, had}
 
 abbrev head : Gv → List Gv → Gv
 head d [] = d

@@ -1,9 +1,7 @@
 -- What a keeper and a seen log own belongs to no thread.
-use Rattle.std.specs.Prelude.{ℕ, List}
 use base.Growing.{latest, at_least}
 use base.Shift.{Keyless}
-use base.Stored.{Gv}
-use Rattle.pcache_keeper.specs.Kept.{top, had}
+use Rattle.pcache_keeper.proofs.Words.{ℕ, List, Gv, top, had}
 
 pub top_keyless : {E : Type 0} (code : E → Gv) (η : ℕ) (log : List E) → Keyless (top code η log)
 unfolding latest

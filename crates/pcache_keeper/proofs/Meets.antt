@@ -1,19 +1,10 @@
 -- What was seen of a keeper's log is a beginning of it; of another keeper's log nothing is known. Assumes `Logic`.
-use Rattle.std.proofs.Common.{◌≡◌, ◌⊎◌, inl, ℕ, List, [], ◌∷◌, map, refl, subst, sym}
-use Rattle.std.proofs.lemmas.List.{append-nil}
-use mathlib.Core.List.{IsPrefix}
+use Rattle.std.proofs.Common.{subst}
 use native.Mathlib.Decide.{ℕ_discrete}
-use seplogic.Ra.Ura.{Ura}
-use base.Fraction.{full_share}
-use base.Logic.{SProp, ent, sep, ex, guard, guard_i}
-use base.Stored.{Coded}
+use base.Logic.{guard_i}
 use types.Growing.{latest_bounds}
-use types.Kit.{‵, ◌⊛◌, given, ◌$◌, ◌∵◌, !, qed, check, drop, learn, move, pick, show, some, split, use2, done}
-use types.Logic.{Logic, sem}
-use Rattle.logbook.specs.Kept.{logs}
-use Rattle.logbook.proofs.Roster.{prefix_out}
+use Rattle.pcache_keeper.proofs.Words.{◌≡◌, ◌⊎◌, inl, ℕ, List, [], ◌∷◌, map, refl, sym, append-nil, IsPrefix, Ura, full_share, SProp, ent, sep, ex, guard, Coded, ‵, ◌⊛◌, given, ◌$◌, ◌∵◌, !, qed, check, drop, learn, move, pick, show, some, split, use2, done, Logic, sem, logs, prefix_out, had, top}
 use Rattle.pcache_keeper.proofs.Joined.{joined}
-use Rattle.pcache_keeper.specs.Kept.{had, top}
 
 module _ {M : Type 1} {𝓤 : Ura M} (𝓛 : Logic 𝓤) {E : Type 0} (cv : Coded E) (η θ : ℕ) where
   abbrev Both : List E → List E → SProp 𝓤

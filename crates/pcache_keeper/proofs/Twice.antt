@@ -1,12 +1,6 @@
 -- What was seen can be had twice. Assumes `Logic`.
-use Rattle.std.specs.Prelude.{ℕ, List, map}
-use seplogic.Ra.Ura.{Ura}
-use base.Logic.{ent, sep}
-use base.Stored.{Gv}
-use types.Logic.{Logic, sem}
 use types.Growing.{at_least_dup}
-use Rattle.logbook.specs.Kept.{logs}
-use Rattle.pcache_keeper.specs.Kept.{had}
+use Rattle.pcache_keeper.proofs.Words.{ℕ, List, map, Ura, ent, sep, Gv, Logic, sem, logs, had}
 
 pub had_twice : {M : Type 1} {𝓤 : Ura M} (𝓛 : Logic 𝓤) {E : Type 0} (code : E → Gv) (η : ℕ) (log : List E)
     → ent 𝓤 (sem 𝓛 (had code η log)) (sep 𝓤 (sem 𝓛 (had code η log)) (sem 𝓛 (had code η log)))

@@ -76,6 +76,8 @@ impl<E> Keeper<E> {
         }
     }
 
+    // Asks for no equal names, so that a caller whose mark names nothing makes the same calls. It
+    // says something only where the names agree.
     /// Whatever was seen of its log is a beginning of it.
     pub fn meets(&mut self, seen: &Seen<E>)
         ensures { (self.new.name ≡ self.old.name)

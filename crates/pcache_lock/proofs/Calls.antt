@@ -1,22 +1,11 @@
 -- Every deed leads from a tidy table to a tidy one.
-use Rattle.std.proofs.Common.{◌≡◌, ℕ, Bool, true, false, ◌&&◌, ◌||◌, Option, None, Some, List, [], ◌∷◌, cond, refl, sym, ◌∙◌, ap, subst, arith}
-use Rattle.std.specs.List.{list_any}
-use Rattle.std.specs.Ordering.{nat_cmp, eq_by_cmp}
-use Rattle.std.specs.FinMap.{get, insert, remove, get-empty}
-use Rattle.pcache_lock.specs.declared.lock.outcome.PermitState.{PermitState}
+use Rattle.pcache_lock.specs.Locks.{with_free_permit}
+use Rattle.pcache_lock.specs.PastLaws.{OneWaitsAlways, AskFindsTheWaitingAlways}
+use Rattle.pcache_table.proofs.Sharded.{get-remove-at, get-remove-off}
+use Rattle.pcache_lock.proofs.Words.{◌≡◌, ℕ, Bool, true, false, ◌&&◌, ◌||◌, Option, None, Some, List, [], ◌∷◌, cond, refl, sym, ◌∙◌, ap, subst, arith, list_any, nat_cmp, eq_by_cmp, get, insert, remove, get-empty, PermitState, LockStatus, IsReason, is_free, is_waiting, is_aged, Core, new_core, is_named, with_reader, without_reader, spent, dropped_status, Locks, no_locks_from, with_read_lock, without_entry, kept, released_on, permit_dropped, reader_dropped, changed, ended, after_poll, table_at, permit_state, aged, with_publication, waiting_slot, waits_under, Deed, Granted, Joined, Released, LetGo, Aged, Left, Polled, Published, Made, ReadLocked, Unlocked, Does, PastLeads, is_unlocking, by_test, get-insert-at, get-insert-off}
 use Rattle.pcache_lock.specs.declared.lock.outcome.PermitState.TheVariants as stage
-use Rattle.pcache_lock.specs.declared.lock.status.LockStatus.{LockStatus}
 use Rattle.pcache_lock.specs.declared.lock.status.LockStatus.TheVariants as status
-use Rattle.pcache_lock.specs.Statuses.{IsReason, is_free, is_waiting, is_aged}
-use Rattle.pcache_lock.specs.Permits.{Core, new_core, is_named, with_reader, without_reader, spent, dropped_status}
-use Rattle.pcache_lock.specs.Locks.{Locks, no_locks_from, with_read_lock, without_entry, kept, released_on, permit_dropped, reader_dropped, changed, ended, with_free_permit}
-use Rattle.pcache_lock.specs.Waiting.{after_poll, table_at, permit_state, aged, with_publication}
-use Rattle.pcache_lock.specs.Waits.{waiting_slot, waits_under}
-use Rattle.pcache_lock.specs.Deeds.{Deed, Granted, Joined, Released, LetGo, Aged, Left, Polled, Published, Made, ReadLocked, Unlocked}
-use Rattle.pcache_lock.specs.Past.{Does, PastLeads}
-use Rattle.pcache_lock.specs.PastLaws.{is_unlocking, OneWaitsAlways, AskFindsTheWaitingAlways}
 use Rattle.pcache_lock.proofs.Tidy.{Tidy, Stands, is_open, or_kept, put_tidy, left_tidy, none_some, asked_tidy, found, asked_waits}
-use Rattle.pcache_table.proofs.Sharded.{by_test, get-insert-at, get-insert-off, get-remove-at, get-remove-off}
 
 -- a permit let go
 drop_open : (held : Bool) (s : LockStatus) → (is_free s || (held && is_waiting s)) ≡ true → (is_free (dropped_status s) || (false && is_waiting (dropped_status s))) ≡ true

@@ -1,12 +1,8 @@
 -- Maps that were changed in place, or changed and changed back.
-use Rattle.std.proofs.Common.{◌≡◌, ℕ, Option, None, Some, ◌∙◌, sym, ap, cond, Bool, true, false, refl}
-use Rattle.std.specs.Ordering.{nat_cmp, eq_by_cmp}
-use Rattle.std.specs.Cmp.{nat_cmp_total}
 use Rattle.std.proofs.lemmas.Map.Lookups.{exact_unsigned}
 use Rattle.std.proofs.lemmas.Map.Views.{tells_apart}
-use Rattle.std.specs.FinMap.{FinMap, get, insert, remove, get-insert, get-remove, same_map}
-use Rattle.pcache_lock.specs.Permits.{Core}
-use Rattle.pcache_lock.specs.Locks.{changed}
+use Rattle.std.specs.FinMap.{same_map}
+use Rattle.pcache_lock.proofs.Words.{◌≡◌, ℕ, Option, None, Some, ◌∙◌, sym, ap, cond, Bool, true, false, refl, nat_cmp, eq_by_cmp, nat_cmp_total, FinMap, get, insert, remove, get-insert, get-remove, Core, changed}
 
 -- a known lock, written back
 pub changed_there : (f : Core → Core) (m : FinMap nat_cmp Core) (k : ℕ) (c v : Core) (r : FinMap nat_cmp Core) → Some c ≡ get m k → v ≡ f c → r ≡ insert m k v → r ≡ changed f m k (get m k)

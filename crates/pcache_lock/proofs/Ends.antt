@@ -1,20 +1,13 @@
 -- Which permits wait after each deed, and what a reader is told when it looks twice.
-use Rattle.std.proofs.Common.{◌≡◌, ◌==◌, ℕ, Bool, true, false, ◌+◌, ◌&&◌, ◌||◌, Option, None, Some, List, [], ◌∷◌, ◌++◌, cond, length, drop, nat_lt, refl, sym, ◌∙◌, ap}
-use Rattle.std.specs.Option.{option_or}
+use Rattle.std.proofs.Common.{drop}
 use Rattle.std.proofs.Math.Seq.{drop-append_seam}
 use Rattle.std.proofs.lemmas.List.{drop-append-le}
-use Rattle.std.specs.FinMap.{get, insert}
-use Rattle.pcache_base.specs.declared.fills.UnusableFill.{UnusableFill}
-use Rattle.pcache_base.specs.Fills.{first_match}
-use Rattle.pcache_lock.specs.declared.lock.outcome.PermitState.{PermitState}
-use Rattle.pcache_lock.specs.declared.lock.outcome.PermitState.TheVariants as stage
-use Rattle.pcache_lock.specs.Statuses.{is_waiting}
-use Rattle.pcache_lock.specs.Permits.{Core, new_core, is_named, with_reader, without_reader, spent, released_status, dropped_status}
-use Rattle.pcache_lock.specs.Locks.{Locks, ended, permit_dropped, reader_dropped, released, unlocked, with_read_lock}
-use Rattle.pcache_lock.specs.Waiting.{after_poll, aged, first_told, is_old, permit_state, published, table_at, with_publication}
-use Rattle.pcache_lock.specs.Waits.{is_old_at, waits_under, waiting_slot, LooksAtEachPublication, WaitsUntilItsEnd}
-use Rattle.pcache_lock.specs.Deeds.{Deed, Granted, Joined, Released, LetGo, Aged, Left, Polled, Published, Made, ReadLocked, Unlocked}
+use Rattle.pcache_lock.specs.Locks.{released, unlocked}
+use Rattle.pcache_lock.specs.Waiting.{published}
+use Rattle.pcache_lock.specs.Waits.{LooksAtEachPublication, WaitsUntilItsEnd}
 use Rattle.pcache_lock.specs.PastLaws.{WaitsAfterEachDeed}
+use Rattle.pcache_lock.proofs.Words.{◌≡◌, ◌==◌, ℕ, Bool, true, false, ◌+◌, ◌&&◌, ◌||◌, Option, None, Some, List, [], ◌∷◌, ◌++◌, cond, length, nat_lt, refl, sym, ◌∙◌, ap, option_or, get, insert, UnusableFill, first_match, PermitState, is_waiting, Core, new_core, is_named, with_reader, without_reader, spent, released_status, dropped_status, Locks, ended, permit_dropped, reader_dropped, with_read_lock, after_poll, aged, first_told, is_old, permit_state, table_at, with_publication, is_old_at, waits_under, waiting_slot, Deed, Granted, Joined, Released, LetGo, Aged, Left, Polled, Published, Made, ReadLocked, Unlocked}
+use Rattle.pcache_lock.specs.declared.lock.outcome.PermitState.TheVariants as stage
 use Rattle.pcache_lock.proofs.Calls.{reason_ends}
 use Rattle.pcache_lock.proofs.PastWaits.{aged_at, changed_at, dropped_at, left_by, own_by, read_at, released_at, turned_by, unread_at, written}
 

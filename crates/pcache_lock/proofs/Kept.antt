@@ -1,16 +1,9 @@
 -- What a deed leaves of its lock (how many read locks name it, and its publications) and of the numbers given.
-use Rattle.std.proofs.Common.{◌≡◌, ◌+◌, ◌-◌, ◌^◌, ℕ, Bool, true, false, ◌||◌, Option, None, Some, is_some, List, [], cond, refl, ap, ◌∙◌, arith, min, nat_lt}
-use Rattle.std.specs.FinMap.{get, insert, remove}
-use Rattle.std.proofs.lemmas.Bool.Decides.{nat_tests}
-use Rattle.pcache_lock.specs.declared.lock.outcome.PermitState.{PermitState}
+use Rattle.std.proofs.Common.{is_some}
+use Rattle.pcache_lock.specs.Permits.{publications_at, readers_at}
+use Rattle.pcache_lock.specs.Waiting.{publications_with}
+use Rattle.pcache_lock.proofs.Words.{◌≡◌, ◌+◌, ◌-◌, ◌^◌, ℕ, Bool, true, false, ◌||◌, Option, None, Some, List, [], cond, refl, ap, ◌∙◌, arith, min, nat_lt, get, insert, remove, nat_tests, PermitState, LockStatus, is_aged, Core, is_named, without_reader, spent, released_status, dropped_status, Locks, kept, left, permit_dropped, reader_dropped, released_on, with_read_lock, without_entry, after_poll, permit_state, table_at, Deed, Granted, Joined, Released, LetGo, Aged, Left, Polled, Published, Made, ReadLocked, Unlocked, Does}
 use Rattle.pcache_lock.specs.declared.lock.outcome.PermitState.TheVariants as stage
-use Rattle.pcache_lock.specs.declared.lock.status.LockStatus.{LockStatus}
-use Rattle.pcache_lock.specs.Statuses.{is_aged}
-use Rattle.pcache_lock.specs.Permits.{Core, is_named, publications_at, readers_at, without_reader, spent, released_status, dropped_status}
-use Rattle.pcache_lock.specs.Locks.{Locks, kept, left, permit_dropped, reader_dropped, released_on, with_read_lock, without_entry}
-use Rattle.pcache_lock.specs.Waiting.{after_poll, permit_state, publications_with, table_at}
-use Rattle.pcache_lock.specs.Deeds.{Deed, Granted, Joined, Released, LetGo, Aged, Left, Polled, Published, Made, ReadLocked, Unlocked}
-use Rattle.pcache_lock.specs.Past.{Does}
 use Rattle.pcache_lock.proofs.PastWaits.{left_by, turned}
 
 -- a permit is given, of a lock with a new number

@@ -9,3 +9,4 @@ pub mod PastLaws
 pub mod PastWaits
 mod Walks
 pub mod Kept
+pub mod Words

@@ -1,15 +1,7 @@
 -- Every lock that a table keeps is named by its permit or a read lock.
-use Rattle.std.proofs.Common.{◌≡◌, ◌+◌, ◌-◌, ◌^◌, ℕ, Bool, true, false, ◌||◌, Option, None, Some, List, [], ◌∷◌, ◌==◌, cond, refl, sym, ◌∙◌, ap, subst, arith, min, nat_lt, IsSome}
-use Rattle.std.specs.Ordering.{nat_cmp}
-use Rattle.std.proofs.lemmas.Bool.Decides.{nat_tests}
-use Rattle.std.specs.FinMap.{get, get-empty}
-use Rattle.pcache_lock.specs.Permits.{Core, is_named, with_reader, without_reader, spent, released_status, dropped_status}
-use Rattle.pcache_lock.specs.Locks.{Locks, no_locks_from, ended}
-use Rattle.pcache_lock.specs.Waiting.{aged, with_publication}
-use Rattle.pcache_lock.specs.Deeds.{Deed, Granted, Joined, Released, LetGo, Aged, Left, Polled, Published, Made, ReadLocked, Unlocked}
-use Rattle.pcache_lock.specs.Past.{PastLeads}
+use Rattle.std.proofs.Common.{IsSome}
 use Rattle.pcache_lock.specs.PastLaws.{NothingRemainsAlways}
-use Rattle.pcache_lock.specs.PastWaits.{number_of}
+use Rattle.pcache_lock.proofs.Words.{◌≡◌, ◌+◌, ◌-◌, ◌^◌, ℕ, Bool, true, false, ◌||◌, Option, None, Some, List, [], ◌∷◌, ◌==◌, cond, refl, sym, ◌∙◌, ap, subst, arith, min, nat_lt, nat_cmp, nat_tests, get, get-empty, Core, is_named, with_reader, without_reader, spent, released_status, dropped_status, Locks, no_locks_from, ended, aged, with_publication, Deed, Granted, Joined, Released, LetGo, Aged, Left, Polled, Published, Made, ReadLocked, Unlocked, PastLeads, number_of}
 use Rattle.pcache_lock.proofs.Tidy.{Stands}
 use Rattle.pcache_lock.proofs.Calls.{any_tidy}
 use Rattle.pcache_lock.proofs.PastWaits.{turned_by, left_by, turned, turns, own_by}

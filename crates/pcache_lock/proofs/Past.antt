@@ -1,19 +1,12 @@
 -- A table that knows its past: what each call did leads from the table before it to the one after it.
-use Rattle.std.proofs.Common.{◌≡◌, ℕ, Bool, false, List, [], ◌∷◌, Option, None, Some, refl, sym, ◌∙◌, ap}
-use Rattle.std.specs.FinMap.{get}
-use Rattle.pcache_base.specs.declared.fills.UnusableFill.{UnusableFill}
 use Rattle.pcache_base.specs.declared.poll.Poll.{Poll}
 use Rattle.pcache_lock.specs.declared.lock.outcome.WaitOutcome.{WaitOutcome}
-use Rattle.pcache_lock.specs.declared.lock.outcome.PermitState.{PermitState}
-use Rattle.pcache_lock.specs.declared.lock.outcome.PermitState.TheVariants as stage
 use Rattle.pcache_lock.specs.declared.lock.permit.Locked.{Locked}
 use Rattle.pcache_lock.specs.declared.lock.permit.Locked.TheVariants.{Write, Read}
-use Rattle.pcache_lock.specs.Permits.{Core, Watch}
-use Rattle.pcache_lock.specs.Locks.{Locks, no_locks_from, holder, after_request, lock_given, let_go, is_permit, number_of_lock}
-use Rattle.pcache_lock.specs.Waiting.{after_poll, polled, answer_at, table_at, permit_state, is_old, told_or_pending, watched, watch_at}
-use Rattle.pcache_lock.specs.Waits.{is_old_at}
-use Rattle.pcache_lock.specs.Deeds.{Deed, asked, asked_again, given_up, tells_old}
-use Rattle.pcache_lock.specs.Past.{Does, PastLeads, IsPastOf}
+use Rattle.pcache_lock.specs.Locks.{after_request, let_go, is_permit, number_of_lock}
+use Rattle.pcache_lock.specs.Deeds.{asked, asked_again, given_up, tells_old}
+use Rattle.pcache_lock.proofs.Words.{◌≡◌, ℕ, Bool, false, List, [], ◌∷◌, Option, None, Some, refl, sym, ◌∙◌, ap, get, UnusableFill, PermitState, Core, Watch, Locks, no_locks_from, holder, lock_given, after_poll, polled, answer_at, table_at, permit_state, is_old, told_or_pending, watched, watch_at, is_old_at, Deed, Does, PastLeads, IsPastOf}
+use Rattle.pcache_lock.specs.declared.lock.outcome.PermitState.TheVariants as stage
 
 pub begins : (start age : ℕ) → IsPastOf (no_locks_from start age) []
 begins start age =

@@ -1,15 +1,8 @@
 -- The laws of each table's past, by induction over the past.
-use Rattle.std.proofs.Common.{◌≡◌, ◌==◌, ℕ, Bool, true, false, ◌||◌, ◌++◌, ◌↔◌, Option, None, Some, List, [], ◌∷◌, cond, refl, sym, ◌∙◌, ap, subst, arith}
+use Rattle.std.proofs.Common.{◌↔◌}
 use Rattle.std.specs.Prelude.{unwrap_or}
-use Rattle.std.specs.List.{list_any}
-use Rattle.std.specs.Ordering.{nat_cmp}
-use Rattle.std.specs.FinMap.{get-empty}
-use Rattle.std.proofs.lemmas.Bool.Decides.{nat_tests}
-use Rattle.pcache_lock.specs.Locks.{Locks, no_locks_from, holder, lock_given}
-use Rattle.pcache_lock.specs.Waits.{waits_under, waiting_slot}
-use Rattle.pcache_lock.specs.Deeds.{Deed, Granted, Joined, Released, LetGo, Aged, Left, Polled, Published, Made, ReadLocked, Unlocked}
-use Rattle.pcache_lock.specs.Past.{Does, PastLeads}
-use Rattle.pcache_lock.specs.PastLaws.{waits_after, waits_for, Gets, IsGiven, AllGiven, is_unlocking, UnlocksNone, grant_of, ends, GivesByPastAlways, AllGivenAlways, AtMostOneWaitsAlways, OneFetchAtATimeAlways}
+use Rattle.pcache_lock.specs.PastLaws.{waits_after, waits_for, Gets, IsGiven, AllGiven, UnlocksNone, grant_of, ends, GivesByPastAlways, AllGivenAlways, AtMostOneWaitsAlways, OneFetchAtATimeAlways}
+use Rattle.pcache_lock.proofs.Words.{◌≡◌, ◌==◌, ℕ, Bool, true, false, ◌||◌, ◌++◌, Option, None, Some, List, [], ◌∷◌, cond, refl, sym, ◌∙◌, ap, subst, arith, list_any, nat_cmp, get-empty, nat_tests, Locks, no_locks_from, holder, lock_given, waits_under, waiting_slot, Deed, Granted, Joined, Released, LetGo, Aged, Left, Polled, Published, Made, ReadLocked, Unlocked, Does, PastLeads, is_unlocking}
 use Rattle.pcache_lock.proofs.Tidy.{Tidy, none_some, asked_waits, found}
 use Rattle.pcache_lock.proofs.Calls.{start_tidy_from, past_tidy, any_tidy}
 use Rattle.pcache_lock.proofs.Ends.{waits_after_each_deed}

@@ -1,23 +1,10 @@
 -- What a table knows of a lock is what its past says.
-use Rattle.std.proofs.Common.{◌≡◌, ◌==◌, ℕ, Bool, true, false, ◌||◌, Option, None, Some, List, [], ◌∷◌, cond, inl, inr, refl, sym, ◌∙◌, ap, subst, arith}
-use Rattle.std.specs.Ordering.{nat_cmp}
-use Rattle.std.specs.Cmp.{nat_cmp_total, unsigned_tied}
-use Rattle.std.specs.FinMap.{FinMap, get, insert, remove, get-insert, get-remove, get-empty}
-use Rattle.std.proofs.lemmas.Bool.Decides.{nat_tests}
-use Rattle.pcache_base.specs.declared.fills.UnusableFill.{UnusableFill}
-use Rattle.pcache_lock.specs.declared.lock.outcome.PermitState.{PermitState}
+use Rattle.std.proofs.Common.{inl, inr}
+use Rattle.pcache_lock.specs.PastWaits.{held_by, is_held, status_by, status_said, given_by, given_at, is_late, stage_by, ReturnsBy, EndsByPastAlways, StatusByPastAlways}
+use Rattle.pcache_lock.proofs.Words.{◌≡◌, ◌==◌, ℕ, Bool, true, false, ◌||◌, Option, None, Some, List, [], ◌∷◌, cond, refl, sym, ◌∙◌, ap, subst, arith, nat_cmp, nat_cmp_total, unsigned_tied, FinMap, get, insert, remove, get-insert, get-remove, get-empty, nat_tests, UnusableFill, PermitState, LockStatus, IsReason, is_aged, is_waiting, Core, Watch, new_core, is_named, with_reader, without_reader, spent, released_status, dropped_status, Locks, no_locks_from, with_read_lock, without_entry, kept, left, released_on, permit_dropped, reader_dropped, changed, ended, after_poll, polled, table_at, permit_state, answer_at, told_or_pending, watched, watch_at, aged, is_old, with_publication, is_old_at, Deed, Granted, Joined, Released, LetGo, Aged, Left, Polled, Published, Made, ReadLocked, Unlocked, Does, IsPastOf, PastLeads, number_of}
 use Rattle.pcache_lock.specs.declared.lock.outcome.PermitState.TheVariants as stage
-use Rattle.pcache_lock.specs.declared.lock.status.LockStatus.{LockStatus}
 use Rattle.pcache_lock.specs.declared.lock.status.LockStatus.TheVariants as status
-use Rattle.pcache_lock.specs.Statuses.{IsReason, is_aged, is_waiting}
-use Rattle.pcache_lock.specs.Permits.{Core, Watch, new_core, is_named, with_reader, without_reader, spent, released_status, dropped_status}
-use Rattle.pcache_lock.specs.Locks.{Locks, no_locks_from, with_read_lock, without_entry, kept, left, released_on, permit_dropped, reader_dropped, changed, ended}
-use Rattle.pcache_lock.specs.Waiting.{after_poll, polled, table_at, permit_state, answer_at, told_or_pending, watched, watch_at, aged, is_old, with_publication}
-use Rattle.pcache_lock.specs.Waits.{is_old_at}
-use Rattle.pcache_lock.specs.Deeds.{Deed, Granted, Joined, Released, LetGo, Aged, Left, Polled, Published, Made, ReadLocked, Unlocked}
-use Rattle.pcache_lock.specs.Past.{Does, IsPastOf, PastLeads}
 use Rattle.pcache_lock.proofs.Calls.{reason_ends}
-use Rattle.pcache_lock.specs.PastWaits.{number_of, held_by, is_held, status_by, status_said, given_by, given_at, is_late, stage_by, ReturnsBy, EndsByPastAlways, StatusByPastAlways}
 
 -- Each deed turns its own lock alone.
 pub written : (cores : FinMap nat_cmp Core) (m : ℕ) (d : Core) (n : ℕ) → get (insert cores m d) n ≡ cond (n == m) (Some d) (get cores n)

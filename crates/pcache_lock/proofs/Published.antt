@@ -1,22 +1,19 @@
 -- What is found of tokens among publications.
-use Rattle.std.proofs.Common.{◌≡◌, ◌<◌, ◌≤◌, ◌+◌, ◌-◌, ◌^◌, ◌==◌, ℕ, suc, zero, Bool, true, false, not, ◌&&◌, ◌||◌, cond, List, [], ◌∷◌, ◌++◌, length, drop, take, Option, None, Some, refl, sym, ◌∙◌, ap, subst, arith, get_or, length-append}
-use Rattle.std.specs.Option.{option_or, is_some}
-use Rattle.std.specs.List.{list_any, slice_get}
+use Rattle.std.proofs.Common.{suc, zero, drop, get_or, length-append}
+use Rattle.std.specs.Option.{is_some}
+use Rattle.std.specs.List.{slice_get}
 use Rattle.std.proofs.lemmas.Option.{slice_get_read}
 use Rattle.std.proofs.Math.Seq.{get_or-append_seam}
-use Rattle.std.specs.BTreeMap.{is_at}
-use Rattle.std.specs.BTreeSet.{BTreeSet, contains, IsEmpty, IsKeyRangeOf}
+use Rattle.std.specs.BTreeSet.{BTreeSet, IsEmpty, IsKeyRangeOf}
 use Rattle.std.specs.declared.ops.Bound.TheVariants.{Included, Excluded}
 use Rattle.std.proofs.lemmas.List.Folds.{list_any_more}
 use Rattle.std.proofs.lemmas.Map.Keys.{le_from_not_gt}
-use Rattle.std.specs.Ordering.{nat_cmp, is_gt}
+use Rattle.std.specs.Ordering.{is_gt}
 use Rattle.std.specs.declared.cmp.Ordering.TheVariants.{Less}
-use Rattle.std.proofs.lemmas.List.{take_more, take_all}
-use Rattle.std.proofs.lemmas.Bool.Decides.{nat_tests}
-use Rattle.pcache_base.specs.declared.fills.UnusableFill.{UnusableFill}
-use Rattle.pcache_base.specs.Fills.{first_match}
-use Rattle.pcache_lock.specs.Waiting.{first_told, says_nothing, HasRoom}
-use Rattle.pcache_lock.specs.Published.{has_token, entry_of, is_entry_for, IsIndex, IsFirstPosition}
+use Rattle.std.proofs.lemmas.List.{take_more}
+use Rattle.pcache_lock.specs.Waiting.{says_nothing, HasRoom}
+use Rattle.pcache_lock.specs.Published.{has_token, entry_of, IsFirstPosition}
+use Rattle.pcache_lock.proofs.Words.{◌≡◌, ◌<◌, ◌≤◌, ◌+◌, ◌-◌, ◌^◌, ◌==◌, ℕ, Bool, true, false, not, ◌&&◌, ◌||◌, cond, List, [], ◌∷◌, ◌++◌, length, take, Option, None, Some, refl, sym, ◌∙◌, ap, subst, arith, option_or, list_any, is_at, contains, nat_cmp, take_all, nat_tests, UnusableFill, first_match, first_told, is_entry_for, IsIndex}
 
 -- ---- what one more fill makes of it
 

@@ -1,16 +1,8 @@
 -- What holds of every table that calls lead to.
-use Rattle.std.proofs.Common.{◌≡◌, ◌≤◌, ◌==◌, ℕ, Bool, true, false, ◌&&◌, ◌||◌, Option, None, Some, cond, refl, sym, ◌∙◌, ap, subst, arith}
-use Rattle.std.specs.Ordering.{nat_cmp, eq_by_cmp}
-use Rattle.std.specs.Cmp.{nat_cmp_total, unsigned_tied}
-use Rattle.std.proofs.lemmas.Bool.Decides.{nat_tests}
-use Rattle.std.specs.FinMap.{FinMap, get, insert, remove, get-remove}
-use Rattle.pcache_lock.specs.declared.lock.status.LockStatus.{LockStatus}
+use Rattle.pcache_lock.specs.Locks.{held_by, unless_free, with_permit, is_current}
+use Rattle.pcache_table.proofs.Sharded.{same_key}
+use Rattle.pcache_lock.proofs.Words.{◌≡◌, ◌≤◌, ◌==◌, ℕ, Bool, true, false, ◌&&◌, ◌||◌, Option, None, Some, cond, refl, sym, ◌∙◌, ap, subst, arith, nat_cmp, eq_by_cmp, nat_cmp_total, unsigned_tied, nat_tests, FinMap, get, insert, remove, get-remove, LockStatus, is_free, is_waiting, Core, new_core, Locks, holder, without_entry, waiting_slot, waits_under, by_test, get-insert-at, get-insert-off}
 use Rattle.pcache_lock.specs.declared.lock.status.LockStatus.TheVariants as status
-use Rattle.pcache_lock.specs.Statuses.{is_free, is_waiting}
-use Rattle.pcache_lock.specs.Permits.{Core, new_core}
-use Rattle.pcache_lock.specs.Locks.{Locks, holder, held_by, unless_free, with_permit, without_entry, is_current}
-use Rattle.pcache_lock.specs.Waits.{waiting_slot, waits_under}
-use Rattle.pcache_table.proofs.Sharded.{by_test, get-insert-at, get-insert-off, same_key}
 
 -- the current lock of a key is a lock of that key whose status is free, or whose permit waits; if permits may be
 -- unlocked, any lock of that key

@@ -1,12 +1,9 @@
 -- A step of the proofs by hand of `Past::new` and `Past::then`: the value of a struct with no field that is stored. Assumes `Logic`.
-use Rattle.std.proofs.Common.{List, [], ◌∷◌, refl}
-use seplogic.Ra.Ura.{Ura}
-use mir.Val.{Val, vstruct, vnil}
-use types.Logic.{Logic}
-use types.Kit.{Goal, Step, step, Item, ‵, ◌$◌, fjoin, fpack, feq_i}
+use mir.Val.{vstruct, vnil}
+use types.Kit.{Goal, Step, step, Item, fpack, feq_i}
 use denote.RattleType.{RattleType, Valss}
-use denote.Steps.{nothing}
 use denote.Struct.Struct.{Struct, within}
+use Rattle.pcache_lock.proofs.Words.{List, [], ◌∷◌, refl, Ura, Val, Logic, ‵, ◌$◌, fjoin, nothing}
 
 abbrev pub none : Val
 none = vstruct vnil

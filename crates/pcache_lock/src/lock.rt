@@ -49,6 +49,8 @@ pub trait CacheKeyLock {
     /// The locks that a permit or a read lock still names, and the current one of each key.
     ghost table: { Self → Locks };
 
+    // An `Option`, so that a table that keeps none says so once and meets each clause. A past that
+    // a table may choose freely would promise nothing.
     /// What was done to the table, the newest first; of a table that keeps no past always `None`.
     ghost past: { Self → Option (List Deed) };
 

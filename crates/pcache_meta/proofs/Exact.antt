@@ -1,14 +1,13 @@
 -- Reading gives exactly what is spelled: what is read is spelled so (`.._takes`), and what is spelled so is read, as
 -- that value (`.._again`); the bytes after it are bytes (`.._behind`).
-use Rattle.std.proofs.Common.{◌≡◌, ℕ, zero, suc, ◌+◌, ◌-◌, ◌^◌, ◌<◌, ◌≤◌, Bool, true, false, cond, ltb, eqb, List, [], ◌∷◌, ◌++◌, length, get_or, take, drop, Option, Some, None, refl, sym, ap, ◌∙◌, arith, inl, inr, ◌⊎◌}
-use Rattle.std.specs.Int.{Width, w8, w16, w32, w64, byte_len, from_be_bytes, to_be_bytes}
-use Rattle.std.proofs.lemmas.Bool.{cases_lt, ltb-false, ltb-true, lt-ltb, le-ltb, eqb-true}
-use Rattle.std.proofs.lemmas.List.{take_at, drop_at, take-append-drop, length-append, length-take, get_or-take, get_or_past, get_or-append-add}
+use Rattle.std.proofs.Common.{◌⊎◌}
+use Rattle.std.specs.Int.{Width, w64, byte_len, from_be_bytes}
+use Rattle.std.proofs.lemmas.Bool.{cases_lt}
+use Rattle.std.proofs.lemmas.List.{length-append, length-take, get_or-take, get_or_past, get_or-append-add}
 use Rattle.std.proofs.lemmas.Nat.{be_bytes_2, be_bytes_4, be_bytes_8, from_be_bytes-to_be_bytes_2, from_be_bytes-to_be_bytes_4, from_be_bytes-to_be_bytes_8}
-use Rattle.std.proofs.lemmas.Option.{some_pair_parts}
-use Rattle.pcache_meta.specs.Spelling.{NumberForm, number_limit, number_text, NumberThen, ArrayForm, array_limit, array_text, ArrayThen, BytesThen, HashThen, OptionThen}
+use Rattle.pcache_meta.specs.Reading.{wide_at, number_at, array_at, items_at, number_below_at, small_numbers_at, hash_at, starts_with_nil, optional_at, mark_at}
+use Rattle.pcache_meta.proofs.Words.{◌≡◌, ℕ, zero, suc, ◌+◌, ◌-◌, ◌^◌, ◌<◌, ◌≤◌, Bool, true, false, cond, ltb, eqb, List, [], ◌∷◌, ◌++◌, length, get_or, take, drop, Option, Some, None, refl, sym, ap, ◌∙◌, arith, inl, inr, w8, w16, w32, to_be_bytes, ltb-false, ltb-true, lt-ltb, le-ltb, eqb-true, take_at, drop_at, take-append-drop, some_pair_parts, NumberForm, number_limit, number_text, NumberThen, ArrayForm, array_limit, array_text, ArrayThen, BytesThen, HashThen, OptionThen, ◌>>=◌, when}
 use Rattle.pcache_meta.specs.Spelling as spell
-use Rattle.pcache_meta.specs.Reading.{◌>>=◌, when, wide_at, number_at, array_at, items_at, number_below_at, small_numbers_at, hash_at, starts_with_nil, optional_at, mark_at}
 
 abbrev pub IsBytes : List ℕ → Type 0
 IsBytes bytes = (i : ℕ) → get_or bytes i 0 < 256

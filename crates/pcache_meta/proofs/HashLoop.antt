@@ -1,10 +1,8 @@
 -- Reading the bytes of a hash one after the other, as a loop does.
-use Rattle.std.proofs.Common.{◌≡◌, ℕ, suc, ◌-◌, ◌+◌, ◌≤◌, ◌<◌, List, [], ◌∷◌, ◌++◌, Option, Some, None, length, take, refl, sym, ap, ◌∙◌, append_assoc, arith}
-use Rattle.std.proofs.lemmas.List.{append-nil, take_more_set, take_all}
-use Rattle.std.specs.Prelude.{slice_set}
-use Rattle.pcache_base.specs.declared.error.ErrorType.{ErrorType}
+use Rattle.std.proofs.lemmas.List.{take_more_set, take_all}
+use Rattle.pcache_meta.specs.Reading.{number_below_at, small_numbers_at}
+use Rattle.pcache_meta.proofs.Words.{◌≡◌, ℕ, suc, ◌-◌, ◌+◌, ◌≤◌, ◌<◌, List, [], ◌∷◌, ◌++◌, Option, Some, None, length, take, refl, sym, ap, ◌∙◌, append_assoc, arith, append-nil, slice_set, ErrorType, ◌>>=◌, Fails}
 use Rattle.pcache_meta.proofs.Refusals.{Fails-along}
-use Rattle.pcache_meta.specs.Reading.{◌>>=◌, Fails, number_below_at, small_numbers_at}
 
 -- what was read before, and what is still read
 abbrev pub with_front : List ℕ → Option (List ℕ × List ℕ) → Option (List ℕ × List ℕ)

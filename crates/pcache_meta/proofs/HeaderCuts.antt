@@ -1,9 +1,10 @@
 -- Parts of a text that is read line by line.
-use Rattle.std.proofs.Common.{◌≡◌, ℕ, ◌+◌, ◌-◌, ◌≤◌, List, [], ◌∷◌, ◌++◌, length, take, drop, Some, sym, ap, ◌∙◌, append_assoc, arith, length-append}
+use Rattle.std.proofs.Common.{length-append}
 use Rattle.std.specs.List.{slice_range}
-use Rattle.std.proofs.Math.Seq.{take-append_seam, drop-append_seam, drop-append-add}
-use Rattle.pcache_meta.specs.HeaderReading.{line_from, name_from, BeginsWith, EndsWith}
+use Rattle.std.proofs.Math.Seq.{drop-append-add}
+use Rattle.pcache_meta.specs.HeaderReading.{BeginsWith, EndsWith}
 use Rattle.pcache_meta.specs.Reading.{mark_at}
+use Rattle.pcache_meta.proofs.Words.{◌≡◌, ℕ, ◌+◌, ◌-◌, ◌≤◌, List, [], ◌∷◌, ◌++◌, length, take, drop, Some, sym, ap, ◌∙◌, append_assoc, arith, take-append_seam, drop-append_seam, line_from, name_from}
 use Rattle.pcache_meta.proofs.Exact.{mark_takes}
 use Rattle.pcache_meta.proofs.HeaderExact.{line_takes, name_takes}
 

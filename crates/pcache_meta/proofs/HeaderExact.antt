@@ -1,25 +1,12 @@
 -- The text of a head is read exactly when it is spelled.
-use Rattle.std.proofs.Common.{◌≡◌, ℕ, zero, suc, ◌<◌, ◌≤◌, Bool, true, false, eqb, List, [], ◌∷◌, ◌++◌, length, Option, Some, None, refl, sym, ap, subst, ◌∙◌, append_assoc, arith, inl, inr, length-append}
-use Rattle.std.specs.Prelude.{All, ◌&&◌, IsTrue, bytes_eq, codes}
-use Rattle.std.specs.List.{list_all, flat_map}
-use Rattle.std.proofs.lemmas.Bool.{eqb-true}
-use Rattle.std.proofs.lemmas.List.{append-nil, append_cancel_left, nil_from_length}
-use Rattle.std.proofs.lemmas.List.Concat.{flat_map-cons}
-use Rattle.std.proofs.lemmas.List.Elements.{All-nil, All-cons, All-head, All-tail}
-use Rattle.std.proofs.lemmas.Option.{some_pair_parts, same_Some}
-use Rattle.std.proofs.lemmas.Slice.Eq.{bytes_eq-Decides}
-use Rattle.http.specs.StatusCode.{IsStatusCode, code_digits}
-use Rattle.http_header.specs.Token.{is_token_byte, token_test, is_value_byte, AllPass}
-use Rattle.http_header.specs.FieldName.{IsHeaderName, is_header_name}
-use Rattle.http_header.specs.FieldValue.{IsFieldValue}
-use Rattle.http_header.specs.HeaderMap.{append, append_all, pairs}
-use Rattle.http_header.proofs.TokenLemmas.{IsHeaderName-from_test, AllPass-from_test}
-use Rattle.pcache_meta.specs.Header.{Fields, Header}
-use Rattle.pcache_meta.specs.HeaderText.{Field, IsField, FitsMap, field_text, field_line, fields_text, version_text, status_text, line_end, header_text, SpellsHeader}
-use Rattle.pcache_meta.specs.HeaderReading.{line_from, name_from, name_at, value_at, field_at, append_at, fields_at, version_at, status_at, status_line_at, ordered_at, header_at, unordered_at}
-use Rattle.pcache_meta.specs.Reading.{◌>>=◌, bytes_at, mark_at}
-use Rattle.pcache_meta.specs.declared.header.HttpVersion.{HttpVersion}
+use Rattle.std.proofs.Common.{length-append}
+use Rattle.std.specs.Prelude.{codes}
+use Rattle.http_header.specs.Token.{is_token_byte}
+use Rattle.pcache_meta.specs.HeaderText.{field_text, field_line, fields_text, version_text, status_text, header_text}
+use Rattle.pcache_meta.specs.HeaderReading.{name_at, value_at, field_at, append_at, fields_at, version_at, status_at, status_line_at, ordered_at, header_at, unordered_at}
+use Rattle.pcache_meta.specs.Reading.{bytes_at, mark_at}
 use Rattle.pcache_meta.specs.declared.header.HttpVersion.TheVariants.{Http09, Http10, Http11, Http2, Http3}
+use Rattle.pcache_meta.proofs.Words.{◌≡◌, ℕ, zero, suc, ◌<◌, ◌≤◌, Bool, true, false, eqb, List, [], ◌∷◌, ◌++◌, length, Option, Some, None, refl, sym, ap, subst, ◌∙◌, append_assoc, arith, inl, inr, All, ◌&&◌, IsTrue, bytes_eq, list_all, flat_map, eqb-true, append-nil, append_cancel_left, nil_from_length, flat_map-cons, All-nil, All-cons, All-head, All-tail, some_pair_parts, same_Some, bytes_eq-Decides, IsStatusCode, code_digits, token_test, is_value_byte, AllPass, IsHeaderName, is_header_name, IsFieldValue, append, append_all, pairs, IsHeaderName-from_test, AllPass-from_test, Fields, Header, Field, IsField, FitsMap, line_end, SpellsHeader, line_from, name_from, ◌>>=◌, HttpVersion}
 use Rattle.pcache_meta.proofs.Exact.{after, after_rest, when_some, chosen, mark_takes, mark_again}
 use Rattle.pcache_meta.proofs.TextExact.{bytes_takes}
 use Rattle.pcache_meta.proofs.HeaderLines.{line_then, fields_step, fields_none, line_shorter}

@@ -1,18 +1,11 @@
 -- The lines of a text are those of a head exactly when the text spells a head.
-use Rattle.std.proofs.Common.{◌≡◌, ℕ, zero, suc, ◌+◌, ◌-◌, ◌^◌, ◌<◌, ◌≤◌, Bool, true, false, cond, eqb, List, [], ◌∷◌, ◌++◌, length, map, take, Option, Some, None, refl, sym, ap, ◌∙◌, append_assoc, arith, inl, inr, length-append}
-use Rattle.std.specs.Prelude.{All, ◌&&◌, ◌||◌, bytes_eq, not, slice_set}
-use Rattle.std.proofs.lemmas.List.{append_cancel_left}
-use Rattle.std.proofs.lemmas.List.Elements.{All-nil, All-cons, All-head, All-tail}
-use Rattle.std.proofs.lemmas.Option.{some_pair_parts}
-use Rattle.std.proofs.lemmas.Slice.Eq.{bytes_eq-Decides}
-use Rattle.http_header.specs.HeaderMap.{pairs}
+use Rattle.std.proofs.Common.{length-append}
+use Rattle.std.specs.Prelude.{not}
 use Rattle.http_header.proofs.CountLemmas.{length-pairs}
-use Rattle.pcache_meta.specs.Header.{Fields, Header}
-use Rattle.pcache_meta.specs.HeaderText.{Field, IsField, field_text, field_line, fields_text, fields_of, line_end, status_text, header_text, SpellsHeader}
-use Rattle.pcache_meta.specs.HeaderForm.{IsHeaderText, name_then_at, then_lines, lines_from, lines_at, are_fields, has_any, has_name, is_among, starts_with_name, are_grouped, are_lines}
-use Rattle.pcache_meta.specs.HeaderReading.{line_from, field_at, status_line_at}
-use Rattle.pcache_meta.specs.Reading.{◌>>=◌}
-use Rattle.pcache_meta.specs.declared.header.HttpVersion.{HttpVersion}
+use Rattle.pcache_meta.specs.HeaderText.{field_text, field_line, fields_text, status_text, header_text}
+use Rattle.pcache_meta.specs.HeaderForm.{name_then_at, then_lines, lines_from, lines_at, are_fields, are_lines}
+use Rattle.pcache_meta.specs.HeaderReading.{field_at, status_line_at}
+use Rattle.pcache_meta.proofs.Words.{◌≡◌, ℕ, zero, suc, ◌+◌, ◌-◌, ◌^◌, ◌<◌, ◌≤◌, Bool, true, false, cond, eqb, List, [], ◌∷◌, ◌++◌, length, map, take, Option, Some, None, refl, sym, ap, ◌∙◌, append_assoc, arith, inl, inr, All, ◌&&◌, ◌||◌, bytes_eq, slice_set, append_cancel_left, All-nil, All-cons, All-head, All-tail, some_pair_parts, bytes_eq-Decides, pairs, Fields, Header, Field, IsField, fields_of, line_end, SpellsHeader, IsHeaderText, has_any, has_name, is_among, starts_with_name, are_grouped, line_from, ◌>>=◌, HttpVersion}
 use Rattle.pcache_meta.proofs.Exact.{after, chosen}
 use Rattle.pcache_meta.proofs.HeaderExact.{after_one, field_takes, field_again, field_no_return, line_takes, line_again, fields_cons, status_line_takes, status_line_again, status_no_return, text_parts, joined}
 use Rattle.pcache_meta.proofs.HeaderGroups.{IsSet-fields_of, made_again, grouped-pairs, map_of, valid-fields_of}

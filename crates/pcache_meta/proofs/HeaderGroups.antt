@@ -1,12 +1,7 @@
 -- Lines that are grouped by name are those of a map, and no others are.
-use Rattle.std.proofs.Common.{◌≡◌, ℕ, zero, suc, ◌-◌, ◌<◌, ◌≤◌, Bool, true, false, cond, eqb, List, [], ◌∷◌, ◌++◌, length, map, refl, sym, ap, ◌∙◌, arith, inl, inr, length-append}
-use Rattle.std.specs.Prelude.{All, ◌||◌, bytes_eq}
-use Rattle.std.proofs.lemmas.List.Elements.{All-nil, All-cons, All-head, All-tail, All-append}
-use Rattle.std.proofs.lemmas.Slice.Eq.{bytes_eq-Decides}
-use Rattle.http_header.specs.HeaderMap.{Entry, entry_at, append, append_all, entry_pairs, pairs, IsUnique}
-use Rattle.pcache_meta.specs.Header.{Fields}
-use Rattle.pcache_meta.specs.HeaderText.{Field, IsField, fields_of}
-use Rattle.pcache_meta.specs.HeaderForm.{has_name, starts_with_name, are_grouped}
+use Rattle.std.proofs.Common.{length-append}
+use Rattle.std.proofs.lemmas.List.Elements.{All-append}
+use Rattle.pcache_meta.proofs.Words.{◌≡◌, ℕ, zero, suc, ◌-◌, ◌<◌, ◌≤◌, Bool, true, false, cond, eqb, List, [], ◌∷◌, ◌++◌, length, map, refl, sym, ap, ◌∙◌, arith, inl, inr, All, ◌||◌, bytes_eq, All-nil, All-cons, All-head, All-tail, bytes_eq-Decides, Entry, entry_at, append, append_all, entry_pairs, pairs, IsUnique, Fields, Field, IsField, fields_of, has_name, starts_with_name, are_grouped}
 use Rattle.pcache_meta.proofs.Exact.{chosen}
 use Rattle.pcache_meta.proofs.HeaderNames.{not_true}
 use Rattle.pcache_meta.proofs.RoundTrip.{append_all-pairs}

@@ -1,12 +1,7 @@
 -- The lines of a head's text, one after the other.
-use Rattle.std.proofs.Common.{◌≡◌, ℕ, ◌<◌, ◌≤◌, true, false, eqb, List, [], ◌∷◌, ◌++◌, length, Some, None, refl, sym, ap, ◌∙◌, arith, inl, inr}
-use Rattle.std.specs.Prelude.{◌&&◌, ◌==◌, if◌then◌else◌, Option}
-use Rattle.std.proofs.lemmas.Option.{some_pair_parts}
-use Rattle.pcache_meta.specs.Header.{Fields}
-use Rattle.pcache_meta.specs.HeaderText.{Field}
-use Rattle.pcache_meta.specs.HeaderReading.{line_from, field_at, append_at, fields_from, fields_at}
-use Rattle.pcache_meta.specs.Reading.{◌>>=◌, Fails, FailsOrWants}
-use Rattle.pcache_base.specs.declared.error.ErrorType.{ErrorType}
+use Rattle.std.specs.Prelude.{◌==◌, if◌then◌else◌}
+use Rattle.pcache_meta.specs.HeaderReading.{field_at, append_at, fields_from, fields_at}
+use Rattle.pcache_meta.proofs.Words.{◌≡◌, ℕ, ◌<◌, ◌≤◌, true, false, eqb, List, [], ◌∷◌, ◌++◌, length, Some, None, refl, sym, ap, ◌∙◌, arith, inl, inr, ◌&&◌, Option, some_pair_parts, Fields, Field, line_from, ◌>>=◌, Fails, FailsOrWants, ErrorType}
 use Rattle.pcache_meta.proofs.Exact.{chosen}
 use Rattle.pcache_meta.proofs.Refusals.{FailsOrWants-along, FailsOrWants-from_fails}
 

@@ -1,15 +1,10 @@
 -- Maps of fields as a meta shows them, and what a map takes.
-use Rattle.std.proofs.Common.{◌≡◌, ℕ, suc, ◌+◌, ◌^◌, ◌<◌, ◌≤◌, Bool, true, false, cond, List, [], ◌∷◌, ◌++◌, length, map, Some, None, refl, ap, ◌∙◌, arith, inl, inr, length-append}
-use Rattle.std.specs.Prelude.{◌&&◌, bytes_eq, nat_le, nat_lt}
-use Rattle.std.proofs.lemmas.Bool.{lt-ltb, le-ltb, ltb-true}
+use Rattle.std.proofs.Common.{length-append}
 use Rattle.std.proofs.lemmas.List.{length-map}
 use Rattle.std.proofs.lemmas.List.Sums.{sum_by-cons}
-use Rattle.std.proofs.lemmas.Slice.Eq.{bytes_eq-Decides}
-use Rattle.http_header.specs.FieldValue.{FieldValue}
-use Rattle.http_header.specs.HeaderMap.{Entry, Entries, value_count, append, ContainsKey, IsHeaderMap, RefusesAppend}
-use Rattle.pcache_meta.specs.Header.{Fields, shown_entry, shown_fields}
-use Rattle.pcache_meta.specs.HeaderText.{Field, FitsMap}
+use Rattle.http_header.specs.HeaderMap.{value_count, ContainsKey, RefusesAppend}
 use Rattle.pcache_meta.specs.HeaderReading.{fits_map, append_at}
+use Rattle.pcache_meta.proofs.Words.{◌≡◌, ℕ, suc, ◌+◌, ◌^◌, ◌<◌, ◌≤◌, Bool, true, false, cond, List, [], ◌∷◌, ◌++◌, length, map, Some, None, refl, ap, ◌∙◌, arith, inl, inr, ◌&&◌, bytes_eq, nat_le, nat_lt, lt-ltb, le-ltb, ltb-true, bytes_eq-Decides, FieldValue, Entry, Entries, append, IsHeaderMap, Fields, shown_entry, shown_fields, Field, FitsMap}
 use Rattle.pcache_meta.proofs.HeaderNames.{not_true}
 
 module _ {X : Type 0} where

@@ -1,18 +1,9 @@
 -- What `http_header` says of names and values, and `http` of statuses, as tests.
-use Rattle.std.proofs.Common.{◌≡◌, ℕ, ◌+◌, ◌-◌, ◌*◌, ◌/◌, ◌%◌, Bool, true, false, cond, List, [], ◌∷◌, length, refl, sym, subst, arith}
-use Rattle.std.specs.Prelude.{◌&&◌, IsTrue, nat_lt, nat_le, bytes_eq}
-use Rattle.std.specs.List.{list_all}
-use Rattle.std.proofs.lemmas.Bool.{lt-ltb, ltb-true}
-use Rattle.std.proofs.lemmas.List.Elements.{All-head, All-tail}
-use Rattle.std.proofs.lemmas.Slice.Eq.{bytes_eq-Decides}
-use Rattle.http_header.specs.Token.{token_test, is_token_byte, is_value_byte, AllPass, lowercase}
-use Rattle.http_header.specs.FieldName.{IsHeaderName, is_header_name}
-use Rattle.http_header.specs.FieldValue.{IsFieldValue}
-use Rattle.std.specs.Prelude.{Option, Some, None}
-use Rattle.std.proofs.lemmas.Option.{same_Some}
-use Rattle.http.specs.StatusCode.{IsStatusCode, IsCodeText, code_digits}
+use Rattle.std.proofs.Common.{◌*◌}
+use Rattle.http_header.specs.Token.{is_token_byte, lowercase}
+use Rattle.http.specs.StatusCode.{IsCodeText}
 use Rattle.pcache_meta.specs.HeaderReading.{name_at, value_at, status_at, are_digits, when_digits}
-use Rattle.http_header.proofs.TokenLemmas.{IsHeaderName-from_test, AllPass-from_test}
+use Rattle.pcache_meta.proofs.Words.{◌≡◌, ℕ, ◌+◌, ◌-◌, ◌/◌, ◌%◌, Bool, true, false, cond, List, [], ◌∷◌, length, refl, sym, subst, arith, ◌&&◌, IsTrue, nat_lt, nat_le, bytes_eq, list_all, lt-ltb, ltb-true, All-head, All-tail, bytes_eq-Decides, token_test, is_value_byte, AllPass, IsHeaderName, is_header_name, IsFieldValue, Option, Some, None, same_Some, IsStatusCode, code_digits, IsHeaderName-from_test, AllPass-from_test}
 
 pub not_true : (b : Bool) → (b ≡ true → ⊥) → b ≡ false
 not_true true never = absurd (never refl)

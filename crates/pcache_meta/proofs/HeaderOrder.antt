@@ -1,14 +1,7 @@
 -- Lines that are in the order of the map that they make.
-use Rattle.std.proofs.Common.{◌≡◌, ℕ, Bool, true, false, List, [], ◌∷◌, ◌++◌, length, drop, take, Some, None, refl, sym, ap, ◌∙◌, append_assoc}
-use Rattle.std.specs.Prelude.{Option, bytes_eq, IfNone, IfSome, MatchOption, ◌+◌}
-use Rattle.std.specs.List.{flat_map}
-use Rattle.std.proofs.Math.Seq.{take-append_seam}
-use Rattle.std.proofs.lemmas.List.{append_cancel_left, take-append-drop}
-use Rattle.std.proofs.lemmas.List.Concat.{flat_map-cons}
-use Rattle.std.proofs.lemmas.Option.{same_Some}
-use Rattle.std.proofs.lemmas.Slice.Eq.{bytes_eq-Decides}
-use Rattle.http_header.specs.FieldValue.{FieldValue}
-use Rattle.pcache_meta.specs.HeaderText.{Field, field_text, field_line, fields_text, line_end, shown_lines, IsOneToOne}
+use Rattle.std.specs.Prelude.{IfNone, MatchOption}
+use Rattle.pcache_meta.specs.HeaderText.{field_text, field_line, fields_text, IsOneToOne}
+use Rattle.pcache_meta.proofs.Words.{◌≡◌, ℕ, Bool, true, false, List, [], ◌∷◌, ◌++◌, length, drop, take, Some, None, refl, sym, ap, ◌∙◌, append_assoc, Option, bytes_eq, IfSome, ◌+◌, flat_map, take-append_seam, append_cancel_left, take-append-drop, flat_map-cons, same_Some, bytes_eq-Decides, FieldValue, Field, line_end, shown_lines}
 use Rattle.pcache_meta.proofs.HeaderExact.{header_again}
 
 -- ---- a prefix, as `strip_prefix` finds it

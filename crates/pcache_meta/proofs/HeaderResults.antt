@@ -1,14 +1,7 @@
 -- What a reader of a head returned, as its callers see it.
-use Rattle.std.proofs.Common.{◌≡◌, ℕ, List, Some, refl, sym, ◌∙◌}
-use Rattle.std.proofs.lemmas.Option.{same_Some}
-use Rattle.pcache_meta.specs.Header.{Header}
-use Rattle.pcache_meta.specs.HeaderText.{SpellsHeader}
-use Rattle.pcache_meta.specs.HeaderForm.{IsHeaderText}
-use Rattle.std.specs.Prelude.{Result, Ok, Err, IfOk, IfErr}
 use Rattle.pcache_meta.specs.HeaderReading.{header_at, unordered_at}
-use Rattle.pcache_meta.specs.Reading.{FailsOrWants, GivesOrWants}
-use Rattle.pcache_base.specs.declared.error.ErrorType.{ErrorType}
-use Rattle.pcache_base.specs.declared.error.ErrorType.TheVariants.{InternalError, OutOfMemory}
+use Rattle.pcache_meta.specs.Reading.{GivesOrWants}
+use Rattle.pcache_meta.proofs.Words.{◌≡◌, ℕ, List, Some, refl, sym, ◌∙◌, same_Some, Header, SpellsHeader, IsHeaderText, Result, Ok, Err, IfOk, IfErr, FailsOrWants, ErrorType, InternalError, OutOfMemory}
 use Rattle.pcache_meta.proofs.HeaderExact.{header_takes, header_again, unordered_again}
 
 -- a head that was read is spelled, and is the one that is

@@ -1,11 +1,9 @@
 -- The end of a line, found by searching for its CR.
-use Rattle.std.proofs.Common.{◌≡◌, ℕ, zero, suc, ◌+◌, ◌<◌, false, eqb, List, [], ◌∷◌, ◌++◌, length, take, drop, refl, sym, ap, ◌∙◌, append_assoc, arith}
-use Rattle.std.specs.Prelude.{slice_index, ◌&&◌}
-use Rattle.std.proofs.lemmas.Bool.{eqb-true}
-use Rattle.std.proofs.lemmas.List.{append-nil, take_more, drop_more, drop-drop}
+use Rattle.std.specs.Prelude.{slice_index}
+use Rattle.std.proofs.lemmas.List.{take_more, drop_more, drop-drop}
 use Rattle.std.proofs.Math.Seq.{take-add}
 use Rattle.memchr.specs.Find.{is_byte, Nowhere, Passes}
-use Rattle.pcache_meta.specs.HeaderReading.{line_from}
+use Rattle.pcache_meta.proofs.Words.{◌≡◌, ℕ, zero, suc, ◌+◌, ◌<◌, false, eqb, List, [], ◌∷◌, ◌++◌, length, take, drop, refl, sym, ap, ◌∙◌, append_assoc, arith, ◌&&◌, eqb-true, append-nil, line_from}
 use Rattle.pcache_meta.proofs.HeaderNames.{not_true, and_parts}
 
 step : (front : List ℕ) (a : ℕ) (bytes : List ℕ) → eqb a 0x0D ≡ false → line_from (front ++ a ∷ []) bytes ≡ line_from front (a ∷ bytes)

@@ -1,16 +1,7 @@
 -- The text of a head that is written is a spelling of that head.
-use Rattle.std.proofs.Common.{◌≡◌, ℕ, List, [], ◌∷◌, ◌++◌, map, refl, sym, ap, ◌∙◌, append_assoc}
-use Rattle.std.specs.Prelude.{All, IfOk, OnOk, Result, Ok, Err}
-use Rattle.std.specs.Global.{Vec}
-use Rattle.std.specs.List.{flat_map}
-use Rattle.std.proofs.lemmas.List.Concat.{flat_map-cons}
-use Rattle.std.proofs.lemmas.List.Elements.{All-cons}
-use Rattle.http.specs.StatusCode.{IsStatusCode}
-use Rattle.http_header.specs.FieldValue.{FieldValue}
-use Rattle.http_header.specs.HeaderMap.{Entries, append, append_all, pairs, entry_pairs, IsHeaderMap}
-use Rattle.pcache_meta.specs.Header.{Fields, shown, shown_entry, shown_fields}
-use Rattle.pcache_meta.specs.HeaderText.{Field, IsField, field_line, fields_of, header_text, header_written, shown_lines, SpellsHeader}
+use Rattle.pcache_meta.specs.HeaderText.{field_line, header_text, header_written}
 use Rattle.pcache_meta.specs.declared.header.ResponseHeader.{ResponseHeader}
+use Rattle.pcache_meta.proofs.Words.{◌≡◌, ℕ, List, [], ◌∷◌, ◌++◌, map, refl, sym, ap, ◌∙◌, append_assoc, All, flat_map, flat_map-cons, All-cons, IsStatusCode, FieldValue, Entries, append, append_all, pairs, entry_pairs, IsHeaderMap, Fields, shown, shown_entry, shown_fields, Field, IsField, fields_of, shown_lines, SpellsHeader}
 use Rattle.pcache_meta.proofs.HeaderMaps.{shown-append, FitsMap-shown}
 use Rattle.pcache_meta.proofs.RoundTrip.{append_all-pairs}
 
@@ -62,15 +53,14 @@ fields_of-pairs m is =
 
 -- ---- what a writer of the code returned
 
-pub written_header : {E : Type 0} (r : Result (Vec ℕ) E) (h : ResponseHeader)
-    → IfOk r (λ v. v.items ≡ header_text h.version h.status (shown_lines (pairs h.headers))) → IfOk r (λ v. v.items ≡ header_written (shown h))
-written_header (Ok v) h written = written ∙ ap (λ (fs : List Field). header_text h.version h.status fs) (sym (pairs-shown h.headers))
-written_header (Err e) h written = tt
+pub written_header : (text : List ℕ) (h : ResponseHeader)
+    → text ≡ header_text h.version h.status (shown_lines (pairs h.headers)) → text ≡ header_written (shown h)
+written_header text h written = written ∙ ap (λ (fs : List Field). header_text h.version h.status fs) (sym (pairs-shown h.headers))
 
-pub spelled_header : {E : Type 0} (r : Result (Vec ℕ) E) (h : ResponseHeader)
-    → IfOk r (λ v. v.items ≡ header_text h.version h.status (shown_lines (pairs h.headers))) → OnOk r (IsStatusCode h.status)
-    → OnOk r (All IsField (shown_lines (pairs h.headers))) → OnOk r (IsHeaderMap h.headers) → IfOk r (λ v. SpellsHeader v.items (shown h))
-spelled_header (Ok v) h written status valid is = record {
+pub spelled_header : (text : List ℕ) (h : ResponseHeader)
+    → text ≡ header_text h.version h.status (shown_lines (pairs h.headers)) → IsStatusCode h.status
+    → All IsField (shown_lines (pairs h.headers)) → IsHeaderMap h.headers → SpellsHeader text (shown h)
+spelled_header text h written status valid is = record {
   lines = shown_lines (pairs h.headers);
   text = written;
   status = status;
@@ -79,4 +69,3 @@ spelled_header (Ok v) h written status valid is = record {
   held = FitsMap-shown h.headers is;
   order = written ∙ ap (λ (fs : List Field). header_text h.version h.status fs) (sym (pairs-shown h.headers));
 }
-spelled_header (Err e) h written status valid is = tt

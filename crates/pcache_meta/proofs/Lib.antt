@@ -20,3 +20,4 @@ pub mod RoundTrip
 pub mod Shortest
 pub mod Spelled
 pub mod TextExact
+pub mod Words

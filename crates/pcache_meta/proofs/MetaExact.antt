@@ -1,18 +1,12 @@
 -- What a meta says beside its head is read exactly when it is spelled.
-use Rattle.std.proofs.Common.{◌≡◌, ℕ, ◌+◌, ◌-◌, ◌^◌, ◌≤◌, Bool, true, false, ltb, leb, eqb, List, [], ◌∷◌, length, Option, Some, None, refl, sym, ap, ◌∙◌, arith, inl, inr}
-use Rattle.std.proofs.lemmas.Bool.{ltb-false, le-ltb, eqb-true}
-use Rattle.std.proofs.lemmas.List.{nil_from_length}
-use Rattle.std.proofs.lemmas.Option.{some_pair_parts, same_Some}
-use Rattle.std.specs.Prelude.{Result, Ok, Err, IfErr, IfOk, OnErr}
-use Rattle.pcache_base.specs.declared.error.ErrorType.{ErrorType}
-use Rattle.pcache_base.specs.declared.error.ErrorType.TheVariants.{InternalError}
+use Rattle.std.proofs.Common.{leb}
+use Rattle.std.specs.Prelude.{OnErr}
 use Rattle.pcache_base.specs.Moments.{nanos_of}
-use Rattle.pcache_meta.specs.Internal.{Internal, OldInternal, upgraded}
-use Rattle.pcache_meta.specs.Spelling.{NumberThen, ArrayThen, HashThen}
-use Rattle.pcache_meta.specs.MetaSpelling.{MomentThen, WindowsThen, OldInternalThen, ItemThen, NewInternalThen, InternalThen, SpellsInternal}
-use Rattle.pcache_meta.specs.MetaSpelling as spell
-use Rattle.pcache_meta.specs.Reading.{when, Gives, number_at, number_below_at, array_at, items_at, hash_at, mark_at}
+use Rattle.pcache_meta.specs.MetaSpelling.{WindowsThen}
+use Rattle.pcache_meta.specs.Reading.{Gives, number_at, number_below_at, array_at, items_at, hash_at, mark_at}
 use Rattle.pcache_meta.specs.MetaReading.{moment_at, item_at, old_internal_at, upgraded_at, new_internal_at, versioned_at, internal_at}
+use Rattle.pcache_meta.proofs.Words.{◌≡◌, ℕ, ◌+◌, ◌-◌, ◌^◌, ◌≤◌, Bool, true, false, ltb, eqb, List, [], ◌∷◌, length, Option, Some, None, refl, sym, ap, ◌∙◌, arith, inl, inr, ltb-false, le-ltb, eqb-true, nil_from_length, some_pair_parts, same_Some, Result, Ok, Err, IfErr, IfOk, ErrorType, InternalError, Internal, OldInternal, upgraded, NumberThen, ArrayThen, HashThen, MomentThen, OldInternalThen, ItemThen, NewInternalThen, InternalThen, SpellsInternal, when}
+use Rattle.pcache_meta.specs.MetaSpelling as spell
 use Rattle.pcache_meta.proofs.Exact.{IsBytes, IsBytes-rest, after, after_rest, when_some, chosen, same_parts, number_takes, number_again, number_behind, number_exact, array_takes, array_again, array_behind, array_not_nil, items_takes, items_again, number_below_takes, number_below_again, IsExact, optional_takes, optional_again, optional_behind, hash_exact, mark_takes, mark_again}
 
 -- ---- moments

@@ -1,9 +1,8 @@
 -- Two byte strings that spell a meta are seen as that meta.
-use Rattle.std.proofs.Common.{◌≡◌, ℕ, List, ◌++◌, length, take, drop, refl, ap, ◌∙◌, arith, length-append}
-use Rattle.std.proofs.Math.Seq.{take-append_seam, drop-append_seam}
-use Rattle.pcache_meta.specs.Meta.{Meta}
+use Rattle.std.proofs.Common.{length-append}
 use Rattle.pcache_meta.specs.MetaBytes.{SpellsMeta}
 use Rattle.pcache_meta.specs.MetaKept.{meta_at, meta_of, AreOf, kept_at, IsKept}
+use Rattle.pcache_meta.proofs.Words.{◌≡◌, ℕ, List, ◌++◌, length, take, drop, refl, ap, ◌∙◌, arith, take-append_seam, drop-append_seam, Meta}
 use Rattle.pcache_meta.proofs.HeaderExact.{header_again}
 use Rattle.pcache_meta.proofs.MetaExact.{internal_again}
 

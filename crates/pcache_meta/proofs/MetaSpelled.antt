@@ -1,17 +1,13 @@
 -- What is written of a meta beside its head is spelled so.
-use Rattle.std.proofs.Common.{◌≡◌, ℕ, ◌+◌, ◌/◌, ◌%◌, ◌^◌, ◌<◌, ◌≤◌, Bool, true, false, ltb, List, [], ◌∷◌, ◌++◌, length, Option, Some, None, refl, subst, append_assoc, arith, length-append}
-use Rattle.std.specs.Prelude.{IfSome, IfOk, OnOk, Result, Ok, Err}
-use Rattle.std.specs.Global.{Vec}
-use Rattle.std.proofs.lemmas.List.{append-nil}
+use Rattle.std.proofs.Common.{length-append}
 use Rattle.pcache_base.specs.Moments.{IsMoment}
-use Rattle.pcache_meta.specs.Internal.{Internal, OldInternal, of_version2, upgraded}
+use Rattle.pcache_meta.specs.Internal.{of_version2}
 use Rattle.pcache_meta.specs.declared.meta.internal_meta.InternalMetaV2.{InternalMetaV2}
-use Rattle.pcache_meta.specs.Spelling.{NumberForm, number_text, ArrayForm, array_text, NumberThen, OptionThen, HashThen}
-use Rattle.pcache_meta.specs.Spelling as form
-use Rattle.pcache_meta.specs.MetaSpelling.{MomentThen, OldInternalThen, ItemThen, NewInternalThen, InternalThen, SpellsInternal}
-use Rattle.pcache_meta.specs.MetaSpelling as spell
-use Rattle.pcache_meta.specs.Writing.{shortest_number, number_written, shortest_array, array_written, hash_written, optional_written, IsHash}
+use Rattle.pcache_meta.specs.Writing.{number_written, array_written, hash_written, optional_written}
 use Rattle.pcache_meta.specs.MetaWriting.{moment_written, items_written, item_count, last_written, internal_written, old_written, version0_written, version1_written, version2_written, AreItems, IsInternal, IsOldInternal}
+use Rattle.pcache_meta.proofs.Words.{◌≡◌, ℕ, ◌+◌, ◌/◌, ◌%◌, ◌^◌, ◌<◌, ◌≤◌, Bool, true, false, ltb, List, [], ◌∷◌, ◌++◌, length, Option, Some, None, refl, subst, append_assoc, arith, IfSome, IfOk, OnOk, Result, Ok, Err, Vec, append-nil, Internal, OldInternal, upgraded, NumberForm, number_text, ArrayForm, array_text, NumberThen, OptionThen, HashThen, MomentThen, OldInternalThen, ItemThen, NewInternalThen, InternalThen, SpellsInternal, shortest_number, shortest_array, IsHash}
+use Rattle.pcache_meta.specs.Spelling as form
+use Rattle.pcache_meta.specs.MetaSpelling as spell
 use Rattle.pcache_meta.proofs.Spelled.{number_then, array_then, hash_then, optional_then}
 
 -- ---- moments

@@ -1,9 +1,6 @@
 -- Refusals of readers, from one reading to another.
-use Rattle.std.proofs.Common.{◌≡◌, Option, None, sym, ◌∙◌}
-use Rattle.std.specs.Prelude.{Result, Err, IsErrOf}
-use Rattle.pcache_base.specs.declared.error.ErrorType.{ErrorType}
-use Rattle.pcache_base.specs.declared.error.ErrorType.TheVariants.{OutOfMemory, InternalError}
-use Rattle.pcache_meta.specs.Reading.{Fails, FailsOrWants}
+use Rattle.std.specs.Prelude.{IsErrOf}
+use Rattle.pcache_meta.proofs.Words.{◌≡◌, Option, None, sym, ◌∙◌, Result, Err, ErrorType, OutOfMemory, InternalError, Fails, FailsOrWants}
 
 -- the second reads nothing if the first does
 pub Fails-along : {Y Z : Type 0} (e : ErrorType) (a : Option Y) (b : Option Z) → Fails e a → (a ≡ None → b ≡ None) → Fails e b

@@ -1,14 +1,10 @@
 -- No spelling of a number, of an array's head, of a text, of a hash or of a moment is shorter than the one that is
 -- written.
-use Rattle.std.proofs.Common.{◌≡◌, ℕ, ◌+◌, ◌/◌, ◌%◌, ◌^◌, ◌<◌, ◌≤◌, ltb, List, [], ◌∷◌, ◌++◌, length, refl, ap, arith, inl, inr, length-append}
-use Rattle.std.specs.List.{flat_map}
-use Rattle.std.proofs.lemmas.Bool.{ltb-false}
-use Rattle.std.proofs.lemmas.List.Concat.{flat_map-cons}
-use Rattle.pcache_meta.specs.Spelling.{NumberForm, number_limit, number_text, NumberThen, ArrayForm, array_limit, array_text, ArrayThen, TextForm, text_limit, text_head, TextThen, BytesThen, HashThen}
-use Rattle.pcache_meta.specs.Spelling as spell
-use Rattle.pcache_meta.specs.MetaSpelling.{MomentThen}
+use Rattle.std.proofs.Common.{length-append}
 use Rattle.pcache_meta.specs.MetaWriting.{moment_written}
-use Rattle.pcache_meta.specs.Writing.{shortest_number, number_written, shortest_array, array_written, shortest_text, text_head_written, text_written, hash_written}
+use Rattle.pcache_meta.specs.Writing.{number_written, array_written, text_head_written, text_written, hash_written}
+use Rattle.pcache_meta.proofs.Words.{◌≡◌, ℕ, ◌+◌, ◌/◌, ◌%◌, ◌^◌, ◌<◌, ◌≤◌, ltb, List, [], ◌∷◌, ◌++◌, length, refl, ap, arith, inl, inr, flat_map, ltb-false, flat_map-cons, NumberForm, number_limit, number_text, NumberThen, ArrayForm, array_limit, array_text, ArrayThen, TextForm, text_limit, text_head, TextThen, BytesThen, HashThen, MomentThen, shortest_number, shortest_array, shortest_text}
+use Rattle.pcache_meta.specs.Spelling as spell
 use Rattle.pcache_meta.proofs.Exact.{chosen}
 
 -- ---- numbers

@@ -1,13 +1,7 @@
 -- What is written is spelled so, hence read again.
-use Rattle.std.proofs.Common.{◌≡◌, ℕ, suc, ◌^◌, ◌<◌, ltb, List, [], ◌∷◌, ◌++◌, length, get_or, Option, Some, None, refl, sym, ap, ◌∙◌, append_assoc, arith, inl, inr}
-use Rattle.std.specs.Prelude.{IfSome}
-use Rattle.std.specs.List.{flat_map}
-use Rattle.std.specs.Str.{IsUtf8}
-use Rattle.std.proofs.lemmas.Bool.{ltb-true}
-use Rattle.std.proofs.lemmas.List.Concat.{flat_map-cons}
-use Rattle.pcache_meta.specs.Spelling.{NumberForm, number_limit, number_text, NumberThen, ArrayForm, array_limit, array_text, ArrayThen, TextForm, text_limit, text_head, TextThen, BytesThen, HashThen, OptionThen}
+use Rattle.pcache_meta.specs.Writing.{number_written, array_written, text_head_written, text_written, hash_written, optional_written}
+use Rattle.pcache_meta.proofs.Words.{◌≡◌, ℕ, suc, ◌^◌, ◌<◌, ltb, List, [], ◌∷◌, ◌++◌, length, get_or, Option, Some, None, refl, sym, ap, ◌∙◌, append_assoc, arith, inl, inr, IfSome, flat_map, IsUtf8, ltb-true, flat_map-cons, NumberForm, number_limit, number_text, NumberThen, ArrayForm, array_limit, array_text, ArrayThen, TextForm, text_limit, text_head, TextThen, BytesThen, HashThen, OptionThen, shortest_number, shortest_array, shortest_text, IsHash}
 use Rattle.pcache_meta.specs.Spelling as spell
-use Rattle.pcache_meta.specs.Writing.{shortest_number, number_written, shortest_array, array_written, shortest_text, text_head_written, text_written, hash_written, optional_written, IsHash}
 use Rattle.pcache_meta.proofs.Exact.{chosen}
 
 form_then : (form : NumberForm) (n : ℕ) (rest : List ℕ) → form ≡ shortest_number n → n < number_limit form → NumberThen (number_written n ++ rest) n rest

@@ -1,14 +1,10 @@
 -- A text is read exactly when it is spelled.
-use Rattle.std.proofs.Common.{◌≡◌, ℕ, ◌+◌, ◌-◌, ◌^◌, ◌<◌, ◌≤◌, Bool, true, false, ltb, eqb, List, [], ◌∷◌, ◌++◌, length, take, drop, Some, None, refl, sym, ap, ◌∙◌, arith, inl, inr}
-use Rattle.std.specs.Str.{IsUtf8, is_utf8}
-use Rattle.std.specs.Int.{w8, w16, w32, to_be_bytes}
-use Rattle.std.proofs.lemmas.Bool.{ltb-true, ltb-false, lt-ltb, le-ltb}
-use Rattle.std.proofs.lemmas.List.{take_at, drop_at, take-append-drop, length-append, length-take-le}
-use Rattle.std.proofs.lemmas.Option.{some_pair_parts}
+use Rattle.std.specs.Str.{is_utf8}
+use Rattle.std.proofs.lemmas.List.{length-append, length-take-le}
 use Rattle.std.proofs.lemmas.Str.{IsUtf8-from_is_utf8, is_utf8-from_IsUtf8}
-use Rattle.pcache_meta.specs.Spelling.{TextForm, text_limit, text_head, TextThen}
-use Rattle.pcache_meta.specs.Spelling as spell
 use Rattle.pcache_meta.specs.Reading.{bytes_at, text_head_at, utf8_of, text_at}
+use Rattle.pcache_meta.proofs.Words.{◌≡◌, ℕ, ◌+◌, ◌-◌, ◌^◌, ◌<◌, ◌≤◌, Bool, true, false, ltb, eqb, List, [], ◌∷◌, ◌++◌, length, take, drop, Some, None, refl, sym, ap, ◌∙◌, arith, inl, inr, IsUtf8, w8, w16, w32, to_be_bytes, ltb-true, ltb-false, lt-ltb, le-ltb, take_at, drop_at, take-append-drop, some_pair_parts, TextForm, text_limit, text_head, TextThen}
+use Rattle.pcache_meta.specs.Spelling as spell
 use Rattle.pcache_meta.proofs.Exact.{IsBytes, after, after_rest, when_some, chosen, wide_takes, wide_again, wide8, wide16, wide32, marked, IsBytes-rest, IsBytes-behind, same_parts}
 
 not_true : (b : Bool) → (b ≡ true → ⊥) → b ≡ false

@@ -7,6 +7,7 @@ use http_header::HeaderMap;
 use pcache_base::error::Result;
 use std::alloc::Global;
 
+// Of our own, since the constants of `http::Version` state nothing.
 /// A version of HTTP.
 #[derive(Clone, Copy, Debug, PartialEq, Eq, PartialOrd, Ord)]
 pub enum HttpVersion {

@@ -1,20 +1,9 @@
 -- S3-FIFO keeps the entries, but for those that go.
-use Rattle.std.proofs.Common.{◌≡◌, ℕ, ◌+◌, true, false, cond, Some, is_some, List, [], ◌∷◌, ◌++◌, refl, ap, sym, subst, ◌∙◌, arith, nat_eq, inl, append_assoc, append-nil, length}
-use Rattle.std.specs.Prelude.{◌⊎◌}
-use Rattle.std.specs.FinMap as fin
 use Rattle.std.specs.List.{IsDistinct}
-use Rattle.std.specs.Map.{keys_of}
-use Rattle.std.proofs.lemmas.List.Sums.{sum_by-cons, sum_by-append}
-use Rattle.pcache_evict.specs.declared.eviction.entry_key.CacheEntryKey.{CacheEntryKey}
-use Rattle.pcache_evict.specs.Entry.{entry_eq}
-use Rattle.pcache_evict.specs.Tracked.{Limits}
-use Rattle.pcache_evict.specs.Recency.{Recency, weight}
-use Rattle.pcache_evict.specs.Listed.{map_of}
-use Rattle.pcache_policies.specs.declared.queue.Seen.{Seen}
-use Rattle.pcache_policies.specs.Leaving.{HasRoom, Coming, Run}
-use Rattle.pcache_policies.specs.Managed.{Lawful}
-use Rattle.pcache_policies.specs.Queue.{Queue, plain, IsOnce, seen_of, reused, unused, spent}
-use Rattle.pcache_policies.specs.S3Fifo.{Fifos, fifos, whole, entries, is_ghost, forgotten, ghosted, MakesRoom, rests, moves, leaves, returns, goes, entered, reseen_in, s3_fifo_way}
+use Rattle.pcache_policies.specs.Queue.{IsOnce, reused}
+use Rattle.pcache_policies.specs.S3Fifo.{whole, entries, MakesRoom, rests, moves, leaves, returns, goes, entered, reseen_in, s3_fifo_way}
+use Rattle.pcache_policies.proofs.Words.{◌≡◌, ℕ, ◌+◌, true, false, cond, Some, is_some, List, [], ◌∷◌, ◌++◌, refl, ap, sym, subst, ◌∙◌, arith, nat_eq, inl, append_assoc, append-nil, length, ◌⊎◌, keys_of, sum_by-cons, sum_by-append, CacheEntryKey, entry_eq, Limits, Recency, weight, map_of, Seen, HasRoom, Coming, Run, Lawful, Queue, plain, seen_of, unused, spent, Fifos, fifos, is_ghost, forgotten, ghosted}
+use Rattle.std.specs.FinMap as fin
 use Rattle.pcache_policies.proofs.Queues.{plain-append, once-plain, once-reseen}
 use Rattle.pcache_policies.proofs.Rings.{Apart, apart_none, apart_front, map-mid, reseen-append, rest-append, again}
 use Rattle.pcache_policies.proofs.Leavings.{run-same}

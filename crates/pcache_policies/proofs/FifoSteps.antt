@@ -1,19 +1,10 @@
 -- What looking at entries of a small and a main queue does, one after the other.
-use Rattle.std.proofs.Common.{◌≡◌, ℕ, suc, ◌+◌, ◌*◌, ◌-◌, ◌<◌, ◌≤◌, Bool, true, false, cond, List, [], ◌∷◌, ◌++◌, reverse, refl, ap, sym, subst, ◌∙◌, arith, inl, inr, length, length-append, append_assoc, append-nil, sum_by}
-use Rattle.std.specs.Prelude.{◌≢◌, ◌⊎◌}
-use Rattle.std.specs.Map.{keys_of}
-use Rattle.std.proofs.lemmas.List.{reverse-append}
-use Rattle.std.proofs.lemmas.List.Sums.{sum_by-cons, sum_by-append}
-use Rattle.pcache_evict.specs.declared.eviction.entry_key.CacheEntryKey.{CacheEntryKey}
-use Rattle.pcache_evict.specs.Tracked.{Limits}
-use Rattle.pcache_evict.specs.Listed.{map_of}
-use Rattle.pcache_policies.specs.declared.queue.Seen.{Seen}
-use Rattle.pcache_policies.specs.Queue.{Queue, plain, IsOnce, unused, spent}
-use Rattle.pcache_policies.specs.Leaving.{HasRoom}
-use Rattle.pcache_policies.specs.Ring.{Ring, all, chosen, SameEntries}
-use Rattle.pcache_policies.specs.S3Fifo.{Fifos, fifos, entries, Ghosts, ghosted, MakesRoom}
-use Rattle.pcache_policies.specs.S3Fifo as s3
+use Rattle.std.proofs.Common.{sum_by}
+use Rattle.pcache_policies.specs.Queue.{IsOnce}
+use Rattle.pcache_policies.specs.S3Fifo.{entries, MakesRoom}
 use Rattle.pcache_policies.specs.Fifos.{Kept, left_of, LooksAtSmall, LooksAtMain, Steps, Chooses, steps_of}
+use Rattle.pcache_policies.proofs.Words.{◌≡◌, ℕ, suc, ◌+◌, ◌*◌, ◌-◌, ◌<◌, ◌≤◌, Bool, true, false, cond, List, [], ◌∷◌, ◌++◌, reverse, refl, ap, sym, subst, ◌∙◌, arith, inl, inr, length, length-append, append_assoc, append-nil, ◌≢◌, ◌⊎◌, keys_of, reverse-append, sum_by-cons, sum_by-append, CacheEntryKey, Limits, map_of, Seen, Queue, plain, unused, spent, HasRoom, Ring, all, chosen, SameEntries, Fifos, fifos, Ghosts, ghosted}
+use Rattle.pcache_policies.specs.S3Fifo as s3
 use Rattle.pcache_policies.specs.Fifos as step
 use Rattle.pcache_policies.proofs.Queues.{E}
 use Rattle.pcache_policies.proofs.Rings.{same-passed, last_ahead, again, chosen_last}

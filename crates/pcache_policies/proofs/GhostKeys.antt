@@ -1,12 +1,7 @@
 -- Ghosts as the keys of a queue.
-use Rattle.std.proofs.Common.{◌≡◌, ℕ, zero, suc, Bool, true, false, cond, not, ◌||◌, Option, None, Some, is_some, List, [], ◌∷◌, refl, ap, sym, ◌∙◌, take}
-use Rattle.std.specs.List.{list_any, filter}
-use Rattle.std.specs.Map.{keys_of}
-use Rattle.pcache_evict.specs.declared.eviction.entry_key.CacheEntryKey.{CacheEntryKey}
-use Rattle.pcache_evict.specs.Entry.{entry_eq}
-use Rattle.pcache_policies.specs.declared.queue.Seen.{Seen}
-use Rattle.pcache_policies.specs.Queue.{Queue, seen_of, rest_of}
-use Rattle.pcache_policies.specs.S3Fifo.{is_ghost, forgotten, ghosted}
+use Rattle.std.proofs.Common.{◌||◌}
+use Rattle.std.specs.List.{list_any}
+use Rattle.pcache_policies.proofs.Words.{◌≡◌, ℕ, zero, suc, Bool, true, false, cond, not, Option, None, Some, is_some, List, [], ◌∷◌, refl, ap, sym, ◌∙◌, take, filter, keys_of, CacheEntryKey, entry_eq, Seen, Queue, seen_of, rest_of, is_ghost, forgotten, ghosted}
 use Rattle.pcache_policies.proofs.Queues.{E}
 
 pub is_key : (k : CacheEntryKey) (q : Queue) → is_some (seen_of k q) ≡ is_ghost k (keys_of q)

@@ -1,21 +1,10 @@
 -- A list with a hand as a queue.
-use Rattle.std.proofs.Common.{◌≡◌, ℕ, ◌+◌, ◌≤◌, true, false, cond, None, Some, List, [], ◌∷◌, ◌++◌, refl, ap, sym, subst, ◌∙◌, arith, inl, inr, length, length-append, append_assoc, append-nil}
-use Rattle.std.specs.Prelude.{IfSome, ◌⊎◌}
-use Rattle.std.proofs.lemmas.List.Sums.{sum_by-append}
-use Rattle.std.proofs.lemmas.Map.Keys.{IsDistinct-head, IsDistinct-tail}
-use Rattle.std.specs.Map.{keys_of}
-use Rattle.pcache_evict.specs.declared.eviction.entry_key.CacheEntryKey.{CacheEntryKey}
-use Rattle.pcache_evict.specs.Entry.{entry_eq}
-use Rattle.pcache_evict.specs.Tracked.{Limits}
-use Rattle.pcache_evict.specs.Recency.{weight}
-use Rattle.pcache_evict.specs.Listed.{map_of}
-use Rattle.pcache_evict.proofs.Recency.{same_key, laws}
-use Rattle.pcache_policies.specs.Queue.{Queue, plain, IsOnce, seen_of}
-use Rattle.pcache_policies.specs.Leaving.{HasRoom}
+use Rattle.pcache_policies.specs.Queue.{IsOnce}
+use Rattle.pcache_policies.specs.Sieve.{Sieve, whole, entries}
+use Rattle.pcache_policies.specs.OneQueue.{MakesRoom, rests, goes}
+use Rattle.pcache_policies.specs.Ring.{shown, left_of}
+use Rattle.pcache_policies.proofs.Words.{◌≡◌, ℕ, ◌+◌, ◌≤◌, true, false, cond, None, Some, List, [], ◌∷◌, ◌++◌, refl, ap, sym, subst, ◌∙◌, arith, inl, inr, length, length-append, append_assoc, append-nil, IfSome, ◌⊎◌, sum_by-append, IsDistinct-head, IsDistinct-tail, keys_of, CacheEntryKey, entry_eq, Limits, weight, map_of, same_key, laws, Queue, plain, seen_of, HasRoom, sieve, spares, Ring, all, in_turn, SameEntries}
 use Rattle.pcache_policies.specs.Sieve as hand
-use Rattle.pcache_policies.specs.Sieve.{Sieve, sieve, whole, entries}
-use Rattle.pcache_policies.specs.OneQueue.{MakesRoom, rests, spares, goes}
-use Rattle.pcache_policies.specs.Ring.{Ring, all, shown, left_of, in_turn, SameEntries}
 use Rattle.pcache_policies.proofs.Queues.{E, plain-append, length-plain}
 use Rattle.pcache_policies.proofs.Rings.{Apart, none_apart, apart_none, apart_front, apart_back, apart_both, once_swap, map-swap}
 use Rattle.pcache_policies.proofs.Seens.{whole_weight}

@@ -1,26 +1,14 @@
 -- Entries that leave a list one by one leave its map fairly.
-use Rattle.std.proofs.Common.{◌≡◌, ℕ, ◌+◌, ◌≤◌, length, Option, true, false, cond, not, None, Some, is_some, unwrap_or, List, [], ◌∷◌, ◌++◌, refl, ap, sym, subst, ◌∙◌, arith}
-use Rattle.std.specs.Prelude.{IsTrue, IfSome}
-use Rattle.std.specs.List.{IsDistinct, AllByRecursion}
-use Rattle.std.specs.Map.{keys_of}
-use Rattle.std.specs.Ordering.{eq_by_cmp}
+use Rattle.std.specs.List.{IsDistinct}
 use Rattle.std.specs.Cmp.{eq_by_cmp_equiv}
-use Rattle.std.specs.FinMap as fin
-use Rattle.std.proofs.lemmas.Bool.{both_ways}
-use Rattle.std.proofs.lemmas.List.Elements.{All-cons, All-nil, All-weaker, recursion_from_All}
-use Rattle.std.proofs.lemmas.List.Sums.{sum_by-cons, sum_by-append}
-use Rattle.std.proofs.lemmas.Map.Keys.{IsDistinct-head, IsDistinct-tail, IsDistinct-cons}
-use Rattle.pcache_evict.specs.declared.eviction.entry_key.CacheEntryKey.{CacheEntryKey}
-use Rattle.pcache_evict.specs.Entry.{entry_eq, entry_cmp, entries_total}
-use Rattle.pcache_evict.specs.Tracked.{Tracked, Limits, IsWithin, IsFair, without, weight_in}
-use Rattle.pcache_evict.specs.Tracked as tracked
-use Rattle.pcache_evict.specs.Recency.{Recency, weight, weight_of, others, IsWithinAsList}
-use Rattle.pcache_evict.specs.Listed.{map_of, IsOnce}
+use Rattle.std.proofs.lemmas.List.Elements.{All-nil, All-weaker, recursion_from_All}
+use Rattle.pcache_evict.specs.Listed.{IsOnce}
 use Rattle.pcache_evict.proofs.Evictions.{left_there, gone_here}
-use Rattle.pcache_evict.proofs.Recency.{laws, distinct-others}
-use Rattle.pcache_evict.proofs.Maps.{get-map_of, weight-map_of, map-others, within, inside}
+use Rattle.pcache_evict.proofs.Maps.{within}
 use Rattle.pcache_evict.proofs.TrackedMaps.{get-remove_apart}
-use Rattle.pcache_policies.specs.Leaving.{HasRoom, Coming, Run}
+use Rattle.pcache_policies.proofs.Words.{◌≡◌, ℕ, ◌+◌, ◌≤◌, length, Option, true, false, cond, not, None, Some, is_some, unwrap_or, List, [], ◌∷◌, ◌++◌, refl, ap, sym, subst, ◌∙◌, arith, IsTrue, IfSome, AllByRecursion, keys_of, eq_by_cmp, both_ways, All-cons, sum_by-cons, sum_by-append, IsDistinct-head, IsDistinct-tail, IsDistinct-cons, CacheEntryKey, entry_eq, entry_cmp, entries_total, Tracked, Limits, IsWithin, IsFair, without, weight_in, Recency, weight, weight_of, others, IsWithinAsList, map_of, laws, distinct-others, get-map_of, weight-map_of, map-others, inside, HasRoom, Coming, Run}
+use Rattle.std.specs.FinMap as fin
+use Rattle.pcache_evict.specs.Tracked as tracked
 
 abbrev E : Type 0
 E = CacheEntryKey × ℕ

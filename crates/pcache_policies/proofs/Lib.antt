@@ -14,3 +14,4 @@ pub mod Rules
 pub mod Runs
 pub mod Seens
 pub mod SieveLaws
+pub mod Words

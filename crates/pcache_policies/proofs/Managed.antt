@@ -1,22 +1,11 @@
 -- A manager over a queue that goes by a policy, seen as a finite map: what its calls do is what an eviction manager's contract says.
-use Rattle.std.proofs.Common.{◌≡◌, ℕ, ◌+◌, ◌-◌, ◌^◌, min, Bool, true, cond, Option, None, Some, is_some, List, [], ◌∷◌, ◌++◌, refl, ap, sym, subst, ◌∙◌, arith, inl, inr, length, length-append, append-nil}
-use Rattle.std.specs.Prelude.{◌⊎◌}
-use Rattle.std.specs.FinMap as fin
-use Rattle.std.specs.Map.{keys_of}
-use Rattle.std.proofs.lemmas.List.Sums.{sum_by-cons}
-use Rattle.std.proofs.lemmas.Map.Keys.{IsDistinct-head, IsDistinct-cons}
-use Rattle.pcache_evict.specs.declared.eviction.entry_key.CacheEntryKey.{CacheEntryKey}
-use Rattle.pcache_evict.specs.Entry.{entry_eq}
-use Rattle.pcache_evict.specs.Tracked.{Tracked, Limits, IsFair, IsWithin, without, added, raised, incremented, evicted_with, weight_in}
-use Rattle.pcache_evict.specs.Recency.{Recency, weight, IsWithinAsList}
-use Rattle.pcache_evict.specs.Listed.{map_of}
-use Rattle.pcache_evict.proofs.Maps.{map-others, inside}
+use Rattle.pcache_evict.specs.Tracked.{added, raised, incremented, evicted_with}
 use Rattle.pcache_evict.proofs.Chains.{inside-none}
-use Rattle.pcache_policies.specs.declared.queue.Seen.{Seen}
-use Rattle.pcache_policies.specs.Queue.{Queue, plain, IsOnce, seen_of, reseen, unused}
-use Rattle.pcache_policies.specs.Leaving.{HasRoom, Run}
+use Rattle.pcache_policies.specs.Queue.{IsOnce}
 use Rattle.pcache_policies.specs.Ring.{going}
-use Rattle.pcache_policies.specs.Managed.{Way, Lawful, Managed, entries_in, accessed, IsCounted, Comes, KeepsLimits, Admits, Admission, Increment, Admitted, Incremented, HasFailed, HasFailedWith}
+use Rattle.pcache_policies.specs.Managed.{Way, accessed, IsCounted, Comes, Admission, Increment, Admitted, Incremented, HasFailed, HasFailedWith}
+use Rattle.pcache_policies.proofs.Words.{◌≡◌, ℕ, ◌+◌, ◌-◌, ◌^◌, min, Bool, true, cond, Option, None, Some, is_some, List, [], ◌∷◌, ◌++◌, refl, ap, sym, subst, ◌∙◌, arith, inl, inr, length, length-append, append-nil, ◌⊎◌, keys_of, sum_by-cons, IsDistinct-head, IsDistinct-cons, CacheEntryKey, entry_eq, Tracked, Limits, IsFair, IsWithin, without, weight_in, Recency, weight, IsWithinAsList, map_of, map-others, inside, Seen, Queue, plain, seen_of, reseen, unused, HasRoom, Run, Lawful, Managed, entries_in, KeepsLimits, Admits}
+use Rattle.std.specs.FinMap as fin
 use Rattle.pcache_policies.proofs.Queues.{plain-rest, once-plain, once-reseen, seen-set}
 use Rattle.pcache_policies.proofs.Rings.{apart_none, none_apart}
 use Rattle.pcache_policies.proofs.Leavings.{run-none, run-ends-same, none_comes, one_comes, within_of, room-within}

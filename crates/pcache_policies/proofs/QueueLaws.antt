@@ -1,18 +1,8 @@
 -- FIFO and CLOCK keep the entries, but for those that go.
-use Rattle.std.proofs.Common.{◌≡◌, ℕ, is_some, List, [], ◌∷◌, ◌++◌, refl, ap, sym, subst, ◌∙◌, inl, append_assoc, append-nil}
-use Rattle.std.specs.Prelude.{◌⊎◌}
+use Rattle.pcache_policies.specs.Queue.{IsOnce}
+use Rattle.pcache_policies.specs.OneQueue.{MakesRoom, rests, goes, queue_way}
+use Rattle.pcache_policies.proofs.Words.{◌≡◌, ℕ, is_some, List, [], ◌∷◌, ◌++◌, refl, ap, sym, subst, ◌∙◌, inl, append_assoc, append-nil, ◌⊎◌, sum_by-cons, CacheEntryKey, EvictionPolicy, Limits, Recency, map_of, Seen, HasRoom, Coming, Lawful, Queue, plain, unused, spares}
 use Rattle.std.specs.FinMap as fin
-use Rattle.std.proofs.lemmas.List.Sums.{sum_by-cons}
-use Rattle.pcache_evict.specs.declared.eviction.entry_key.CacheEntryKey.{CacheEntryKey}
-use Rattle.pcache_evict.specs.declared.eviction.policy.EvictionPolicy.{EvictionPolicy}
-use Rattle.pcache_evict.specs.Tracked.{Limits}
-use Rattle.pcache_evict.specs.Recency.{Recency}
-use Rattle.pcache_evict.specs.Listed.{map_of}
-use Rattle.pcache_policies.specs.declared.queue.Seen.{Seen}
-use Rattle.pcache_policies.specs.Leaving.{HasRoom, Coming}
-use Rattle.pcache_policies.specs.Managed.{Lawful}
-use Rattle.pcache_policies.specs.Queue.{Queue, plain, IsOnce, unused}
-use Rattle.pcache_policies.specs.OneQueue.{MakesRoom, rests, spares, goes, queue_way}
 use Rattle.pcache_policies.proofs.Queues.{E, once-plain, once-reseen}
 use Rattle.pcache_policies.proofs.Rings.{again}
 use Rattle.pcache_policies.proofs.Leavings.{run-same}

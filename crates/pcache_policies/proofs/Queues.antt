@@ -1,22 +1,16 @@
 -- Queues: an entry removed, put in, changed in place.
-use Rattle.std.proofs.Common.{◌≡◌, ℕ, zero, suc, ◌+◌, ◌*◌, ◌-◌, ◌<◌, ◌≤◌, ◌^◌, true, false, cond, not, Option, None, Some, is_some, option_map, unwrap_or, [], ◌∷◌, ◌++◌, refl, ap, sym, subst, ◌∙◌, arith, length, length-append, take, All}
-use Rattle.std.specs.Prelude.{IsSome, IfSome}
-use Rattle.std.specs.List.{IsDistinct, AllByRecursion, slice_get}
+use Rattle.std.proofs.Common.{All}
+use Rattle.std.specs.List.{IsDistinct, slice_get}
 use Rattle.std.specs.Option.{option_map_or}
-use Rattle.std.specs.Map.{lookup_entry, remove_entry, set_value, keys_of}
+use Rattle.std.specs.Map.{lookup_entry, remove_entry, set_value}
 use Rattle.std.proofs.lemmas.List.{take_all}
-use Rattle.std.proofs.lemmas.List.Elements.{All-filter, All-cons, All-head, All-tail, All-take}
-use Rattle.std.proofs.lemmas.List.Sums.{sum_by-cons, sum_by-append}
-use Rattle.std.proofs.lemmas.Map.Keys.{IsDistinct-head, IsDistinct-tail, IsDistinct-cons}
-use Rattle.lru.specs.LruCache.{LruCache, put_entries, promoted, lru_cache, last_entry}
-use Rattle.pcache_evict.specs.declared.eviction.entry_key.CacheEntryKey.{CacheEntryKey}
-use Rattle.pcache_evict.specs.Entry.{entry_eq}
-use Rattle.pcache_evict.specs.Recency.{Recency, weight, weight_of, others}
+use Rattle.std.proofs.lemmas.List.Elements.{All-filter, All-head, All-tail, All-take}
+use Rattle.lru.specs.LruCache.{put_entries, promoted, lru_cache}
 use Rattle.pcache_evict.specs.Shards.{reweighed}
-use Rattle.pcache_evict.proofs.Recency.{same_key, laws, weight-others, length-others, distinct-others}
+use Rattle.pcache_evict.proofs.Recency.{weight-others, length-others}
 use Rattle.pcache_evict.proofs.Reweighs.{weight-reweighed}
-use Rattle.pcache_policies.specs.declared.queue.Seen.{Seen}
-use Rattle.pcache_policies.specs.Queue.{Queue, plain, IsOnce, seen_of, rest_of, reseen, IsKept}
+use Rattle.pcache_policies.specs.Queue.{IsOnce}
+use Rattle.pcache_policies.proofs.Words.{◌≡◌, ℕ, zero, suc, ◌+◌, ◌*◌, ◌-◌, ◌<◌, ◌≤◌, ◌^◌, true, false, cond, not, Option, None, Some, is_some, option_map, unwrap_or, [], ◌∷◌, ◌++◌, refl, ap, sym, subst, ◌∙◌, arith, length, length-append, take, IsSome, IfSome, AllByRecursion, keys_of, All-cons, sum_by-cons, sum_by-append, IsDistinct-head, IsDistinct-tail, IsDistinct-cons, LruCache, last_entry, CacheEntryKey, entry_eq, Recency, weight, weight_of, others, same_key, laws, distinct-others, Seen, Queue, plain, seen_of, rest_of, reseen, IsKept}
 
 abbrev pub E : Type 0
 E = CacheEntryKey × Seen

@@ -1,17 +1,8 @@
 -- 2Q keeps the entries, but for those that go.
-use Rattle.std.proofs.Common.{◌≡◌, ℕ, ◌+◌, Bool, true, false, cond, Some, is_some, List, [], ◌∷◌, ◌++◌, refl, ap, sym, subst, ◌∙◌, arith, inl, append_assoc, append-nil, length}
-use Rattle.std.specs.Prelude.{◌⊎◌}
+use Rattle.pcache_policies.specs.Queue.{IsOnce}
+use Rattle.pcache_policies.specs.TwoQueues.{TwoQueues, whole, entries, MakesRoom, rests, leaves, goes, entered, touched, two_queues_way}
+use Rattle.pcache_policies.proofs.Words.{◌≡◌, ℕ, ◌+◌, Bool, true, false, cond, Some, is_some, List, [], ◌∷◌, ◌++◌, refl, ap, sym, subst, ◌∙◌, arith, inl, append_assoc, append-nil, length, ◌⊎◌, sum_by-cons, sum_by-append, CacheEntryKey, Limits, Recency, weight, map_of, Seen, HasRoom, Coming, Lawful, Queue, plain, seen_of, rest_of, reseen, unused, queues, remembered}
 use Rattle.std.specs.FinMap as fin
-use Rattle.std.proofs.lemmas.List.Sums.{sum_by-cons, sum_by-append}
-use Rattle.pcache_evict.specs.declared.eviction.entry_key.CacheEntryKey.{CacheEntryKey}
-use Rattle.pcache_evict.specs.Tracked.{Limits}
-use Rattle.pcache_evict.specs.Recency.{Recency, weight}
-use Rattle.pcache_evict.specs.Listed.{map_of}
-use Rattle.pcache_policies.specs.declared.queue.Seen.{Seen}
-use Rattle.pcache_policies.specs.Leaving.{HasRoom, Coming}
-use Rattle.pcache_policies.specs.Managed.{Lawful}
-use Rattle.pcache_policies.specs.Queue.{Queue, plain, IsOnce, seen_of, rest_of, reseen, unused}
-use Rattle.pcache_policies.specs.TwoQueues.{TwoQueues, queues, whole, entries, remembered, MakesRoom, rests, leaves, goes, entered, touched, two_queues_way}
 use Rattle.pcache_policies.proofs.Queues.{plain-append, once-reseen, reseen-none}
 use Rattle.pcache_policies.proofs.Renewed.{once_renewed, map-renewed}
 use Rattle.pcache_policies.proofs.Rings.{Apart, apart_none, apart_front, map-mid, reseen-append, rest-append}

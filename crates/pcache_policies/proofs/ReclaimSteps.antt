@@ -1,16 +1,9 @@
 -- What choosing entries of the two queues of 2Q does, one after the other.
-use Rattle.std.proofs.Common.{◌≡◌, ℕ, ◌+◌, ◌<◌, Bool, true, false, List, [], ◌∷◌, ◌++◌, reverse, refl, ap, sym, subst, ◌∙◌, arith, inl, inr, length, length-append, append_assoc, append-nil}
-use Rattle.std.specs.Map.{keys_of}
-use Rattle.pcache_evict.specs.declared.eviction.entry_key.CacheEntryKey.{CacheEntryKey}
-use Rattle.pcache_evict.specs.Tracked.{Limits}
-use Rattle.pcache_policies.specs.declared.queue.Seen.{Seen}
-use Rattle.pcache_policies.specs.Queue.{Queue, IsOnce}
-use Rattle.pcache_policies.specs.Leaving.{HasRoom}
-use Rattle.pcache_policies.specs.Ring.{Ring, all, chosen, SameEntries}
-use Rattle.pcache_policies.specs.S3Fifo.{Ghosts}
-use Rattle.pcache_policies.specs.TwoQueues.{TwoQueues, queues, entries, remembered, MakesRoom}
-use Rattle.pcache_policies.specs.TwoQueues as two
+use Rattle.pcache_policies.specs.Queue.{IsOnce}
+use Rattle.pcache_policies.specs.TwoQueues.{TwoQueues, entries, MakesRoom}
 use Rattle.pcache_policies.specs.Reclaim.{Kept, left_of, Leaves, Goes, Steps, Chooses}
+use Rattle.pcache_policies.proofs.Words.{◌≡◌, ℕ, ◌+◌, ◌<◌, Bool, true, false, List, [], ◌∷◌, ◌++◌, reverse, refl, ap, sym, subst, ◌∙◌, arith, inl, inr, length, length-append, append_assoc, append-nil, keys_of, CacheEntryKey, Limits, Seen, Queue, HasRoom, Ring, all, chosen, SameEntries, Ghosts, queues, remembered}
+use Rattle.pcache_policies.specs.TwoQueues as two
 use Rattle.pcache_policies.specs.Reclaim as step
 use Rattle.pcache_policies.proofs.FifoSteps.{left_map, gone_map, reverse-cons}
 

@@ -1,17 +1,7 @@
 -- An entry of a queue becomes its newest.
-use Rattle.std.proofs.Common.{◌≡◌, ℕ, suc, ◌+◌, ◌≤◌, Bool, true, false, cond, not, Option, None, Some, is_some, List, [], ◌∷◌, ◌++◌, refl, ap, sym, subst, ◌∙◌, arith, length, length-append}
-use Rattle.std.specs.List.{filter}
-use Rattle.std.specs.Map.{keys_of}
+use Rattle.pcache_policies.specs.Queue.{IsOnce}
+use Rattle.pcache_policies.proofs.Words.{◌≡◌, ℕ, suc, ◌+◌, ◌≤◌, Bool, true, false, cond, not, Option, None, Some, is_some, List, [], ◌∷◌, ◌++◌, refl, ap, sym, subst, ◌∙◌, arith, length, length-append, filter, keys_of, IsDistinct-head, IsDistinct-tail, IsDistinct-cons, CacheEntryKey, entry_eq, map_of, same_key, map-moved, Seen, Queue, plain, seen_of, rest_of, IsRing}
 use Rattle.std.specs.FinMap as fin
-use Rattle.std.proofs.lemmas.Map.Keys.{IsDistinct-head, IsDistinct-tail, IsDistinct-cons}
-use Rattle.pcache_evict.specs.declared.eviction.entry_key.CacheEntryKey.{CacheEntryKey}
-use Rattle.pcache_evict.specs.Entry.{entry_eq}
-use Rattle.pcache_evict.specs.Listed.{map_of}
-use Rattle.pcache_evict.proofs.Recency.{same_key}
-use Rattle.pcache_evict.proofs.Maps.{map-moved}
-use Rattle.pcache_policies.specs.declared.queue.Seen.{Seen}
-use Rattle.pcache_policies.specs.Queue.{Queue, plain, IsOnce, seen_of, rest_of}
-use Rattle.pcache_policies.specs.Ring.{IsRing}
 use Rattle.pcache_policies.proofs.Queues.{E, plain-rest, once-rest, none-in-rest}
 use Rattle.pcache_policies.proofs.Rings.{Apart, apart_back, apart_both, few_rest, rest-append}
 

@@ -1,30 +1,14 @@
 -- The three queues of a list with a hand: where an entry may be, and what one step of the hand does.
-use Rattle.std.proofs.Common.{◌≡◌, ℕ, suc, ◌+◌, ◌-◌, ◌<◌, ◌≤◌, Bool, true, false, cond, not, Option, None, Some, is_some, List, [], ◌∷◌, ◌++◌, reverse, refl, ap, sym, subst, ◌∙◌, arith, inl, inr, length, length-append, append_assoc, append-nil}
-use Rattle.std.specs.Prelude.{◌≢◌, ◌^◌, ◌-◌, ◌↔◌, IfSome, IsTrue}
-use Rattle.lru.specs.LruCache.{last_entry}
-use Rattle.std.specs.List.{AllByRecursion}
-use Rattle.std.specs.Map.{keys_of}
-use Rattle.std.specs.FinMap as fin
-use Rattle.std.proofs.lemmas.Bool.{both_ways, eq-eqb, ne_eqb}
+use Rattle.std.specs.Prelude.{◌↔◌}
+use Rattle.std.proofs.lemmas.Bool.{eq-eqb, ne_eqb}
 use Rattle.std.proofs.Math.Dec.{eqb}
-use Rattle.std.proofs.lemmas.List.{reverse-append}
 use Rattle.std.proofs.lemmas.List.Elements.{filter-append}
-use Rattle.std.proofs.lemmas.List.Sums.{sum_by-cons, sum_by-append}
-use Rattle.std.proofs.lemmas.Map.Keys.{IsDistinct-head, IsDistinct-tail, IsDistinct-cons}
-use Rattle.pcache_evict.specs.declared.eviction.entry_key.CacheEntryKey.{CacheEntryKey}
-use Rattle.pcache_evict.specs.Entry.{entry_eq, entries_total}
-use Rattle.pcache_evict.specs.Tracked.{Limits}
-use Rattle.pcache_evict.specs.Recency.{Recency, weight, weight_of}
-use Rattle.pcache_evict.specs.Listed.{map_of}
-use Rattle.pcache_evict.proofs.EntryOrder.{exact_entries}
-use Rattle.pcache_evict.proofs.Recency.{same_key, laws}
-use Rattle.pcache_evict.proofs.Maps.{get-map_of}
-use Rattle.pcache_policies.specs.declared.queue.Seen.{Seen}
-use Rattle.pcache_policies.specs.Queue.{Queue, plain, IsOnce, seen_of, rest_of, reseen, unused}
-use Rattle.pcache_policies.specs.Leaving.{HasRoom}
-use Rattle.pcache_policies.specs.Sieve.{Sieve, whole, entries, MakesRoom, rests, clears, goes, turns}
+use Rattle.pcache_policies.specs.Queue.{IsOnce}
+use Rattle.pcache_policies.specs.Sieve.{Sieve, whole, entries, MakesRoom, rests, clears, goes}
+use Rattle.pcache_policies.specs.Ring.{left_of, Steps, Chooses, steps_of}
+use Rattle.pcache_policies.proofs.Words.{◌≡◌, ℕ, suc, ◌+◌, ◌-◌, ◌<◌, ◌≤◌, Bool, true, false, cond, not, Option, None, Some, is_some, List, [], ◌∷◌, ◌++◌, reverse, refl, ap, sym, subst, ◌∙◌, arith, inl, inr, length, length-append, append_assoc, append-nil, ◌≢◌, ◌^◌, IfSome, IsTrue, last_entry, AllByRecursion, keys_of, both_ways, reverse-append, sum_by-cons, sum_by-append, IsDistinct-head, IsDistinct-tail, IsDistinct-cons, CacheEntryKey, entry_eq, entries_total, Limits, Recency, weight, weight_of, map_of, exact_entries, same_key, laws, get-map_of, Seen, Queue, plain, seen_of, rest_of, reseen, unused, HasRoom, turns, Ring, ring, all, IsRing, chosen, SameEntries}
+use Rattle.std.specs.FinMap as fin
 use Rattle.pcache_policies.specs.Ring as step
-use Rattle.pcache_policies.specs.Ring.{Ring, ring, all, left_of, IsRing, Steps, chosen, Chooses, SameEntries, steps_of}
 use Rattle.pcache_policies.proofs.Queues.{E, once-reseen, once-rest, once-back, last_split}
 
 -- ---- changes of the whole list are changes of its parts

@@ -1,13 +1,7 @@
 -- Entries of a queue that go one by one.
-use Rattle.std.proofs.Common.{◌≡◌, ℕ, List, [], ◌∷◌, ◌++◌, refl, ap, sym, subst, ◌∙◌, append_assoc}
-use Rattle.std.specs.Map.{keys_of}
-use Rattle.pcache_evict.specs.declared.eviction.entry_key.CacheEntryKey.{CacheEntryKey}
-use Rattle.pcache_evict.specs.Tracked.{Limits}
-use Rattle.pcache_evict.specs.Recency.{Recency, IsWithinAsList}
+use Rattle.pcache_policies.specs.Queue.{IsOnce}
+use Rattle.pcache_policies.proofs.Words.{◌≡◌, ℕ, List, [], ◌∷◌, ◌++◌, refl, ap, sym, subst, ◌∙◌, append_assoc, keys_of, CacheEntryKey, Limits, Recency, IsWithinAsList, Seen, Queue, plain, HasRoom, Coming, Run}
 use Rattle.pcache_evict.specs.Listed as listed
-use Rattle.pcache_policies.specs.declared.queue.Seen.{Seen}
-use Rattle.pcache_policies.specs.Queue.{Queue, plain, IsOnce}
-use Rattle.pcache_policies.specs.Leaving.{HasRoom, Coming, Run}
 use Rattle.pcache_policies.proofs.Queues.{E, plain-append, once-plain, plain-once}
 use Rattle.pcache_policies.proofs.Leavings.{room_of, run-first}
 

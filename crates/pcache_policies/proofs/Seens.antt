@@ -1,24 +1,14 @@
 -- What is known of an entry of a queue, on the queue's map.
-use Rattle.std.proofs.Common.{◌≡◌, ℕ, ◌+◌, Bool, true, false, cond, Option, None, Some, is_some, option_map, [], ◌∷◌, ◌++◌, refl, ap, sym, ◌∙◌, arith}
-use Rattle.std.specs.FinMap as fin
-use Rattle.std.specs.Ordering.{eq_by_cmp}
-use Rattle.std.proofs.lemmas.List.Sums.{sum_by-append}
-use Rattle.pcache_evict.specs.declared.eviction.entry_key.CacheEntryKey.{CacheEntryKey}
-use Rattle.pcache_evict.specs.Entry.{entry_eq, entry_cmp, entries_total, entry_ties}
-use Rattle.pcache_evict.specs.Tracked.{Limits, Evicted}
-use Rattle.pcache_evict.specs.Tracked as tracked
-use Rattle.pcache_evict.specs.Recency.{weight, weight_of}
-use Rattle.pcache_evict.specs.Listed.{map_of}
-use Rattle.pcache_evict.proofs.EntryOrder.{exact_entries}
-use Rattle.pcache_evict.proofs.Recency.{same_key}
-use Rattle.pcache_evict.proofs.Maps.{get-map_of, weight-map_of}
-use Rattle.pcache_policies.specs.declared.queue.Seen.{Seen}
-use Rattle.pcache_policies.specs.Queue.{Queue, plain, IsOnce, seen_of, reseen}
+use Rattle.pcache_evict.specs.Entry.{entry_ties}
+use Rattle.pcache_evict.specs.Tracked.{Evicted}
+use Rattle.pcache_policies.specs.Queue.{IsOnce}
 use Rattle.pcache_policies.specs.Sieve.{entries}
-use Rattle.pcache_policies.specs.Ring.{Ring, all, shown, left_of, SameEntries}
-use Rattle.pcache_policies.proofs.Queues.{plain-append, plain-found, some-plain, once-plain}
+use Rattle.pcache_policies.specs.Ring.{shown, left_of}
 use Rattle.pcache_evict.proofs.Recency.{others-none}
-use Rattle.pcache_evict.proofs.Maps.{map-moved}
+use Rattle.pcache_policies.proofs.Words.{◌≡◌, ℕ, ◌+◌, Bool, true, false, cond, Option, None, Some, is_some, option_map, [], ◌∷◌, ◌++◌, refl, ap, sym, ◌∙◌, arith, eq_by_cmp, sum_by-append, CacheEntryKey, entry_eq, entry_cmp, entries_total, Limits, weight, weight_of, map_of, exact_entries, same_key, get-map_of, weight-map_of, Seen, Queue, plain, seen_of, reseen, Ring, all, SameEntries, map-moved}
+use Rattle.std.specs.FinMap as fin
+use Rattle.pcache_evict.specs.Tracked as tracked
+use Rattle.pcache_policies.proofs.Queues.{plain-append, plain-found, some-plain, once-plain}
 
 -- an entry that is not there is not there in a list with the same map
 pub none_some : (o : Option Seen) → is_some o ≡ false → o ≡ None

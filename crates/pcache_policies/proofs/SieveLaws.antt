@@ -1,20 +1,9 @@
 -- SIEVE keeps the entries, but for those that go.
-use Rattle.std.proofs.Common.{◌≡◌, ℕ, true, false, cond, Some, is_some, List, [], ◌∷◌, ◌++◌, refl, ap, sym, subst, ◌∙◌, nat_eq, inl, append_assoc, append-nil}
-use Rattle.std.specs.Prelude.{◌⊎◌}
-use Rattle.std.specs.FinMap as fin
 use Rattle.std.specs.List.{IsDistinct}
-use Rattle.std.specs.Map.{keys_of}
-use Rattle.std.proofs.lemmas.List.Sums.{sum_by-cons}
-use Rattle.pcache_evict.specs.declared.eviction.entry_key.CacheEntryKey.{CacheEntryKey}
-use Rattle.pcache_evict.specs.Entry.{entry_eq}
-use Rattle.pcache_evict.specs.Tracked.{Limits}
-use Rattle.pcache_evict.specs.Recency.{Recency, weight}
-use Rattle.pcache_evict.specs.Listed.{map_of}
-use Rattle.pcache_policies.specs.declared.queue.Seen.{Seen}
-use Rattle.pcache_policies.specs.Leaving.{HasRoom, Coming, Run}
-use Rattle.pcache_policies.specs.Managed.{Lawful}
-use Rattle.pcache_policies.specs.Queue.{Queue, plain, IsOnce, seen_of, used, unused}
-use Rattle.pcache_policies.specs.Sieve.{Sieve, sieve, whole, entries, MakesRoom, rests, clears, goes, turns, turned, entered, reseen_in, sieve_way}
+use Rattle.pcache_policies.specs.Queue.{IsOnce, used}
+use Rattle.pcache_policies.specs.Sieve.{Sieve, whole, entries, MakesRoom, rests, clears, goes, turned, entered, reseen_in, sieve_way}
+use Rattle.pcache_policies.proofs.Words.{◌≡◌, ℕ, true, false, cond, Some, is_some, List, [], ◌∷◌, ◌++◌, refl, ap, sym, subst, ◌∙◌, nat_eq, inl, append_assoc, append-nil, ◌⊎◌, keys_of, sum_by-cons, CacheEntryKey, entry_eq, Limits, Recency, weight, map_of, Seen, HasRoom, Coming, Run, Lawful, Queue, plain, seen_of, unused, sieve, turns}
+use Rattle.std.specs.FinMap as fin
 use Rattle.pcache_policies.proofs.Queues.{once-reseen}
 use Rattle.pcache_policies.proofs.Rings.{reseen-append, rest-append}
 use Rattle.pcache_policies.proofs.Runs.{Runs, drops, over_whole, split_first, keys_forgot, plain_at}

@@ -22,6 +22,7 @@ use std::alloc::Global;
 /// chosen to go. These are set aside first, and leave once nothing can fail any more; as long as they
 /// are there, they are in the order too. Calls fail only when memory runs out.
 pub trait Discipline<S>: Drop {
+    // A type and no ghost member: the value of a model may name only a bound's associated type yet.
     /// What a contract sees of it.
     type Order;
 
@@ -37,6 +38,8 @@ pub trait Discipline<S>: Drop {
     /// The entries that were chosen to go.
     ghost leaving: { Self → Entries };
 
+    // A function with an empty body: the proof of a trait's law would have to stand in `specs/`,
+    // with four files of lemmas that it needs.
     /// For the prover: what the policy says keeps the entries and their weights, but for those that go.
     fn laws()
         ensures { Lawful way };

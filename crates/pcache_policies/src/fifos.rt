@@ -98,6 +98,8 @@ impl<S: BuildHasher + Copy + Drop> Discipline<S> for Fifos<S> {
     }
 
     fn note_use(&mut self, item: &CacheEntryKey, seen: Seen) {
+        // Nothing at all changes then, and a readmission sets the record: so a use and a
+        // readmission are two parts of a way.
         if seen.uses != MOST_USES {
             self.ring.set(item, seen.used_again(seen.weight));
         }
@@ -134,6 +136,7 @@ impl<S: BuildHasher + Copy + Drop> Discipline<S> for Fifos<S> {
     }
 
     fn enter(&mut self, item: CacheEntryKey, size: usize, _known: bool) -> Result<()> {
+        // After room was made, as in the paper.
         if self.ghosts.has(&item) {
             self.ghosts.forget(&item);
             self.ring.add_passed(item, size)?;

@@ -1,12 +1,10 @@
 //! The keys of evicted entries.
-ghost use Rattle.std.specs.Prelude.{◌≡◌, ◌∷◌, [], take, IfOk, IfErr, OnOk};
-ghost use Rattle.pcache_base.specs.declared.error.ErrorType.TheVariants.{OutOfMemory};
+ghost use Rattle.std.specs.Prelude.{◌≡◌, ◌∷◌, [], take, IfOk, OnOk};
 ghost use Rattle.pcache_policies.specs.S3Fifo.{is_ghost, forgotten, ghosted};
 
 use crate::queue::{Queue, Seen};
-use pcache_base::error::Result;
 use pcache_evict::eviction::CacheEntryKey;
-use std::alloc::Global;
+use std::alloc::{AllocError, Global};
 use std::hash::BuildHasher;
 use std::marker::Model;
 
@@ -28,9 +26,8 @@ impl<S: BuildHasher> Model for Ghosts<S> {
 
 impl<S: BuildHasher + Copy + Drop> Ghosts<S> {
     /// No keys.
-    pub(crate) fn new(alloc: Global, seed: S) -> Result<Ghosts<S>>
+    pub(crate) fn new(alloc: Global, seed: S) -> Result<Ghosts<S>, AllocError>
         ensures ok { IfOk result (λ made. made ≡ []) }
-        ensures kind { IfErr result (λ e. e ≡ OutOfMemory) }
     {
         Ok(Ghosts {
             queue: Queue::new(alloc, seed)?,
@@ -52,17 +49,17 @@ impl<S: BuildHasher + Copy + Drop> Ghosts<S> {
     }
 
     /// Adds a key as the newest, and keeps at most nine tenths of `count` keys.
-    pub(crate) fn add(&mut self, key: CacheEntryKey, count: usize) -> Result<()>
+    pub(crate) fn add(&mut self, key: CacheEntryKey, count: usize) -> Result<(), AllocError>
         ensures ok { OnOk result (self.new ≡ ghosted key count self.old) }
-        ensures kind { IfErr result (λ e. e ≡ OutOfMemory) }
     {
+        // The paper's number where all entries have one size and the cache is full: as many as the
+        // main queue holds.
         self.add_within(key, count - count / 10)
     }
 
     /// Adds a key as the newest, and keeps the `most` newest ones.
-    pub(crate) fn add_within(&mut self, key: CacheEntryKey, most: usize) -> Result<()>
+    pub(crate) fn add_within(&mut self, key: CacheEntryKey, most: usize) -> Result<(), AllocError>
         ensures ok { OnOk result (self.new ≡ take most (key ∷ forgotten key self.old)) }
-        ensures kind { IfErr result (λ e. e ≡ OutOfMemory) }
     {
         self.queue.remove(&key);
         self.queue.push(key, Seen::unused(0))?;

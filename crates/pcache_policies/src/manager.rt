@@ -242,8 +242,10 @@ impl<Q: Discipline<S>, S> Manager<Q, S> {
         ensures kind { IfErr result (λ e. e ≡ OutOfMemory) }
         ensures err { OnErr result (HasFailed Q.way self.old self.new) }
     {
-        Q::laws(); // for the prover
+        Q::laws(); // for the prover: the way is `Lawful`
         let (limit, watermark) = (self.limit, self.watermark);
+        // Before room is made: 2Q asks so, since the key may be the oldest ghost, which what goes
+        // then would drop.
         let known = self.queue.knows(&item);
         let out = self.queue.choose(self.alloc, size, 1, limit, watermark)?;
         if self.queue.has_room(size, limit, watermark) {
@@ -269,7 +271,7 @@ impl<Q: Discipline<S>, S> Manager<Q, S> {
         ensures kind { IfErr result (λ e. e ≡ OutOfMemory) }
         ensures err { OnErr result (HasFailed Q.way self.old self.new) }
     {
-        Q::laws(); // for the prover
+        Q::laws(); // for the prover: the way is `Lawful`
         self.total_items(); // for the prover: its contract says that no entry occurs twice
         self.readmit(item, before, size);
         self.keep_limits_or_set(item, before)
@@ -291,7 +293,7 @@ impl<Q: Discipline<S>, S> Manager<Q, S> {
         ensures kind { IfErr result (λ e. e ≡ OutOfMemory) }
         ensures err { OnErr result (HasFailed Q.way self.old self.new) }
     {
-        Q::laws(); // for the prover
+        Q::laws(); // for the prover: the way is `Lawful`
         self.set(item, after);
         self.keep_limits_or_set(item, before)
     }
@@ -326,7 +328,7 @@ impl<Q: Discipline<S>, S> Manager<Q, S> {
         ensures kind { IfErr result (λ e. e ≡ OutOfMemory) }
         ensures err { OnErr result (HasFailedWith Q.way item.now before self.old self.new) }
     {
-        Q::laws(); // for the prover
+        Q::laws(); // for the prover: the way is `Lawful`
         match self.keep_limits() {
             Ok(out) => Ok(out),
             Err(error) => {
@@ -345,7 +347,7 @@ impl<Q: Discipline<S>, S> Manager<Q, S> {
         ensures kind { IfErr result (λ e. e ≡ OutOfMemory) }
         ensures err { OnErr result (HasFailed Q.way self.old self.new) }
     {
-        Q::laws(); // for the prover
+        Q::laws(); // for the prover: the way is `Lawful`
         if self.is_within() {
             self.evicted.add(0, 0); // for the prover: its contract says that the totals stop at the largest number
             return Ok(Vec::new(self.alloc));
@@ -410,7 +412,7 @@ impl<Q: Discipline<S>, S> EvictionManager for Manager<Q, S> {
         size: usize,
         fresh_until: Moment,
     ) -> Result<Vec<CacheEntryKey>> {
-        Q::laws(); // for the prover
+        Q::laws(); // for the prover: the way is `Lawful`
         let out = Manager::admit(self, item, size, fresh_until)?;
         Ok(out)
     }
@@ -422,20 +424,20 @@ impl<Q: Discipline<S>, S> EvictionManager for Manager<Q, S> {
         delta: usize,
         max_weight: Option<usize>,
     ) -> Result<Vec<CacheEntryKey>> {
-        Q::laws(); // for the prover
+        Q::laws(); // for the prover: the way is `Lawful`
         let out = Manager::increment_weight(self, item, delta, max_weight)?;
         Ok(out)
     }
 
     #[tactic(auto, using(crate::proofs::Rules::same_rules))]
     fn remove(&mut self, item: &CacheEntryKey) {
-        Q::laws(); // for the prover
+        Q::laws(); // for the prover: the way is `Lawful`
         Manager::remove(self, item);
     }
 
     #[tactic(auto, using(crate::proofs::Rules::same_rules))]
     fn access(&mut self, item: &CacheEntryKey, size: usize, fresh_until: Moment) -> Result<bool> {
-        Q::laws(); // for the prover
+        Q::laws(); // for the prover: the way is `Lawful`
         let was = Manager::access(self, item, size, fresh_until)?;
         Ok(was)
     }

@@ -129,7 +129,7 @@ impl<U: Uses, S: BuildHasher + Copy + Drop> Discipline<S> for Turns<U, S> {
     }
 
     fn enter(&mut self, item: CacheEntryKey, size: usize, _known: bool) -> Result<()> {
-        self.ring.add_passed(item, size)
+        Ok(self.ring.add_passed(item, size)?)
     }
 
     fn chosen(&self) -> (u128, usize) {

@@ -25,7 +25,7 @@ impl<Q: Discipline<S>, S> OrderedManager for Manager<Q, S> {
         size: usize,
         fresh_until: Moment,
     ) -> Result<Vec<CacheEntryKey>> {
-        Q::laws(); // for the prover
+        Q::laws(); // for the prover: the way is `Lawful`
         let out = Manager::admit(self, item, size, fresh_until)?;
         Ok(out)
     }
@@ -36,13 +36,13 @@ impl<Q: Discipline<S>, S> OrderedManager for Manager<Q, S> {
         delta: usize,
         max_weight: Option<usize>,
     ) -> Result<Vec<CacheEntryKey>> {
-        Q::laws(); // for the prover
+        Q::laws(); // for the prover: the way is `Lawful`
         let out = Manager::increment_weight(self, item, delta, max_weight)?;
         Ok(out)
     }
 
     fn remove_in_order(&mut self, item: &CacheEntryKey) {
-        Q::laws(); // for the prover
+        Q::laws(); // for the prover: the way is `Lawful`
         Manager::remove(self, item);
     }
 
@@ -52,7 +52,7 @@ impl<Q: Discipline<S>, S> OrderedManager for Manager<Q, S> {
         size: usize,
         fresh_until: Moment,
     ) -> Result<bool> {
-        Q::laws(); // for the prover
+        Q::laws(); // for the prover: the way is `Lawful`
         let was = Manager::access(self, item, size, fresh_until)?;
         Ok(was)
     }

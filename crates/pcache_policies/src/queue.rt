@@ -10,7 +10,7 @@ ghost use Rattle.pcache_policies.specs.Queue.{Queue, IsOnce, plain, seen_of, res
 use lru::LruCache;
 use pcache_base::error::Result;
 use pcache_evict::eviction::CacheEntryKey;
-use std::alloc::Global;
+use std::alloc::{AllocError, Global};
 use std::hash::BuildHasher;
 use std::marker::Model;
 
@@ -73,9 +73,8 @@ impl<S: BuildHasher> Model for Queue<S> {
 
 impl<S: BuildHasher + Copy + Drop> Queue<S> {
     /// An empty queue. No result depends on the seed.
-    pub(crate) fn new(alloc: Global, seed: S) -> Result<Queue<S>>
+    pub(crate) fn new(alloc: Global, seed: S) -> Result<Queue<S>, AllocError>
         ensures ok { IfOk result (λ queue. queue ≡ []) }
-        ensures kind { IfErr result (λ e. e ≡ OutOfMemory) }
     {
         Ok(Queue {
             cache: LruCache::unbounded_with_hasher(alloc, seed)?,
@@ -134,10 +133,9 @@ impl<S: BuildHasher + Copy + Drop> Queue<S> {
     }
 
     /// Adds a new entry as the newest.
-    pub(crate) fn push(&mut self, item: CacheEntryKey, seen: Seen) -> Result<()>
+    pub(crate) fn push(&mut self, item: CacheEntryKey, seen: Seen) -> Result<(), AllocError>
         requires { seen_of item self.old ≡ None }
         ensures ok { OnOk result (self.new ≡ (item, seen) ∷ self.old) }
-        ensures kind { IfErr result (λ e. e ≡ OutOfMemory) }
         ensures err { OnErr result (self.new ≡ self.old) }
     {
         let weight = seen.weight;

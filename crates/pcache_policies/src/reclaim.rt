@@ -138,6 +138,8 @@ impl<S: BuildHasher + Copy + Drop> Discipline<S> for Queues<S> {
             self.ring.add_ahead(item, size)?;
             return Ok(());
         }
+        // The new entries are the passed ones: what was chosen counts as passed if a call fails,
+        // and the front of the main queue has to be in one place, so that a use needs no memory.
         self.ring.add_passed(item, size)?;
         Ok(())
     }

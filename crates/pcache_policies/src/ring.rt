@@ -14,9 +14,9 @@ ghost use Rattle.pcache_policies.specs.Sieve.{entered, entries, turned, MakesRoo
 ghost use Rattle.pcache_policies.specs.Ring.{Ring, ring, all, shown, in_turn, left_of, Steps, Chooses, SameEntries, chosen};
 
 use crate::queue::{Queue, Seen};
-use pcache_base::error::{Error, ErrorType, Result};
+use pcache_base::error::Result;
 use pcache_evict::eviction::CacheEntryKey;
-use std::alloc::Global;
+use std::alloc::{AllocError, Global};
 use std::hash::BuildHasher;
 use std::marker::Model;
 use std::mem;
@@ -28,6 +28,8 @@ const FULL: usize = (1 << 63) - 1;
 fn is_full(count: usize) -> bool
     ensures { IsTrue result ↔ (2 ^ 63 - 1 ≤ count) }
 {
+    // Each entry has the links of its queue in memory, at least 16 bytes, and 2^64 addresses have
+    // room for fewer than 2^60 of these.
     count >= FULL
 }
 
@@ -55,9 +57,8 @@ impl<S: BuildHasher> Model for Ring<S> {
 
 impl<S: BuildHasher + Copy + Drop> Ring<S> {
     /// No entries.
-    pub(crate) fn new(alloc: Global, seed: S) -> Result<Ring<S>>
+    pub(crate) fn new(alloc: Global, seed: S) -> Result<Ring<S>, AllocError>
         ensures ok { IfOk result (λ made. made ≡ ring [] [] []) }
-        ensures kind { IfErr result (λ e. e ≡ OutOfMemory) }
     {
         Ok(Ring {
             ahead: Queue::new(alloc, seed)?,
@@ -164,6 +165,7 @@ impl<S: BuildHasher + Copy + Drop> Ring<S> {
         ensures ok { OnOk result (self.new.leaving ≡ []) }
         ensures kind { IfErr result (λ e. e ≡ OutOfMemory) }
     {
+        // Here and not where the call failed, since a push may want memory.
         while self.settle_one()? {}
         Ok(())
     }
@@ -247,17 +249,16 @@ impl<S: BuildHasher + Copy + Drop> Ring<S> {
             return Ok(self.turn());
         };
         if seen.uses == 0 {
-            return self.choose(key, seen);
+            return Ok(self.choose(key, seen)?);
         }
-        self.pass(key, seen)
+        Ok(self.pass(key, seen)?)
     }
 
     // The entry at the hand is chosen to go.
-    fn choose(&mut self, key: CacheEntryKey, seen: Seen) -> Result<bool>
+    fn choose(&mut self, key: CacheEntryKey, seen: Seen) -> Result<bool, AllocError>
         requires last { last_entry self.old.ahead ≡ Some (key, seen) }
         requires idle { seen.uses ≡ 0 }
         ensures ok { IfOk result (λ more. Steps self.old more self.new) }
-        ensures kind { IfErr result (λ e. e ≡ OutOfMemory) }
         ensures err { OnErr result (self.new ≡ self.old) }
     {
         self.choose_ahead(key, seen)?;
@@ -265,11 +266,10 @@ impl<S: BuildHasher + Copy + Drop> Ring<S> {
     }
 
     // The hand passes the entry that it is at.
-    fn pass(&mut self, key: CacheEntryKey, seen: Seen) -> Result<bool>
+    fn pass(&mut self, key: CacheEntryKey, seen: Seen) -> Result<bool, AllocError>
         requires last { last_entry self.old.ahead ≡ Some (key, seen) }
         requires used { seen.uses ≢ 0 }
         ensures ok { IfOk result (λ more. Steps self.old more self.new) }
-        ensures kind { IfErr result (λ e. e ≡ OutOfMemory) }
         ensures err { OnErr result (self.new ≡ self.old) }
     {
         self.pass_unused(key, seen)?;
@@ -277,12 +277,11 @@ impl<S: BuildHasher + Copy + Drop> Ring<S> {
     }
 
     /// The oldest entry ahead is chosen to go.
-    pub(crate) fn choose_ahead(&mut self, key: CacheEntryKey, seen: Seen) -> Result<()>
+    pub(crate) fn choose_ahead(&mut self, key: CacheEntryKey, seen: Seen) -> Result<(), AllocError>
         requires { last_entry self.old.ahead ≡ Some (key, seen) }
         ensures ahead { OnOk result (self.old.ahead ≡ self.new.ahead ++ (key, seen) ∷ []) }
         ensures others { OnOk result ((self.new.leaving ≡ (key, seen) ∷ self.old.leaving)
             × (self.new.passed ≡ self.old.passed)) }
-        ensures kind { IfErr result (λ e. e ≡ OutOfMemory) }
         ensures err { OnErr result (self.new ≡ self.old) }
     {
         self.leaving.push(key, seen)?;
@@ -291,12 +290,11 @@ impl<S: BuildHasher + Copy + Drop> Ring<S> {
     }
 
     /// The oldest entry ahead is passed, its uses forgotten.
-    pub(crate) fn pass_unused(&mut self, key: CacheEntryKey, seen: Seen) -> Result<()>
+    pub(crate) fn pass_unused(&mut self, key: CacheEntryKey, seen: Seen) -> Result<(), AllocError>
         requires { last_entry self.old.ahead ≡ Some (key, seen) }
         ensures ahead { OnOk result (self.old.ahead ≡ self.new.ahead ++ (key, seen) ∷ []) }
         ensures others { OnOk result ((self.new.leaving ≡ self.old.leaving)
             × (self.new.passed ≡ (key, unused seen.weight) ∷ self.old.passed)) }
-        ensures kind { IfErr result (λ e. e ≡ OutOfMemory) }
         ensures err { OnErr result (self.new ≡ self.old) }
     {
         self.passed.push(key, Seen::unused(seen.weight))?;
@@ -305,12 +303,11 @@ impl<S: BuildHasher + Copy + Drop> Ring<S> {
     }
 
     /// The oldest entry that was passed is chosen to go.
-    pub(crate) fn choose_passed(&mut self, key: CacheEntryKey, seen: Seen) -> Result<()>
+    pub(crate) fn choose_passed(&mut self, key: CacheEntryKey, seen: Seen) -> Result<(), AllocError>
         requires { last_entry self.old.passed ≡ Some (key, seen) }
         ensures passed { OnOk result (self.old.passed ≡ self.new.passed ++ (key, seen) ∷ []) }
         ensures others { OnOk result ((self.new.leaving ≡ (key, seen) ∷ self.old.leaving)
             × (self.new.ahead ≡ self.old.ahead)) }
-        ensures kind { IfErr result (λ e. e ≡ OutOfMemory) }
         ensures err { OnErr result (self.new ≡ self.old) }
     {
         self.leaving.push(key, seen)?;
@@ -395,30 +392,28 @@ impl<S: BuildHasher + Copy + Drop> Ring<S> {
     }
 
     /// Adds a new entry as the newest ahead.
-    pub(crate) fn add_ahead(&mut self, item: CacheEntryKey, size: usize) -> Result<()>
+    pub(crate) fn add_ahead(&mut self, item: CacheEntryKey, size: usize) -> Result<(), AllocError>
         requires { seen_of item (all self.old) ≡ None }
         ensures ok { OnOk result (self.new
             ≡ ring ((item, unused size) ∷ self.old.ahead) self.old.leaving self.old.passed) }
-        ensures kind { IfErr result (λ e. e ≡ OutOfMemory) }
         ensures err { OnErr result (self.new ≡ self.old) }
     {
         if is_full(self.len()) {
-            return Err(Error::new(ErrorType::OutOfMemory));
+            return Err(AllocError);
         }
         self.ahead.push(item, Seen::unused(size))?;
         Ok(())
     }
 
     /// Adds a new entry as the newest of the passed ones.
-    pub(crate) fn add_passed(&mut self, item: CacheEntryKey, size: usize) -> Result<()>
+    pub(crate) fn add_passed(&mut self, item: CacheEntryKey, size: usize) -> Result<(), AllocError>
         requires { seen_of item (all self.old) ≡ None }
         ensures ok { OnOk result (self.new
             ≡ ring self.old.ahead self.old.leaving ((item, unused size) ∷ self.old.passed)) }
-        ensures kind { IfErr result (λ e. e ≡ OutOfMemory) }
         ensures err { OnErr result (self.new ≡ self.old) }
     {
         if is_full(self.len()) {
-            return Err(Error::new(ErrorType::OutOfMemory));
+            return Err(AllocError);
         }
         self.passed.push(item, Seen::unused(size))?;
         Ok(())
@@ -451,11 +446,10 @@ impl<S: BuildHasher + Copy + Drop> Ring<S> {
     }
 
     /// Adds a new entry as the newest.
-    pub(crate) fn enter(&mut self, item: CacheEntryKey, size: usize) -> Result<()>
+    pub(crate) fn enter(&mut self, item: CacheEntryKey, size: usize) -> Result<(), AllocError>
         requires { seen_of item (all self.old) ≡ None }
         ensures ok { OnOk result (left_of self.new ≡ entered item size (left_of self.old)) }
         ensures leaving { self.new.leaving ≡ self.old.leaving }
-        ensures kind { IfErr result (λ e. e ≡ OutOfMemory) }
         ensures err { OnErr result (SameEntries self.old self.new) }
     {
         self.face();

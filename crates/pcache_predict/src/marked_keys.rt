@@ -7,7 +7,7 @@ use pcache_base::error::Result;
 use pcache_base::reason::NoCacheReason;
 use pcache_base::seed::Seed;
 use pcache_table::hashtable::LruShards;
-use std::alloc::Global;
+use std::alloc::{AllocError, Global};
 use std::marker::Model;
 
 // The marked keys. The list of a key is the key, as a number, modulo the number of lists.
@@ -48,13 +48,12 @@ impl<const N: usize> MarkedKeys<N> {
     }
 
     // Marks a key with a reason. Returns whether it was not marked before.
-    pub(crate) fn mark(&mut self, key: u128, reason: NoCacheReason) -> Result<bool>
+    pub(crate) fn mark(&mut self, key: u128, reason: NoCacheReason) -> Result<bool, AllocError>
         ensures was { IfOk result (λ new. new ≡ is_none (reason_of self.old key)) }
         ensures ok { OnOk result (self.new ≡ after_mark self.old key reason) }
         ensures err { OnErr result (self.new ≡ self.old) }
-        ensures kind { IfErr result (λ e. e ≡ OutOfMemory) }
     {
-        let _ = &self.lists; // for the prover: once a field is used, the invariant is known
+        let _ = &self.lists; // for the prover: no key is twice in a list (`AreKept`)
         let old = self.lists.put(key, reason)?;
         Ok(old.is_none())
     }
@@ -64,7 +63,7 @@ impl<const N: usize> MarkedKeys<N> {
         ensures was { result ≡ is_none (reason_of self.old key) }
         ensures out { self.new ≡ after_unmark self.old key }
     {
-        let _ = &self.lists; // for the prover: once a field is used, the invariant is known
+        let _ = &self.lists; // for the prover: no key is twice in a list (`AreKept`)
         self.lists.pop(key).is_none()
     }
 }

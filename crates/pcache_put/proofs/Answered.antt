@@ -1,12 +1,6 @@
 -- The default decision if fewer default lifetimes are possible.
-use Rattle.std.proofs.Common.{◌≡◌, ℕ, Bool, true, false, Option, None, Some, Result, Ok, Err, IfOk, subst}
-use Rattle.std.specs.declared.time.Duration.{Duration}
-use Rattle.pcache_meta.specs.declared.header.ResponseHeader.{ResponseHeader}
-use Rattle.pcache_base.specs.declared.error.ErrorType.{ErrorType}
-use Rattle.pcache_control.specs.declared.response.RespCacheable.{RespCacheable}
-use Rattle.pcache_control.specs.Filters.{FreshBy, forbids, said_moment}
-use Rattle.pcache_put.specs.Policies.{SaysByDefault}
-use Rattle.std.specs.Bool.{MatchBool}
+use Rattle.pcache_control.specs.Filters.{forbids, said_moment}
+use Rattle.pcache_put.proofs.Words.{◌≡◌, ℕ, Bool, true, false, Option, None, Some, Result, Ok, Err, IfOk, subst, Duration, ResponseHeader, ErrorType, RespCacheable, FreshBy, SaysByDefault, MatchBool}
 
 fresh-more : (now : ℕ) (o : Option ℕ) (P Q : Option Duration → Type 0) (result : Option ℕ) → ((d : Option Duration) → P d → Q d) → FreshBy now o P result → FreshBy now o Q result
 fresh-more now (Some m) P Q result more h = h

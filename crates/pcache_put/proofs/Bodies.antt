@@ -1,29 +1,19 @@
 -- A piece of the body, and what is written of it.
-use Rattle.std.proofs.Common.{◌≡◌, ℕ, ◌+◌, ◌-◌, ◌^◌, ◌≤◌, Bool, true, false, cond, Option, None, Some, List, [], ◌∷◌, ◌++◌, length, fold, min, refl, ap, sym, subst, ◌∙◌, arith, append-nil, length-append}
-use Rattle.std.specs.Prelude.{IfSome, ◌==◌, nat_lt, nat_le, option_map}
+use Rattle.std.proofs.Common.{◌+◌, fold}
+use Rattle.std.specs.Prelude.{nat_le, option_map}
 use Rattle.std.proofs.lemmas.Bool.{eqb-true}
-use Rattle.std.proofs.lemmas.Bool.Decides.{nat_tests}
 use Rattle.std.proofs.lemmas.List.{nil_from_length}
-use Rattle.pcache_meta.specs.Meta.{Meta}
-use Rattle.pcache_meta.specs.declared.header.ResponseHeader.{ResponseHeader}
-use Rattle.pcache_response.proofs.PartLemmas.{body_joined, body_more, left_more, response_more}
-use Rattle.pcache_response.proofs.Unique.{one_outcome, unreadable_is_none}
-use Rattle.pcache_response.specs.Parts.{Given, given_in_all, add_all, left_behind, body_parts}
-use Rattle.pcache_response.specs.Progress.{Parsed, AtHead, AtBody, AtEnd, HasFailed, TakenIn, GivesParts}
-use Rattle.pcache_response.specs.Response.{IsUnreadable, declared_body, is_whole}
-use Rattle.pcache_response.specs.Counted.{Counted}
-use Rattle.pcache_response.specs.declared.response_parse.ParsePart.{ParsePart}
+use Rattle.pcache_response.proofs.PartLemmas.{body_joined, body_more, left_more}
+use Rattle.pcache_response.specs.Parts.{body_parts}
+use Rattle.pcache_response.specs.Progress.{AtEnd}
+use Rattle.pcache_put.specs.Brought.{with_part}
+use Rattle.pcache_put.specs.Openings.{IsDue}
+use Rattle.pcache_put.specs.State.{Accepted}
+use Rattle.pcache_put.specs.Steps.{counted_on, counted_part, IsAllowed, written}
+use Rattle.pcache_put.specs.declared.reading.ReadPiece.TheVariants.{Begins}
+use Rattle.pcache_put.proofs.Words.{◌≡◌, ℕ, ◌-◌, ◌^◌, ◌≤◌, Bool, true, false, cond, Option, None, Some, List, [], ◌∷◌, ◌++◌, length, min, refl, ap, sym, subst, ◌∙◌, arith, append-nil, length-append, IfSome, ◌==◌, nat_lt, nat_tests, Meta, ResponseHeader, response_more, one_outcome, unreadable_is_none, Given, given_in_all, add_all, left_behind, Parsed, AtHead, AtBody, HasFailed, TakenIn, GivesParts, IsUnreadable, declared_body, is_whole, Counted, ParsePart, brought, HasOpened, Piece, joined, Says, counted, is_over, BodyRead, BodyTaken, Counts, Overrun, limit_of, part_bytes, is_done, filled_wrote, BodyPart, Brought, ReadPiece}
 use Rattle.pcache_response.specs.declared.response_parse.ParsePart.TheVariants as part
 use Rattle.pcache_put.proofs.Pieces.{ends_before, judged_more}
-use Rattle.pcache_put.specs.Brought.{brought, with_part}
-use Rattle.pcache_put.specs.Openings.{HasOpened, IsDue}
-use Rattle.pcache_put.specs.Puts.{Piece, joined, Says, counted, is_over}
-use Rattle.pcache_put.specs.State.{Accepted, BodyRead, BodyTaken, Counts, Overrun, limit_of}
-use Rattle.pcache_put.specs.Steps.{part_bytes, is_done, counted_on, counted_part, IsAllowed, written, filled_wrote}
-use Rattle.pcache_put.specs.declared.reading.BodyPart.{BodyPart}
-use Rattle.pcache_put.specs.declared.brought.Brought.{Brought}
-use Rattle.pcache_put.specs.declared.reading.ReadPiece.{ReadPiece}
-use Rattle.pcache_put.specs.declared.reading.ReadPiece.TheVariants.{Begins}
 
 -- what is brought after a head, or without one, by bytes or by none
 abbrev pub brought_by : Option ResponseHeader → Bool → List ℕ → Bool → Brought

@@ -1,11 +1,11 @@
 -- The first value under a name, as a meta shows it.
-use Rattle.std.proofs.Common.{◌≡◌, ℕ, true, false, cond, Option, None, Some, List, [], ◌∷◌, map, refl, ap, sym, subst, ◌∙◌}
-use Rattle.std.specs.Prelude.{bytes_eq, option_map, slice_get}
+use Rattle.std.proofs.Common.{map}
+use Rattle.std.specs.Prelude.{option_map, slice_get}
 use Rattle.http_header.specs.FieldValue.{FieldValue}
 use Rattle.http_header.specs.HeaderMap.{Entries, get, get_all}
 use Rattle.pcache_meta.specs.Header.{Fields, shown_fields}
 use Rattle.pcache_response.specs.Response.{SpellsLength}
-use Rattle.pcache_put.specs.Policies.{DeclaresBy}
+use Rattle.pcache_put.proofs.Words.{◌≡◌, ℕ, true, false, cond, Option, None, Some, List, [], ◌∷◌, refl, ap, sym, subst, ◌∙◌, bytes_eq, DeclaresBy}
 
 all_shown : (m : Entries FieldValue) (name : List ℕ) → get_all (shown_fields m) name ≡ map (λ (v : FieldValue). v.bytes) (get_all m name)
 all_shown [] name = refl

@@ -1,18 +1,9 @@
 -- The two halves of a piece, and both together.
-use Rattle.std.proofs.Common.{◌≡◌, ◌⊎◌, inl, inr, Option, None, Result, Ok, Err, List, [], ◌∷◌, ◌++◌, refl, ap, sym, subst, ◌∙◌}
 use Rattle.std.specs.Prelude.{IfErr}
-use Rattle.pcache_base.specs.declared.error.ErrorType.{ErrorType}
-use Rattle.pcache_base.specs.declared.reason.NoCacheReason.{NoCacheReason}
-use Rattle.pcache_response.specs.Progress.{Parsed, HasFailed}
-use Rattle.pcache_response.specs.Counted.{Counted}
-use Rattle.pcache_store.specs.Store.{Store}
-use Rattle.pcache_put.proofs.Results.{taken_declined, taken_over}
-use Rattle.pcache_put.specs.Openings.{HasOpened}
-use Rattle.pcache_put.specs.Puts.{Piece, Says}
 use Rattle.pcache_put.specs.Readings.{IfUnread, MayFailRead, MayFailOnceRead, ReadBy, ReadsPiece, StoresPiece}
-use Rattle.pcache_put.specs.State.{Stage, InHead, InBody, HasDeclined, IsOver, Put, Filled, limit_of}
-use Rattle.pcache_put.specs.Steps.{Done, MayFailPiece, TakesPiece}
-use Rattle.pcache_put.specs.declared.reading.ReadPiece.{ReadPiece}
+use Rattle.pcache_put.specs.Steps.{Done, TakesPiece}
+use Rattle.pcache_put.proofs.Words.{◌≡◌, ◌⊎◌, inl, inr, Option, None, Result, Ok, Err, List, [], ◌∷◌, ◌++◌, refl, ap, sym, subst, ◌∙◌, ErrorType, NoCacheReason, Parsed, HasFailed, Counted, Store, HasOpened, Piece, Says, Stage, InHead, InBody, HasDeclined, IsOver, Put, Filled, limit_of, MayFailPiece, ReadPiece}
+use Rattle.pcache_put.proofs.Results.{taken_declined, taken_over}
 use Rattle.pcache_put.specs.declared.reading.ReadPiece.TheVariants as read
 
 both : {C : Type 0} (says : Says) (old mid new : Put C) (p : Piece) (part : ReadPiece) (d : Done) → ReadsPiece says old mid p part → StoresPiece says mid new part d → TakesPiece says old new p d

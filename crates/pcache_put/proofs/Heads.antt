@@ -1,27 +1,10 @@
 -- A piece in which the head ends, or goes on.
-use Rattle.std.proofs.Common.{◌≡◌, ℕ, inl, inr, Option, None, Some, Result, Ok, Err, List, [], ◌∷◌, ◌++◌, length, refl, ap, sym, subst, ◌∙◌}
-use Rattle.std.specs.Prelude.{IfSome, IfOk, ◌==◌}
-use Rattle.pcache_base.specs.declared.error.ErrorType.{ErrorType}
-use Rattle.pcache_control.specs.declared.response.RespCacheable.{RespCacheable}
-use Rattle.pcache_control.specs.declared.response.RespCacheable.TheVariants.{Cacheable, Uncacheable}
-use Rattle.pcache_meta.specs.declared.header.ResponseHeader.{ResponseHeader}
 use Rattle.pcache_response.proofs.PartLemmas.{whole_given}
-use Rattle.pcache_response.proofs.Unique.{one_outcome}
-use Rattle.pcache_response.specs.HeadEnd.{IsUnfinished}
-use Rattle.pcache_response.specs.Parts.{Given, nothing, given_in_all, add_all, left_behind, whole_parts}
-use Rattle.pcache_response.specs.Progress.{Parsed, AtHead, AtBody, TakenIn, GivesParts}
-use Rattle.pcache_response.specs.Response.{Response, IsResponse, IsUnreadable, declared_body, is_whole}
-use Rattle.pcache_response.specs.Counted.{Counted}
-use Rattle.pcache_response.specs.declared.response_parse.ParsePart.{ParsePart}
+use Rattle.pcache_response.specs.Parts.{nothing, whole_parts}
+use Rattle.pcache_put.specs.State.{HeadTaken}
+use Rattle.pcache_put.proofs.Words.{◌≡◌, ℕ, inl, inr, Option, None, Some, Result, Ok, Err, List, [], ◌∷◌, ◌++◌, length, refl, ap, sym, subst, ◌∙◌, IfSome, IfOk, ◌==◌, ErrorType, RespCacheable, Cacheable, Uncacheable, ResponseHeader, one_outcome, IsUnfinished, Given, given_in_all, add_all, left_behind, Parsed, AtHead, AtBody, TakenIn, GivesParts, Response, IsResponse, IsUnreadable, declared_body, is_whole, Counted, ParsePart, brought, IsVerdict, IsBegun, HasOpened, Piece, joined, Says, IsJudged, limit_of, part_bytes, is_done, BodyPart, ReadPiece}
 use Rattle.pcache_put.proofs.Bodies.{bytes_by, last_by, head_by, done_whole, last_done}
 use Rattle.pcache_put.proofs.Pieces.{joined_push, ends_here}
-use Rattle.pcache_put.specs.Brought.{brought}
-use Rattle.pcache_put.specs.Openings.{IsVerdict, IsBegun, HasOpened}
-use Rattle.pcache_put.specs.Puts.{Piece, joined, Says, IsJudged}
-use Rattle.pcache_put.specs.State.{HeadTaken, limit_of}
-use Rattle.pcache_put.specs.Steps.{part_bytes, is_done}
-use Rattle.pcache_put.specs.declared.reading.BodyPart.{BodyPart}
-use Rattle.pcache_put.specs.declared.reading.ReadPiece.{ReadPiece}
 use Rattle.pcache_put.specs.declared.reading.ReadPiece.TheVariants as read
 
 judged_here : (says : Says) (limit : Option ℕ) (pieces : List Piece) (p : Piece) (r : Response) (header : ResponseHeader) (verdict : RespCacheable) → IsResponse (joined pieces ++ p.bytes) r → header ≡ r.head → IsVerdict says limit header p.now verdict

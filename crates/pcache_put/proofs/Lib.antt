@@ -8,3 +8,4 @@ pub mod OneAnswer
 pub mod Pieces
 pub mod Results
 pub mod Why
+pub mod Words

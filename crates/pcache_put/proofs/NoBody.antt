@@ -1,17 +1,13 @@
 -- A put whose body's admission failed leaves no body under its key.
-use Rattle.std.proofs.Common.{◌≡◌, ℕ, true, Some, inl, inr}
-use Rattle.pcache_base.specs.Key.{Key}
-use Rattle.pcache_base.specs.declared.error.ErrorType.{ErrorType}
-use Rattle.pcache_evict.specs.Tracked.{Tracked, Limits}
-use Rattle.pcache_response.specs.Progress.{Parsed}
+use Rattle.pcache_evict.specs.Tracked.{Limits}
 use Rattle.pcache_request.proofs.NoBody.{body_none}
-use Rattle.pcache_request.specs.NoBody.{HasNoBody, LeavesNone}
-use Rattle.pcache_request.specs.declared.cache.finish.WriteEnd.TheVariants as writes
-use Rattle.pcache_store.specs.Store.{Store, Guarantees}
+use Rattle.pcache_request.specs.NoBody.{LeavesNone}
+use Rattle.pcache_store.specs.Store.{Guarantees}
 use Rattle.pcache_store.specs.declared.storage.MissFinishType.{MissFinishType}
-use Rattle.pcache_put.specs.State.{Stage, InHead, InBody, HasDeclined, IsOver, write_in}
-use Rattle.pcache_put.specs.Steps.{EndsPut, IfWithdrawn}
+use Rattle.pcache_put.specs.State.{write_in}
 use Rattle.pcache_put.specs.declared.report.PutEnd.{PutEnd}
+use Rattle.pcache_put.proofs.Words.{◌≡◌, ℕ, true, Some, inl, inr, Key, ErrorType, Tracked, Parsed, HasNoBody, Store, Stage, InHead, InBody, HasDeclined, IsOver, EndsPut, IfWithdrawn}
+use Rattle.pcache_request.specs.declared.cache.finish.WriteEnd.TheVariants as writes
 use Rattle.pcache_put.specs.declared.report.PutEnd.TheVariants as end
 
 module _ (k : Key) (parser : Parsed) (kinds : ℕ → MissFinishType) (limits : Limits) (s s' : Store) (m m' : Tracked) where

@@ -1,25 +1,20 @@
 -- The default policy decides one way on a head at a moment.
-use Rattle.std.proofs.Common.{◌≡◌, ℕ, Bool, true, false, Option, None, Some, refl, sym, ap, subst, ◌∙◌}
-use Rattle.std.specs.Prelude.{◌||◌, bytes_eq, codes, is_some, option_and_then, if◌then◌else◌}
-use Rattle.std.specs.Bool.{MatchBool}
+use Rattle.std.specs.Prelude.{◌||◌, codes, is_some, option_and_then}
 use Rattle.std.specs.Duration.{as_nanos}
 use Rattle.std.specs.Map.{lookup}
 use Rattle.std.specs.Option.{option_map}
-use Rattle.std.specs.declared.time.Duration.{Duration}
 use Rattle.pcache_control.proofs.Found.{given_by_name}
 use Rattle.pcache_control.specs.Control.{directive_given, ReadsField, ReadsOneMap, is_bare, value_in, names_in, seconds_at, or_none, cacheable_of, shared_age, fresh_seconds, stale_seconds, as_duration, without_fields, stripped}
 use Rattle.pcache_control.specs.Defaults.{asked_status}
-use Rattle.pcache_control.specs.Filters.{FreshBy, end_of, expires_of, forbids, is_no, or_else, said_moment, new_meta, windows, windows_of, stored_header}
+use Rattle.pcache_control.specs.Filters.{end_of, expires_of, forbids, is_no, or_else, said_moment, new_meta, windows, windows_of, stored_header}
 use Rattle.pcache_control.specs.Names.{is_known, is_known_name, name_of}
 use Rattle.pcache_control.specs.Responses.{IsDecision, decision_on}
 use Rattle.pcache_control.specs.declared.cache_control.CacheControl.{CacheControl}
 use Rattle.pcache_control.specs.declared.cache_control.Cacheable.TheVariants.{Yes, No, Default}
 use Rattle.pcache_control.specs.declared.key.DirectiveKey.{DirectiveKey}
 use Rattle.pcache_control.specs.declared.key.DirectiveKey.TheVariants.{MaxAge, SMaxAge, NoCache, NoStore, Private, Public, MustRevalidate, ProxyRevalidate, MustUnderstand, NoTransform, Immutable, StaleWhileRevalidate, StaleIfError, OnlyIfCached, Unknown}
-use Rattle.pcache_control.specs.declared.response.RespCacheable.{RespCacheable}
-use Rattle.pcache_control.specs.declared.response.RespCacheable.TheVariants.{Cacheable}
-use Rattle.pcache_meta.specs.declared.header.ResponseHeader.{ResponseHeader}
-use Rattle.pcache_put.specs.Policies.{DecidesOneWay, HaveOneLifetime, SaysByDefault}
+use Rattle.pcache_put.specs.Policies.{DecidesOneWay, HaveOneLifetime}
+use Rattle.pcache_put.proofs.Words.{◌≡◌, ℕ, Bool, true, false, Option, None, Some, refl, sym, ap, subst, ◌∙◌, bytes_eq, if◌then◌else◌, MatchBool, Duration, FreshBy, RespCacheable, Cacheable, ResponseHeader, SaysByDefault}
 
 -- ---- the directives
 

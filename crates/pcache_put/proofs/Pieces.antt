@@ -1,13 +1,11 @@
 -- Pieces one after another.
-use Rattle.std.proofs.Common.{◌≡◌, ℕ, Option, List, [], ◌∷◌, ◌++◌, refl, ap, sym, subst, ◌∙◌, append_assoc, append-nil}
+use Rattle.std.proofs.Common.{append_assoc}
 use Rattle.std.proofs.lemmas.List.{take-append-le}
-use Rattle.pcache_control.specs.declared.response.RespCacheable.{RespCacheable}
 use Rattle.pcache_response.proofs.Ends.{ends_more, ends_within}
-use Rattle.pcache_response.proofs.PartLemmas.{response_more}
 use Rattle.pcache_response.specs.Head.{ReadsHeader}
-use Rattle.pcache_response.specs.HeadEnd.{EndsAt, IsUnfinished}
-use Rattle.pcache_response.specs.Response.{Response, IsResponse, IsUnreadable}
-use Rattle.pcache_put.specs.Puts.{Piece, joined, HeadEndsAt, Says, IsJudged}
+use Rattle.pcache_response.specs.HeadEnd.{EndsAt}
+use Rattle.pcache_put.specs.Puts.{HeadEndsAt}
+use Rattle.pcache_put.proofs.Words.{◌≡◌, ℕ, Option, List, [], ◌∷◌, ◌++◌, refl, ap, sym, subst, ◌∙◌, append-nil, RespCacheable, response_more, IsUnfinished, Response, IsResponse, IsUnreadable, Piece, joined, Says, IsJudged}
 
 pub joined_push : (pieces : List Piece) (p : Piece) → joined (pieces ++ p ∷ []) ≡ joined pieces ++ p.bytes
 joined_push [] p = append-nil p.bytes

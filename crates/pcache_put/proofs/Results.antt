@@ -1,27 +1,16 @@
 -- What comes of a put.
-use Rattle.std.proofs.Common.{◌≡◌, ℕ, ◌-◌, ◌^◌, ◌≤◌, ◌⊎◌, inl, inr, Bool, true, false, Option, None, Some, List, [], ◌∷◌, ◌++◌, length, min, refl, ap, sym, subst, ◌∙◌, arith, length-append, length-take}
-use Rattle.std.specs.Prelude.{nat_lt, if◌then◌else◌}
+use Rattle.std.proofs.Common.{length-take}
 use Rattle.std.specs.Option.{SomeIff}
-use Rattle.std.proofs.lemmas.Bool.Decides.{nat_tests}
-use Rattle.pcache_base.specs.declared.error.ErrorType.{ErrorType}
-use Rattle.pcache_base.specs.declared.error.ErrorType.TheVariants.{OutOfMemory, InternalError, InvalidHttpHeader, ResponseTooLarge, IncompleteHttpBody, WriteRemoved, NumbersExhausted, Io}
-use Rattle.pcache_base.specs.declared.reason.NoCacheReason.{NoCacheReason}
 use Rattle.pcache_base.specs.declared.reason.NoCacheReason.TheVariants.{ResponseTooLarge as TooLarge}
-use Rattle.pcache_control.specs.declared.response.RespCacheable.{RespCacheable}
-use Rattle.pcache_control.specs.declared.response.RespCacheable.TheVariants.{Cacheable, Uncacheable}
-use Rattle.pcache_meta.specs.Meta.{Meta}
-use Rattle.pcache_meta.specs.declared.header.ResponseHeader.{ResponseHeader}
 use Rattle.pcache_response.proofs.Ends.{nothing_unfinished}
-use Rattle.pcache_response.proofs.Unique.{one_response, unreadable_is_none}
-use Rattle.pcache_response.specs.Parts.{Given, given_in_all, left_behind}
-use Rattle.pcache_response.specs.Progress.{Parsed, AtHead, AtBody, HasFailed, TakenIn}
-use Rattle.pcache_response.specs.Response.{Response, IsResponse, IsUnreadable, IsComplete, declared_body, may_end}
-use Rattle.pcache_response.specs.Counted.{Counted}
-use Rattle.pcache_put.proofs.Pieces.{ends_before, judged_more, unreadable_more}
-use Rattle.pcache_put.specs.Policies.{DeclaresBy, Judges, is_above}
-use Rattle.pcache_put.specs.Puts.{Piece, joined, Says, counted, is_over, Outcome, Stores, Declines, Refuses, outcome, ComesTo, NoHead, BadHead, WithHead, IsResult}
-use Rattle.pcache_put.specs.State.{Stage, InHead, HasDeclined, IsOver, Filled, BodyRead, BodyTaken, Declined, Overrun, Counts, IsWhyOver, TakenBy, limit_of}
+use Rattle.pcache_response.proofs.Unique.{one_response}
+use Rattle.pcache_response.specs.Response.{IsComplete, may_end}
+use Rattle.pcache_put.specs.Policies.{Judges, is_above}
+use Rattle.pcache_put.specs.Puts.{Outcome, Stores, Declines, Refuses, outcome, ComesTo, NoHead, BadHead, WithHead, IsResult}
+use Rattle.pcache_put.specs.State.{Declined}
 use Rattle.pcache_put.specs.Steps.{IsRefusal, StoresFilled}
+use Rattle.pcache_put.proofs.Words.{◌≡◌, ℕ, ◌-◌, ◌^◌, ◌≤◌, ◌⊎◌, inl, inr, Bool, true, false, Option, None, Some, List, [], ◌∷◌, ◌++◌, length, min, refl, ap, sym, subst, ◌∙◌, arith, length-append, nat_lt, if◌then◌else◌, nat_tests, ErrorType, OutOfMemory, InternalError, InvalidHttpHeader, ResponseTooLarge, IncompleteHttpBody, WriteRemoved, NumbersExhausted, Io, NoCacheReason, RespCacheable, Cacheable, Uncacheable, Meta, ResponseHeader, unreadable_is_none, Given, given_in_all, left_behind, Parsed, AtHead, AtBody, HasFailed, TakenIn, Response, IsResponse, IsUnreadable, declared_body, Counted, DeclaresBy, Piece, joined, Says, counted, is_over, Stage, InHead, HasDeclined, IsOver, Filled, BodyRead, BodyTaken, Overrun, Counts, IsWhyOver, TakenBy, limit_of}
+use Rattle.pcache_put.proofs.Pieces.{ends_before, judged_more, unreadable_more}
 
 -- ---- one more piece
 

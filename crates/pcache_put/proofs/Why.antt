@@ -1,20 +1,14 @@
 -- Why a put fails.
-use Rattle.std.proofs.Common.{◌≡◌, ℕ, ◌⊎◌, inl, inr, true, false, cond, Option, None, Some, List, refl, ap, sym, subst, ◌∙◌, arith}
-use Rattle.std.proofs.lemmas.Bool.Decides.{nat_tests}
 use Rattle.std.specs.Cmp.{nat_cmp_total}
 use Rattle.std.specs.FinMap.{FinMap, get, insert, get-insert}
 use Rattle.std.specs.Ordering.{nat_cmp, eq_by_cmp}
-use Rattle.pcache_base.specs.declared.error.ErrorType.{ErrorType}
-use Rattle.pcache_base.specs.declared.error.ErrorType.TheVariants.{OutOfMemory, InternalError, InvalidHttpHeader, ResponseTooLarge, IncompleteHttpBody, WriteRemoved, NumbersExhausted, Io}
-use Rattle.pcache_meta.specs.Meta.{Meta, numbered}
-use Rattle.pcache_response.specs.Progress.{Parsed, AtBody, HasFailed}
-use Rattle.pcache_put.specs.Puts.{Piece, Says}
-use Rattle.pcache_put.specs.State.{IsWhyOver, Overrun, InHead}
-use Rattle.pcache_put.specs.Steps.{IfRefused, IsBegunBefore, MayFailFill, MayFailPiece}
+use Rattle.pcache_meta.specs.Meta.{numbered}
+use Rattle.pcache_put.specs.Steps.{IfRefused}
 use Rattle.pcache_put.specs.declared.report.PieceEnd.{PieceEnd}
-use Rattle.pcache_put.specs.declared.report.PieceEnd.TheVariants as piece
 use Rattle.pcache_store.specs.Refusals.{MayFailWrite}
-use Rattle.pcache_store.specs.Store.{Store, Written, begun, is_told, new_write}
+use Rattle.pcache_store.specs.Store.{Written, begun, is_told, new_write}
+use Rattle.pcache_put.proofs.Words.{◌≡◌, ℕ, ◌⊎◌, inl, inr, true, false, cond, Option, None, Some, List, refl, ap, sym, subst, ◌∙◌, arith, nat_tests, ErrorType, OutOfMemory, InternalError, InvalidHttpHeader, ResponseTooLarge, IncompleteHttpBody, WriteRemoved, NumbersExhausted, Io, Meta, Parsed, AtBody, HasFailed, Piece, Says, IsWhyOver, Overrun, InHead, IsBegunBefore, MayFailFill, MayFailPiece, Store}
+use Rattle.pcache_put.specs.declared.report.PieceEnd.TheVariants as piece
 
 -- adding bytes to a write failed
 pub why_filling : (says : Says) (limit : Option ℕ) (s : Store) (w : ℕ) (e : ErrorType) (pieces : List Piece) → MayFailFill s w e → (e ≡ ResponseTooLarge → Overrun says limit pieces) → IsWhyOver says limit e pieces

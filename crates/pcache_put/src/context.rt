@@ -251,6 +251,7 @@ impl<C: CachePut, S: Storage> CachePutCtx<C, S> {
         ensures kind { IfRefused result.end (λ e.
             MayFailPiece self.old.stage (S.state storage.old) e ⊎ (self.old.parser ≡ HasFailed e)) }
     {
+        // Handed on as a value: kept in the put it would be one more field of the put's view.
         let read = self.read_piece(piece, now);
         self.store_piece(read, storage)
     }

@@ -91,6 +91,8 @@ fn write_part<S: Storage>(
     let Some(part) = part else {
         return Ok(None);
     };
+    // Counted with the writing and not with the reading, so that a first piece that is too long
+    // begins its write, drops it, and uses up its number.
     if !allows(size, &part) {
         return Err(Error::new(ERR_RESPONSE_TOO_LARGE));
     }
@@ -99,6 +101,7 @@ fn write_part<S: Storage>(
         return Err(Error::new(SPENT));
     }
     let BodyPart { bytes, is_last } = part;
+    // For the report. It shares the bytes, and copies none.
     let copy = bytes.clone()?;
     writer.write_body(storage, bytes, is_last)?;
     Ok(Some(Written {
@@ -150,6 +153,9 @@ impl<C: CachePut> Intake<C> {
         ensures kind { IfErr result (λ e.
             (e ≡ InvalidHttpHeader) ⊎ (e ≡ OutOfMemory) ⊎ (self.old.parser ≡ HasFailed e)) }
     {
+        // The bytes of a head that has not ended have no bound: it would have to lie above every
+        // head that can be read, and the grammar has no such. Who takes puts from outside limits
+        // them before.
         let parts = self.parser.take_piece(piece)?;
         let Brought { head, body } = Brought::from_parts(parts);
         match head {

@@ -20,10 +20,12 @@ use std::alloc::Global;
 
 /// Decides whether a pushed response is stored.
 pub trait CachePut: Drop {
+    // A relation: what a Cache-Control line says is one, and so is what a function pointer returns.
     /// What it may decide on a head at a moment. Nothing else matters, so the decision does not depend on earlier
     /// calls.
     ghost says: { Self → ResponseHeader → ℕ → RespCacheable → Type 0 };
 
+    // Without a default body, which would have to meet every `says`.
     /// Whether the response with this head is stored, and with what meta. Most policies use `default_cacheable`. Fails
     /// only when memory runs out.
     fn cacheable(&self, alloc: Global, header: ResponseHeader, now: Moment) -> Result<RespCacheable>
@@ -117,6 +119,8 @@ fn if_short(alloc: Global, said: RespCacheable, most: usize) -> Result<RespCache
 {
     match said {
         RespCacheable::Cacheable(meta) => {
+            // Spelled for this alone, since no write has begun. A limit that is a call of the put
+            // would stand in each definition of what comes of a put.
             let text = header_serialize(alloc, meta.response_header())?;
             if text.len() > most {
                 return Ok(RespCacheable::Uncacheable(NoCacheReason::ResponseTooLarge));

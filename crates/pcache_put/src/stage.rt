@@ -18,6 +18,7 @@ pub(crate) struct Filling<M> {
 }
 
 // What a put does next.
+// One value, so that a put never has a reason and a write together.
 pub(crate) enum Stage<M> {
     // The head has not ended.
     Head,

@@ -1,11 +1,11 @@
 -- Values that replace those under a name, one by one.
-use Rattle.std.proofs.Common.{◌≡◌, ℕ, Bool, true, false, cond, List, [], ◌∷◌, ◌++◌, map, refl, ap, sym, subst, ◌∙◌, inl, inr}
+use Rattle.std.proofs.Common.{◌≡◌, ℕ, true, false, cond, List, [], ◌∷◌, ◌++◌, map, refl, ap, sym, subst, ◌∙◌, inl, inr}
 use Rattle.std.specs.Prelude.{bytes_eq, codes, Contains}
 use Rattle.std.proofs.lemmas.Bool.{cases_Bool}
 use Rattle.std.proofs.lemmas.Slice.Eq.{bytes_eq-Decides}
 use Rattle.std.proofs.lemmas.List.{append_assoc, append-nil}
 use Rattle.http_header.specs.FieldValue.{FieldValue}
-use Rattle.http_header.specs.HeaderMap.{Entry, Entries, ContainsKey, IsFullOfValues, RefusesAppend, RefusesInsert, append, get_all, insert, keys, update}
+use Rattle.http_header.specs.HeaderMap.{Entries, IsFullOfValues, RefusesAppend, RefusesInsert, append, get_all, insert, keys, update}
 use Rattle.pcache_meta.specs.Header.{Fields, shown_entry, shown_fields}
 use Rattle.pcache_meta.proofs.HeaderMaps.{length-shown, shown-append, value_count-shown}
 use Rattle.pcache_request.specs.Renewals.{LacksRoom, LacksRoomAfter, LacksRoomFor, added_all, field_renewed, in_place, renewed_names, shown_values}

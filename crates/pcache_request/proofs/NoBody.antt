@@ -1,21 +1,20 @@
 -- A key that was purged has no body, and so has one whose body's admission failed.
-use Rattle.std.proofs.Common.{◌≡◌, ◌⊎◌, ℕ, Bool, true, false, Option, None, Some, Result, Ok, Err, refl, ap, sym, subst, ◌∙◌, inl, inr, cond, arith}
+use Rattle.std.proofs.Common.{◌≡◌, ℕ, Bool, true, false, Option, None, Some, ap, sym, subst, ◌∙◌, inl, inr, cond, arith}
 use Rattle.std.specs.Ordering.{nat_cmp, eq_by_cmp}
 use Rattle.std.specs.Cmp.{nat_cmp_total, unsigned_tied}
 use Rattle.std.proofs.lemmas.Bool.Decides.{nat_tests}
-use Rattle.std.specs.FinMap.{get, remove, get-remove}
+use Rattle.std.specs.FinMap.{get, get-remove}
 use Rattle.pcache_base.specs.Key.{Key, slot}
 use Rattle.pcache_base.specs.declared.error.ErrorType.{ErrorType}
 use Rattle.pcache_evict.specs.Tracked.{Tracked, Limits}
 use Rattle.pcache_lock.specs.Locks.{Locks}
 use Rattle.pcache_lock.specs.declared.lock.status.LockStatus.{LockStatus}
-use Rattle.pcache_store.specs.Store.{Store, Guarantees, complete_body, dropped, finished, purged}
+use Rattle.pcache_store.specs.Store.{Store, Guarantees, complete_body, finished, purged}
 use Rattle.pcache_store.specs.declared.storage.MissFinishType.{MissFinishType}
-use Rattle.pcache_request.specs.Finishing.{Withdraws, Drops}
+use Rattle.pcache_request.specs.Finishing.{Withdraws}
 use Rattle.pcache_request.specs.NoBody.{HasNoBody, HasNoBodyFor, IfWithdrawn, LeavesNone}
 use Rattle.pcache_request.specs.Requests.{Request, settled}
 use Rattle.pcache_request.specs.WriteEnds.{Ends, EndsBody}
-use Rattle.pcache_request.specs.declared.cache.finish.FinishReport.{FinishReport}
 use Rattle.pcache_request.specs.declared.cache.finish.WriteEnd.{WriteEnd}
 use Rattle.pcache_request.specs.declared.cache.finish.WriteEnd.TheVariants as end
 

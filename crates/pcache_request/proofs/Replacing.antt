@@ -1,5 +1,5 @@
 -- An end of a write that is told of no replaced body leaves the entries as they were before the admission.
-use Rattle.std.proofs.Common.{◌≡◌, ℕ, Bool, Option, None, Some, refl}
+use Rattle.std.proofs.Common.{◌≡◌, Bool, Option, None, Some, refl}
 use Rattle.pcache_base.specs.Key.{Key}
 use Rattle.pcache_evict.specs.Tracked.{Tracked}
 use Rattle.pcache_request.specs.Replacing.{tracked_before, tracked_before_end}

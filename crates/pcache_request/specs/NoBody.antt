@@ -1,6 +1,6 @@
 -- What the end of a write leaves of a body whose admission failed (own): nothing, in a storage whose removals always
 -- succeed.
-use Rattle.std.specs.Prelude.{ℕ, ◌≡◌, ◌⊎◌, Bool, true, Option, Some, None}
+use Rattle.std.specs.Prelude.{ℕ, ◌≡◌, ◌⊎◌, Option, Some, None}
 use Rattle.std.specs.FinMap.{get}
 use Rattle.pcache_base.specs.Key.{Key, slot}
 use Rattle.pcache_store.specs.Store.{Store, complete_body, dropped}

@@ -1,6 +1,6 @@
 -- What a request is, and the rows of its phase table: how each call changes the request, the store, the lock table
 -- and the tracked entries (own, after the phases of pingora-cache).
-use Rattle.std.specs.Prelude.{ℕ, ◌≡◌, ◌&&◌, List, Bool, true, false, not, Option, Some, None, cond, IsSome, is_some, option_map}
+use Rattle.std.specs.Prelude.{ℕ, ◌≡◌, ◌&&◌, List, Bool, true, false, not, Option, Some, None, cond, IsSome, option_map}
 use Rattle.std.specs.FinMap.{remove}
 use Rattle.pcache_base.specs.Key.{Key, slot}
 use Rattle.pcache_base.specs.CompactKey.{compact_of}
@@ -15,9 +15,8 @@ use Rattle.pcache_lock.specs.Locks.{Locks, lock_given, holder, after_request, le
 use Rattle.pcache_lock.specs.declared.lock.permit.Locked.{Locked}
 use Rattle.pcache_lock.specs.declared.lock.permit.Locked.TheVariants.{Write, Read}
 use Rattle.pcache_lock.specs.declared.lock.status.LockStatus.{LockStatus}
-use Rattle.pcache_lock.specs.declared.lock.status.LockStatus.TheVariants.{Done}
 use Rattle.pcache_response.specs.Counted.{Counted}
-use Rattle.pcache_store.specs.Purge.{entry_given, entry_read, expire_outcome, purge_outcome}
+use Rattle.pcache_store.specs.Purge.{entry_given, entry_read}
 use Rattle.pcache_store.specs.Store.{Store, Reader, find, find_write, followed, left, begun, dropped, counts_access, reader_weight, is_whole, body_length}
 use Rattle.pcache_store.specs.declared.storage.PurgeOutcome.{PurgeOutcome}
 use Rattle.pcache_store.specs.declared.storage.PurgeOutcome.TheVariants.{NotFound, Purged, Expired}
@@ -315,13 +314,6 @@ is_removed_by Expired = true
 abbrev pub tracked_gone_for : Bool → Option Key → PurgeOutcome → Tracked → Tracked
 tracked_gone_for uses None o m = m
 tracked_gone_for uses (Some k) o m = tracked_gone uses (compact_of k) o m
-
--- the tracked entries after a purge of the request's key, and after an expiry
-abbrev pub tracked_purged : Bool → Request → Store → Tracked → Tracked
-tracked_purged numbers r s m = tracked_gone_for r.uses.eviction r.key (purge_outcome numbers s (option_map slot r.key)) m
-
-abbrev pub tracked_expired : Request → Store → Tracked → Tracked
-tracked_expired r s m = tracked_gone_for r.uses.eviction r.key (expire_outcome s (option_map slot r.key)) m
 
 -- the request after a look-up took so many nanoseconds
 abbrev pub with_look_up_time : ℕ → Request → Request

@@ -11,7 +11,7 @@ ghost use Rattle.pcache_lock.specs.Locks.{MayFailLock, lock_given, holder};
 ghost use Rattle.pcache_lock.specs.Statuses.{IsReason};
 ghost use Rattle.pcache_store.specs.Store.{find_write, followed};
 ghost use Rattle.pcache_store.specs.Tag.{named_by};
-ghost use Rattle.pcache_request.specs.Requests.{settled, let_go_by, table_asked, left_by, entry_of, reader_in, whole_by, length_by};
+ghost use Rattle.pcache_request.specs.Requests.{settled, table_asked, left_by, entry_of, reader_in, whole_by, length_by};
 ghost use Rattle.pcache_request.specs.Reports.{name_of, asked_with};
 ghost use Rattle.pcache_store.specs.Notes.{look_noted, noted};
 ghost use Rattle.pcache_request.specs.LockPasts.{asked_deeds, settled_deeds};
@@ -283,22 +283,23 @@ fn replace_reader<S: Storage>(place: &mut Option<S::Hit>, reader: Option<S::Hit>
 }
 
 impl<S: Storage> HttpCache<S> {
-    ghost use Rattle.std.specs.Prelude.{◌≡◌, ◌≢◌, ◌↔◌, ◌⊎◌, ℕ, true, false, cond, IfOk, IfErr, IfSome, OnOk, OnErr, IsOk, IsTrue, IsSome, Option, Some, None, option_map, is_some, ◌&&◌};
+    ghost use Rattle.std.specs.Prelude.{◌≡◌, ◌↔◌, true, false, cond, IfOk, IfErr, IfSome, OnOk, OnErr, IsOk, IsTrue, IsSome, Option, Some, None, option_map, ◌&&◌};
     ghost use Rattle.std.specs.Borrow.{Lends, LendsIf, sem};
-    ghost use Rattle.pcache_base.specs.Key.{Key, slot};
+    ghost use Rattle.pcache_base.specs.Key.{slot};
     ghost use Rattle.pcache_base.specs.declared.error.ErrorType.TheVariants.{InternalError, OutOfMemory};
     ghost use Rattle.pcache_lock.specs.declared.lock.status.LockStatus.TheVariants.{Done};
     ghost use Rattle.pcache_store.specs.Store.{gives_piece, read_of, reader_after, sought};
     ghost use Rattle.std.specs.Option.{option_copied, option_and_then};
-    ghost use Rattle.pcache_store.specs.Refusals.{MayFailWrite};
     ghost use Rattle.pcache_request.specs.LockUse.{enabled_waiting};
     ghost use Rattle.pcache_request.specs.Phases.{IsDisabled, MayTakeKey, MayMiss, IsStale, IsFilling, IsReading, MayFinishHit, is_filling};
-    ghost use Rattle.pcache_request.specs.Requests.{HasKey, HoldsNothing, Request, new_request, with_key, missed, without_reader, MayTakeMeta, with_meta, MayWrite, begin_followed, begun_for, begun_unfollowed, store_begun, write_begun, settled, left_by, dropped_by, let_go_by};
+    ghost use Rattle.pcache_request.specs.Requests.{HasKey, HoldsNothing, Request, new_request, with_key, missed, without_reader, MayTakeMeta, with_meta, MayWrite, settled, left_by};
     ghost use Rattle.pcache_request.specs.Reports.{name_of};
     ghost use Rattle.pcache_request.specs.contracts.cache.HttpCache.{the_row};
-    ghost use Rattle.pcache_request.specs.Failures.{FailsToBegin};
-    ghost use Rattle.pcache_request.specs.LockPasts.{let_go_deeds, settled_deeds};
-    ghost use Rattle.pcache_request.specs.StorePasts.{begun_past, dropped_past, left_past, writing_past};
+    ghost use Rattle.pcache_request.specs.Ending.{EndsRequest};
+    ghost use Rattle.pcache_request.specs.Sides.{lock_side, store_side};
+    ghost use Rattle.pcache_request.specs.Writing.{BeginsWrite, TellsWriteBegin};
+    ghost use Rattle.pcache_request.specs.LockPasts.{settled_deeds};
+    ghost use Rattle.pcache_request.specs.StorePasts.{left_past};
 
     /// A request for which caching was never turned on.
     pub fn new(alloc: Global) -> HttpCache<S>
@@ -598,29 +599,10 @@ impl<S: Storage> HttpCache<S> {
     /// Requires a phase that fills, a meta, and no write; ask `may_write()`.
     pub fn set_miss_handler<L: CacheKeyLock>(&mut self, storage: &mut S, lock: &mut L) -> Result<()>
         requires { MayWrite self.old }
-        ensures request { OnOk result (self.new
-            ≡ write_begun (S.streams storage.old) S.guarantees.numbers (S.state storage.old)
-            self.old) }
-        ensures store { OnOk result (S.state storage.new
-            ≡ store_begun (S.streams storage.old) (S.state storage.old) self.old) }
-        ensures past { OnOk result (S.past storage.new
-            ≡ writing_past (S.streams storage.old) (S.state storage.old) self.old
-            (S.past storage.old)) }
-        ensures table { OnOk result (L.table lock.new
-            ≡ cond (S.streams storage.old) (settled Done self.old.held (L.table lock.old))
-            (L.table lock.old)) }
-        ensures deeds { OnOk result (L.past lock.new
-            ≡ cond (S.streams storage.old) (settled_deeds Done self.old.held (L.past lock.old))
-            (L.past lock.old)) }
-        ensures err { IfErr result (λ e. FailsToBegin S.guarantees.numbers (S.state storage.old)
-            (S.past storage.old) (L.table lock.old) (L.past lock.old) self.old e
-            (S.state storage.new) (S.past storage.new) (L.table lock.new) (L.past lock.new)
-            self.new) }
-        ensures kind { IfErr result (λ e.
-            (e ≡ OutOfMemory) ⊎ MayFailWrite (S.state storage.old) e) }
-        ensures something { OnErr result ((S.state storage.new ≡ S.state storage.old)
-            ⊎ IsSome (begin_followed (S.state storage.old) self.old)) }
-        ensures unfollowed { OnErr result ((self.new ≡ self.old) ⊎ (S.streams storage.old ≡ true)) }
+        ensures begins { BeginsWrite result (S.streams storage.old) S.guarantees.numbers
+            self.old self.new
+            (store_side S.state S.past storage.old) (store_side S.state S.past storage.new)
+            (lock_side L.table L.past lock.old) (lock_side L.table L.past lock.new) }
     {
         self.begin_write(storage, lock)?.following
     }
@@ -634,39 +616,10 @@ impl<S: Storage> HttpCache<S> {
         lock: &mut L,
     ) -> Result<WriteBegin>
         requires { MayWrite self.old }
-        ensures released { IfOk result (λ b.
-            b.released ≡ cond (S.streams storage.old) (option_map name_of self.old.held) None) }
-        ensures request { IfOk result (λ b. OnOk b.following (self.new
-            ≡ write_begun (S.streams storage.old) S.guarantees.numbers (S.state storage.old)
-            self.old)) }
-        ensures store { IfOk result (λ b. OnOk b.following (S.state storage.new
-            ≡ store_begun (S.streams storage.old) (S.state storage.old) self.old)) }
-        ensures past { IfOk result (λ b. OnOk b.following (S.past storage.new
-            ≡ writing_past (S.streams storage.old) (S.state storage.old) self.old
-            (S.past storage.old))) }
-        ensures table { OnOk result (L.table lock.new
-            ≡ cond (S.streams storage.old) (settled Done self.old.held (L.table lock.old))
-            (L.table lock.old)) }
-        ensures deeds { OnOk result (L.past lock.new
-            ≡ cond (S.streams storage.old) (settled_deeds Done self.old.held (L.past lock.old))
-            (L.past lock.old)) }
-        ensures unfollowed_streams { IfOk result (λ b.
-            OnErr b.following (S.streams storage.old ≡ true)) }
-        ensures unfollowed_request { IfOk result (λ b. OnErr b.following (self.new
-            ≡ begun_unfollowed S.guarantees.numbers (S.state storage.old) self.old)) }
-        ensures unfollowed_store { IfOk result (λ b. OnErr b.following (S.state storage.new
-            ≡ begun_for self.old.key self.old.meta (S.state storage.old))) }
-        ensures unfollowed_past { IfOk result (λ b. OnErr b.following (S.past storage.new
-            ≡ begun_past (S.state storage.old) self.old (S.past storage.old))) }
-        ensures unfollowed_kind { IfOk result (λ b. IfErr b.following (λ e. e ≡ OutOfMemory)) }
-        ensures unfollowed_something { IfOk result (λ b.
-            OnErr b.following (IsSome (begin_followed (S.state storage.old) self.old))) }
-        ensures same_request { OnErr result (self.new ≡ self.old) }
-        ensures same_store { OnErr result (S.state storage.new ≡ S.state storage.old) }
-        ensures same_past { OnErr result (S.past storage.new ≡ S.past storage.old) }
-        ensures same_table { OnErr result (L.table lock.new ≡ L.table lock.old) }
-        ensures same_deeds { OnErr result (L.past lock.new ≡ L.past lock.old) }
-        ensures kind { IfErr result (λ e. MayFailWrite (S.state storage.old) e) }
+        ensures begins { TellsWriteBegin result (S.streams storage.old) S.guarantees.numbers
+            self.old self.new
+            (store_side S.state S.past storage.old) (store_side S.state S.past storage.new)
+            (lock_side L.table L.past lock.old) (lock_side L.table L.past lock.new) }
     {
         let Some(key) = &self.key else { unreachable!() };
         let Some(meta) = &self.meta else {
@@ -725,13 +678,9 @@ impl<S: Storage> HttpCache<S> {
     /// Gives back all that is held: the write is dropped, a permit is dangling, the rest is let go.
     /// Returns the lock that was let go.
     pub fn end<L: CacheKeyLock>(self, storage: &mut S, lock: &mut L) -> Option<LockName>
-        ensures let_go { result ≡ option_map name_of self.held }
-        ensures store { S.state storage.new
-            ≡ left_by self.reader (dropped_by self.write (S.state storage.old)) }
-        ensures past { S.past storage.new
-            ≡ left_past self.reader (dropped_past self.write (S.past storage.old)) }
-        ensures table { L.table lock.new ≡ let_go_by self.held (L.table lock.old) }
-        ensures deeds { L.past lock.new ≡ let_go_deeds self.held (L.past lock.old) }
+        ensures ends { EndsRequest result self
+            (store_side S.state S.past storage.old) (store_side S.state S.past storage.new)
+            (lock_side L.table L.past lock.old) (lock_side L.table L.past lock.new) }
     {
         let HttpCache {
             alloc: _,

@@ -1,15 +1,13 @@
 -- Where a head ends: as it is found byte by byte, and as it is defined by its lines.
-use Rattle.std.proofs.Common.{◌≡◌, ◌≢◌, ℕ, suc, ◌+◌, ◌<◌, ◌≤◌, inl, inr, true, false, List, [], ◌∷◌, ◌++◌, length, take, drop, refl, sym, ap, subst, ◌∙◌, append_assoc, arith, length-append, length-take}
-use Rattle.std.specs.Prelude.{All, ◌==◌}
+use Rattle.std.proofs.Common.{append_assoc}
 use Rattle.std.proofs.Math.Seq.{take-append_seam}
-use Rattle.std.proofs.lemmas.Bool.{eqb-true, eqb-false, ne_eqb}
-use Rattle.std.proofs.lemmas.List.{append_cancel_right, nil_from_length, take-append-drop, take-append-le}
+use Rattle.std.proofs.lemmas.Bool.{eqb-false, ne_eqb}
+use Rattle.std.proofs.lemmas.List.{append_cancel_right, take-append-drop}
 use Rattle.std.proofs.lemmas.List.Concat.{flat_map-cons}
-use Rattle.std.proofs.lemmas.List.Elements.{All-nil, All-cons, All-head, All-tail, All-push}
-use Rattle.pcache_response.specs.HeadEnd.{IsEmpty, IsFull, IsWhole, EndsAt, IsUnfinished, joined}
-use Rattle.pcache_response.specs.HeadStates.{next, state_after, CutsAt, NeverCuts}
-use Rattle.pcache_response.specs.declared.head_end.HeadState.{HeadState}
-use Rattle.pcache_response.specs.declared.head_end.HeadState.TheVariants.{Blank, BlankReturn, Inside, LineStart, LineReturn, Ended}
+use Rattle.std.proofs.lemmas.List.Elements.{All-nil, All-cons, All-head, All-tail}
+use Rattle.pcache_response.specs.HeadEnd.{IsEmpty, IsFull, IsWhole, joined}
+use Rattle.pcache_response.specs.declared.head_end.HeadState.TheVariants.{BlankReturn, LineStart, LineReturn}
+use Rattle.pcache_response.proofs.Words.{◌≡◌, ◌≢◌, ℕ, suc, ◌+◌, ◌<◌, ◌≤◌, inl, inr, true, false, List, [], ◌∷◌, ◌++◌, length, take, drop, refl, sym, ap, subst, ◌∙◌, arith, length-append, length-take, All, ◌==◌, eqb-true, nil_from_length, take-append-le, All-push, EndsAt, IsUnfinished, next, state_after, CutsAt, NeverCuts, HeadState, Blank, Inside, Ended}
 use Rattle.pcache_response.proofs.Joins.{state-append, CutsAt-unique}
 
 joined-cons : (l : List ℕ) (ls : List (List ℕ)) → joined (l ∷ ls) ≡ l ++ joined ls

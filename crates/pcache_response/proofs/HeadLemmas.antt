@@ -1,17 +1,11 @@
 -- Heads of the grammar.
-use Rattle.std.proofs.Common.{◌≡◌, ℕ, List, [], map, All, refl}
 use Rattle.std.proofs.lemmas.List.Elements.{All-map}
-use Rattle.httparse.specs.Grammar.{Field, IsField, ResponseHead, ReadsResponse, status_code, is_token_byte, is_value_byte}
-use Rattle.httparse.specs.Spans.{name_and_value}
+use Rattle.httparse.specs.Grammar.{Field, IsField, ReadsResponse, is_token_byte, is_value_byte}
 use Rattle.httparse.proofs.TrimLemmas.{AllPass-trim_ows}
 use Rattle.httparse.proofs.GrammarLemmas.{response_unique}
-use Rattle.http_header.specs.Token as token
-use Rattle.http_header.specs.FieldValue.{FieldValue}
-use Rattle.http_header.specs.HeaderMap.{Entries}
 use Rattle.pcache_meta.specs.declared.header.HttpVersion.{HttpVersion}
-use Rattle.pcache_meta.specs.declared.header.ResponseHeader.{ResponseHeader}
-use Rattle.pcache_response.specs.Fields.{IsPair, fields_after}
-use Rattle.pcache_response.specs.Head.{version_of, header_of}
+use Rattle.pcache_response.proofs.Words.{◌≡◌, ℕ, List, [], map, All, refl, ResponseHead, status_code, name_and_value, FieldValue, Entries, ResponseHeader, IsPair, fields_after, version_of, header_of}
+use Rattle.http_header.specs.Token as token
 
 -- the bytes are one head at most
 pub one_head : (bytes : List ℕ) (h k : ResponseHead) → ReadsResponse bytes h [] → ReadsResponse bytes k [] → h ≡ k

@@ -1,12 +1,7 @@
 -- Where heads end in bytes that come in two pieces.
-use Rattle.std.proofs.Common.{◌≡◌, ◌≢◌, ℕ, zero, suc, true, false, Bool, [], ◌∷◌, refl, ◌+◌, ◌-◌, ◌<◌, ◌≤◌, ◌⊎◌, inl, inr, List, ◌++◌, length, take, drop, slice_index, ap, sym, ◌∙◌, subst, arith, length-append}
-use Rattle.std.proofs.lemmas.List.{take-append-le, take_more}
-use Rattle.std.proofs.lemmas.List.Sums.{fold-append}
-use Rattle.std.specs.Prelude.{◌==◌}
-use Rattle.std.proofs.Math.Seq.{take-append-add, take-add}
-use Rattle.pcache_response.specs.HeadStates.{next, state_after, CutsAt, NeverCuts}
-use Rattle.pcache_response.specs.declared.head_end.HeadState.{HeadState}
-use Rattle.pcache_response.specs.declared.head_end.HeadState.TheVariants.{Blank, Inside, Ended}
+use Rattle.std.proofs.Common.{zero, slice_index}
+use Rattle.std.proofs.Math.Seq.{take-add}
+use Rattle.pcache_response.proofs.Words.{◌≡◌, ◌≢◌, ℕ, suc, true, false, Bool, [], ◌∷◌, refl, ◌+◌, ◌-◌, ◌<◌, ◌≤◌, ◌⊎◌, inl, inr, List, ◌++◌, length, take, drop, ap, sym, ◌∙◌, subst, arith, length-append, take-append-le, take_more, fold-append, ◌==◌, take-append-add, next, state_after, CutsAt, NeverCuts, HeadState, Blank, Inside, Ended}
 
 -- the state after two pieces
 pub state-append : (p : HeadState) (a b : List ℕ) → state_after p (a ++ b) ≡ state_after (state_after p a) b

@@ -1,11 +1,9 @@
 -- Lengths that are spelled in digits.
-use Rattle.std.proofs.Common.{◌≡◌, ℕ, Bool, true, false, cond, List, [], ◌∷◌, drop, refl, arith}
-use Rattle.std.specs.Prelude.{◌==◌}
 use Rattle.std.specs.Str.{IsAscii}
 use Rattle.std.specs.Str.Parse.{AllDigits, IsNumeral, without_leading_plus}
-use Rattle.std.proofs.lemmas.Bool.{eqb-true}
 use Rattle.std.proofs.lemmas.Str.Ascii.{IsAscii-nil, IsAscii-cons}
 use Rattle.std.proofs.lemmas.Str.Parse.{digit_from_value}
+use Rattle.pcache_response.proofs.Words.{◌≡◌, ℕ, Bool, true, false, cond, List, [], ◌∷◌, drop, refl, arith, ◌==◌, eqb-true}
 
 digits_are_ascii : (ds : List ℕ) → AllDigits 10 ds → IsAscii ds
 digits_are_ascii [] all = IsAscii-nil

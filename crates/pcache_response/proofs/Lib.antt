@@ -5,3 +5,4 @@ pub mod Joins
 pub mod Lengths
 pub mod PartLemmas
 pub mod Unique
+pub mod Words

@@ -1,16 +1,12 @@
 -- What parts amount to, one after another.
-use Rattle.std.proofs.Common.{◌≡◌, ℕ, ◌+◌, ◌-◌, ◌<◌, ◌≤◌, ◌⊎◌, inl, inr, Bool, true, false, cond, Option, None, Some, List, [], ◌∷◌, ◌++◌, length, take, drop, refl, ap, sym, ◌∙◌, subst, arith, length-append, length-take, length-drop, append-nil, min}
-use Rattle.std.specs.Prelude.{◌==◌, nat_le}
-use Rattle.std.proofs.lemmas.Bool.{eqb-true, leb-false, leb-true}
-use Rattle.std.proofs.lemmas.List.{take-append-le, drop-append-le, take_all, nil_from_length}
-use Rattle.std.proofs.Math.Seq.{take-append-add, drop-append-add, take-nil}
-use Rattle.pcache_meta.specs.declared.header.ResponseHeader.{ResponseHeader}
-use Rattle.pcache_response.specs.Head.{ReadsHeader}
-use Rattle.pcache_response.specs.HeadEnd.{EndsAt}
-use Rattle.pcache_response.specs.Response.{Response, IsResponse, IsUnreadable, HasSize, declared_body, is_whole}
-use Rattle.pcache_response.specs.Parts.{Given, nothing, given_in_all, add_all, body_of, body_parts, left_behind, parts_of, whole_parts}
-use Rattle.pcache_response.specs.Progress.{AtBody, TakenIn}
+use Rattle.std.proofs.Common.{length-drop, append-nil, min}
+use Rattle.std.proofs.lemmas.Bool.{leb-false, leb-true}
+use Rattle.std.proofs.lemmas.List.{drop-append-le}
+use Rattle.std.proofs.Math.Seq.{drop-append-add, take-nil}
+use Rattle.pcache_response.specs.Response.{declared_body, is_whole}
+use Rattle.pcache_response.specs.Parts.{parts_of, whole_parts}
 use Rattle.pcache_response.specs.declared.response_parse.ParsePart.{ParsePart}
+use Rattle.pcache_response.proofs.Words.{◌≡◌, ℕ, ◌+◌, ◌-◌, ◌<◌, ◌≤◌, ◌⊎◌, inl, inr, Bool, true, false, cond, Option, None, Some, List, [], ◌∷◌, ◌++◌, length, take, drop, refl, ap, sym, ◌∙◌, subst, arith, length-append, length-take, ◌==◌, nat_le, eqb-true, take-append-le, take_all, nil_from_length, take-append-add, ResponseHeader, ReadsHeader, EndsAt, Response, IsResponse, IsUnreadable, HasSize, Given, nothing, given_in_all, add_all, body_of, body_parts, left_behind, AtBody, TakenIn}
 use Rattle.pcache_response.specs.declared.response_parse.ParsePart.TheVariants as part
 use Rattle.pcache_response.proofs.Ends.{ends_more, ends_within}
 

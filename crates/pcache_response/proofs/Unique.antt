@@ -1,15 +1,11 @@
 -- Bytes say one thing.
-use Rattle.std.proofs.Common.{◌≡◌, ℕ, ◌-◌, Bool, true, false, Option, None, Some, List, length, take, drop, refl, ap, sym, ◌∙◌, subst, arith}
-use Rattle.std.specs.Prelude.{nat_le, nat_lt, not}
+use Rattle.std.specs.Prelude.{nat_lt, not}
 use Rattle.std.specs.Option.{SomeIff}
 use Rattle.std.proofs.lemmas.Bool.Decides.{nat_tests}
-use Rattle.http_header.specs.FieldValue.{FieldValue}
-use Rattle.pcache_meta.specs.declared.header.ResponseHeader.{ResponseHeader}
-use Rattle.pcache_response.specs.Head.{ReadsHeader, header_of}
-use Rattle.pcache_response.specs.HeadEnd.{IsUnfinished}
-use Rattle.pcache_response.specs.Response.{Response, IsResponse, IsUnreadable, IsComplete, HasSize, HasSizeBy, may_end}
-use Rattle.pcache_response.specs.Parts.{Given, given_in_all, left_behind, is_missing}
-use Rattle.pcache_response.specs.Progress.{Parsed, AtHead, AtBody, AtEnd, HasFailed, TakenIn}
+use Rattle.pcache_response.specs.Response.{IsComplete, HasSizeBy, may_end}
+use Rattle.pcache_response.specs.Parts.{is_missing}
+use Rattle.pcache_response.specs.Progress.{Parsed, AtHead, AtEnd, HasFailed}
+use Rattle.pcache_response.proofs.Words.{◌≡◌, ℕ, ◌-◌, Bool, true, false, Option, None, Some, List, length, take, drop, refl, ap, sym, ◌∙◌, subst, arith, nat_le, FieldValue, ResponseHeader, ReadsHeader, header_of, IsUnfinished, Response, IsResponse, IsUnreadable, HasSize, Given, given_in_all, left_behind, AtBody, TakenIn}
 use Rattle.pcache_response.proofs.HeadLemmas.{one_head}
 use Rattle.pcache_response.proofs.Ends.{ends_unique}
 

@@ -16,7 +16,7 @@ use httparse::Status;
 use httparse::spans::{EMPTY_HEADER_SPAN, HeaderSpan, ResponseSpans, parse_response};
 use pcache_base::error::{Error, ErrorType, Result};
 use pcache_meta::header::{HttpVersion, ResponseHeader};
-use std::alloc::Global;
+use std::alloc::{AllocError, Global};
 
 // How many fields a head may have.
 const MAX_FIELDS: usize = 256;
@@ -76,6 +76,8 @@ fn add_span(alloc: Global, fields: &mut HeaderMap, bytes: &Bytes, span: HeaderSp
     ensures kind { IfErr result (λ e. (e ≡ OutOfMemory) ⊎ (e ≡ InvalidHttpHeader)) }
 {
     let name = field_name(alloc, span.name.of(bytes.as_slice()))?;
+    // Not tested again, since the parser found it valid. The bytes of the head are there already,
+    // and a put soon writes its meta as bytes; names come in capitals mostly, and are copied.
     let value = HeaderValue::from_known_valid(bytes.slice(span.value.start..span.value.end)?);
     match fields.append(name, value) {
         Ok(_) => Ok(()),
@@ -85,15 +87,14 @@ fn add_span(alloc: Global, fields: &mut HeaderMap, bytes: &Bytes, span: HeaderSp
 }
 
 // A map with room for as many names as there are fields.
-fn room_for(alloc: Global, fields: usize) -> Result<HeaderMap>
+fn room_for(alloc: Global, fields: usize) -> Result<HeaderMap, AllocError>
     requires { fields ≤ 256 }
     ensures ok { IfOk result (λ map. map ≡ []) }
-    ensures kind { IfErr result (λ e. e ≡ OutOfMemory) }
     ensures none { fields ≡ 0 → IsOk result }
 {
     match HeaderMap::with_capacity(alloc, fields) {
         Ok(map) => Ok(map),
-        Err(HeaderMapError::OutOfMemory) => Err(Error::new(ErrorType::OutOfMemory)),
+        Err(HeaderMapError::OutOfMemory) => Err(AllocError),
         Err(HeaderMapError::MaxSizeReached) => unreachable!(),
     }
 }
@@ -110,6 +111,8 @@ fn fields_of(alloc: Global, bytes: &Bytes, spans: &[HeaderSpan]) -> Result<Heade
         e ≡ InvalidHttpHeader → ¬ (All IsShort (map (header_bytes bytes.now) spans.now))) }
     ensures kind { IfErr result (λ e. (e ≡ OutOfMemory) ⊎ (e ≡ InvalidHttpHeader)) }
 {
+    // By the number of fields, once they are found: at most 256, so never too many for the map, and
+    // what is no head takes no memory.
     let mut fields = room_for(alloc, spans.len())?;
     'spans: for i in 0..spans.len() {
         add_span(alloc, &mut fields, bytes, spans[i])?;

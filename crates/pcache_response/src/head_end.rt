@@ -1,11 +1,9 @@
 //! Finds the end of a response's head as its bytes come.
-ghost use Rattle.std.specs.Prelude.{◌≡◌, ◌≢◌, ℕ, ◌+◌, ◌≤◌, ◌<◌, ◌++◌, [], List, length, take, drop, IfSome, IfNone, IfOk, IfErr};
+ghost use Rattle.std.specs.Prelude.{◌≡◌, ◌≢◌, ℕ, ◌+◌, ◌≤◌, ◌<◌, ◌++◌, [], List, length, take, drop, IfSome, IfNone, IfOk};
 ghost use Rattle.pcache_response.specs.HeadStates.{next, state_after, CutsAt};
-ghost use Rattle.pcache_base.specs.declared.error.ErrorType.TheVariants.{OutOfMemory};
 
 use memchr::memchr;
-use pcache_base::error::Result;
-use std::alloc::Global;
+use std::alloc::{AllocError, Global};
 use std::marker::Model;
 
 // The state of the search for the head's end, before the next byte.
@@ -130,9 +128,8 @@ impl HeadBytes {
     }
 
     // Adds a piece, of which only the bytes up to the head's end are kept.
-    pub(crate) fn join(self, piece: &[u8]) -> Result<HeadPiece>
+    pub(crate) fn join(self, piece: &[u8]) -> Result<HeadPiece, AllocError>
         ensures ok { IfOk result (IsJoined self piece.now) }
-        ensures kind { IfErr result (λ e. e ≡ OutOfMemory) }
     {
         let HeadBytes {
             mut bytes,

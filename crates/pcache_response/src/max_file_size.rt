@@ -40,6 +40,7 @@ impl MaxFileSizeTracker {
             ≡ record self.old { bytes = min (self.old.bytes + bytes) (2 ^ 64 - 1) } }
         ensures allowed { IsTrue result ↔ (self.new.bytes ≤ self.new.limit) }
     {
+        // It stops at the largest number, so that a limit of that number is none.
         self.body_bytes = self.body_bytes.saturating_add(bytes);
         self.allow_caching()
     }

@@ -14,7 +14,7 @@ use bytes::Bytes;
 use http_header::CONTENT_LENGTH;
 use pcache_base::error::{Error, ErrorType, Result};
 use pcache_meta::header::ResponseHeader;
-use std::alloc::Global;
+use std::alloc::{AllocError, Global};
 use std::marker::Model;
 use std::mem;
 
@@ -30,6 +30,7 @@ pub enum ParsePart {
     Body(Bytes, bool),
 }
 
+// A struct and no list: a piece brings each at most once, and so takes no list from memory.
 /// What a piece brings of a response, each part with whether the response is whole with it.
 #[derive(Drop)]
 pub struct PieceParts {
@@ -96,11 +97,10 @@ fn read_body(
     alloc: Global,
     left: Option<usize>,
     bytes: &[u8],
-) -> Result<(Option<(Bytes, bool)>, Option<usize>)>
+) -> Result<(Option<(Bytes, bool)>, Option<usize>), AllocError>
     ensures left { IfOk result (λ r. r.1 ≡ left_behind left (length bytes.now)) }
     ensures part { IfOk result (λ r. body_of r.0 ≡ body_parts left bytes.now) }
     ensures whole { left ≡ Some 0 → IsOk result }
-    ensures kind { IfErr result (λ e. e ≡ OutOfMemory) }
 {
     let count = match left {
         Some(left) => left.min(bytes.len()),
@@ -179,10 +179,9 @@ fn take_in(alloc: Global, progress: Progress, piece: &[u8]) -> Result<(Progress,
 }
 
 // The parts in a list.
-fn listed(alloc: Global, parts: PieceParts) -> Result<Vec<ParsePart>>
+fn listed(alloc: Global, parts: PieceParts) -> Result<Vec<ParsePart>, AllocError>
     ensures ok { IfOk result (λ list. list.items ≡ parts_of parts) }
     ensures none { parts_of parts ≡ [] → IsOk result }
-    ensures kind { IfErr result (λ e. e ≡ OutOfMemory) }
 {
     let PieceParts { head, body } = parts;
     let mut list = Vec::new(alloc);
@@ -334,10 +333,10 @@ impl ResponseParse {
     {
         let parts = self.take_piece(piece)?;
         let list = listed(self.alloc, parts);
-        if let Err(e) = &list {
-            self.progress = Progress::Failed(e.etype());
+        if let Err(AllocError) = &list {
+            self.progress = Progress::Failed(ErrorType::OutOfMemory);
         }
-        list
+        Ok(list?)
     }
 
     /// Ends the response: no more pieces come. Fails if the head has not ended, or if bytes of a

@@ -46,22 +46,24 @@ module _ (now : ℕ) (r : Request) (p : Parts) (m : Meta) (h : MemHitHandler) (f
   -- a complete body that no variant hides is handed on, and nothing else is done
   pub found_alone : (q : Parts) → q ≡ p → LooksUp (Ok (Some (m, h))) now r r p q
   found_alone q same = subst (λ (x : Parts). LooksUp (Ok (Some (m, h))) now r r p x) (sym same) (record {
-    found = sym (ap (λ (x : Option (Meta × Reader)). visible r.valid_after x) found ∙ ap (λ (b : Bool). cond b None (Some (m, reader_of h))) shown);
-    request = sym (ap (λ (b : Bool). cond b (with_key_lock p.locks r) r) seen);
-    store = sym store;
-    past = sym past;
-    table = sym (ap (λ (b : Bool). cond b (table_key_locked now r p.locks) p.locks) seen);
-    deeds = sym (ap (λ (b : Bool). cond b (key_locked_deeds now p.locks r (Some p.deeds)) (Some p.deeds)) seen);
+    takes = record {
+      found = sym (ap (λ (x : Option (Meta × Reader)). visible r.valid_after x) found ∙ ap (λ (b : Bool). cond b None (Some (m, reader_of h))) shown);
+      request = sym (ap (λ (b : Bool). cond b (with_key_lock p.locks r) r) seen);
+      store = sym store;
+      past = sym past;
+      table = sym (ap (λ (b : Bool). cond b (table_key_locked now r p.locks) p.locks) seen);
+      deeds = sym (ap (λ (b : Bool). cond b (key_locked_deeds now p.locks r (Some p.deeds)) (Some p.deeds)) seen);
+      decided = tt;
+      left = tt;
+      same_store = tt;
+      same_table = tt;
+      same_deeds = tt;
+      kind = tt;
+      numbers = tt;
+      something = tt;
+    };
     phase = refl;
     uses = refl;
-    same_request = tt;
-    left = tt;
-    same_store = tt;
-    same_table = tt;
-    same_deeds = tt;
-    kind = tt;
-    numbers = tt;
-    something = tt;
     rest = refl;
   })
 
@@ -70,22 +72,24 @@ pub read_not : (now : ℕ) (r : Request) (p q : Parts) (result : Result (Option 
 read_not now r p q result e is why there same =
     subst (λ (x : Result (Option (Meta × MemHitHandler)) ErrorType). LooksUp x now r r p q) (sym (is ∙ ap Err why))
     (subst (λ (x : Parts). LooksUp (Err OutOfMemory) now r r p x) (sym same) (record {
-      found = tt;
-      request = tt;
-      store = tt;
-      past = tt;
-      table = tt;
-      deeds = tt;
+      takes = record {
+        found = tt;
+        request = tt;
+        store = tt;
+        past = tt;
+        table = tt;
+        deeds = tt;
+        decided = refl;
+        left = inl (refl, refl);
+        same_store = λ _. refl;
+        same_table = refl;
+        same_deeds = refl;
+        kind = tt;
+        numbers = λ other. absurd (cc);
+        something = inl there;
+      };
       phase = tt;
       uses = tt;
-      same_request = refl;
-      left = inl (refl, refl);
-      same_store = λ _. refl;
-      same_table = refl;
-      same_deeds = refl;
-      kind = tt;
-      numbers = λ other. absurd (cc);
-      something = inl there;
       rest = refl;
     }))
 

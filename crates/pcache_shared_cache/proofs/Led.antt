@@ -38,7 +38,7 @@ purged {result} {r} {s} {p} {q} row = record {
   limits = ap (λ (x : Parts). x.limits) row.rest;
   weighing = ap (λ (x : Parts). x.weighing) row.rest;
   age = ap (λ (x : Parts). x.locks.age_timeout) row.rest;
-  past = grew_if result (purged_past r.key) p.past q.past (kept_by_notes p.past (option_map (λ k. Purged (slot k)) r.key)) row.past (err_ap (λ (x : Parts). x.past) result q p row.same);
+  past = grew_if result (purged_past r.key) p.past q.past (kept_by_notes p.past (option_map (λ k. Purged (slot k)) r.key)) row.takes.past (err_ap (λ (x : Parts). x.past) result q p row.same);
   deeds = grew_same p.deeds q.deeds (ap (λ (x : Parts). x.deeds) row.rest);
 }
 
@@ -47,7 +47,7 @@ expired {result} {now} {r} {s} {p} {q} row = record {
   limits = ap (λ (x : Parts). x.limits) row.rest;
   weighing = ap (λ (x : Parts). x.weighing) row.rest;
   age = ap (λ (x : Parts). x.locks.age_timeout) row.rest;
-  past = grew_if result (expired_past now r.key) p.past q.past (kept_by_notes p.past (expiry_noted now (option_map slot r.key))) row.past (err_ap (λ (x : Parts). x.past) result q p row.same);
+  past = grew_if result (expired_past now r.key) p.past q.past (kept_by_notes p.past (expiry_noted now (option_map slot r.key))) row.takes.past (err_ap (λ (x : Parts). x.past) result q p row.same);
   deeds = grew_same p.deeds q.deeds (ap (λ (x : Parts). x.deeds) row.rest);
 }
 
@@ -64,19 +64,19 @@ grew_as : {A : Type 0} (p q : List A) (x : Option (List A)) → Some q ≡ x →
 grew_as p q x is grew = subst (GrewFrom (Some p)) (sym is) grew
 
 looked_past : (result : Result (Option (Meta × MemHitHandler)) ErrorType) (now : ℕ) (r s : Request) (p q : Parts) → LooksUp result now r s p q → Grew p.past q.past
-looked_past (Ok f) now r s p q row = grew_by (searched_past p.store r) p.past q.past (searched_keeps (kept_by_notes p.past) p.store r) row.past
+looked_past (Ok f) now r s p q row = grew_by (searched_past p.store r) p.past q.past (searched_keeps (kept_by_notes p.past) p.store r) row.takes.past
 looked_past (Err e) now r s p q row = ⊎_elim (λ same. grew_as p.past q.past (Some p.past) same.1 (grew_not p.past))
-    (λ gone. grew_as p.past q.past (searched_past p.store r (Some p.past)) gone.1 (searched_keeps (kept_by_notes p.past) p.store r (Some p.past) (grew_not p.past))) row.left
+    (λ gone. grew_as p.past q.past (searched_past p.store r (Some p.past)) gone.1 (searched_keeps (kept_by_notes p.past) p.store r (Some p.past) (grew_not p.past))) row.takes.left
 
 looked_table : (result : Result (Option (Meta × MemHitHandler)) ErrorType) (now : ℕ) (r s : Request) (p q : Parts) → LooksUp result now r s p q → Grew p.deeds q.deeds
-looked_table (Ok f) now r s p q row = grew_by (looked_deeds p.store now p.locks r) p.deeds q.deeds (looked_keeps (kept_by_deeds p.deeds) p.store now p.locks r) row.deeds
-looked_table (Err e) now r s p q row = grew_same p.deeds q.deeds row.same_deeds
+looked_table (Ok f) now r s p q row = grew_by (looked_deeds p.store now p.locks r) p.deeds q.deeds (looked_keeps (kept_by_deeds p.deeds) p.store now p.locks r) row.takes.deeds
+looked_table (Err e) now r s p q row = grew_as p.deeds q.deeds (Some p.deeds) row.takes.same_deeds (grew_not p.deeds)
 
 pub looked : {result : Result (Option (Meta × MemHitHandler)) ErrorType} {now : ℕ} {r s : Request} {p q : Parts} → LooksUp result now r s p q → Leads p q
 looked {result} {now} {r} {s} {p} {q} row = record {
   limits = ap (λ (x : Parts). x.limits) row.rest;
   weighing = ap (λ (x : Parts). x.weighing) row.rest;
-  age = age_if result p.locks (table_looked_for p.store now r p.locks) q.locks row.table (age_looked p.store now r p.locks) row.same_table;
+  age = age_if result p.locks (table_looked_for p.store now r p.locks) q.locks row.takes.table (age_looked p.store now r p.locks) row.takes.same_table;
   past = looked_past result now r s p q row;
   deeds = looked_table result now r s p q row;
 }
@@ -88,11 +88,11 @@ grew_either (Err e) f h p q keeps keeps' ok err = grew_by h p q keeps' err
 
 pub taken : {result : Result (Unit {0}) ErrorType} {status : HitStatus} {m : Meta} {h : Reader} {now : ℕ} {r s : Request} {p q : Parts} → TakesFound result status m h now r s p q → Leads p q
 taken {result} {status} {m} {h} {now} {r} {s} {p} {q} row = record {
-  limits = row.limits;
-  weighing = row.weighing;
-  age = age_if result p.locks (table_found status now r p.locks) q.locks row.table (age_found status now r p.locks) row.same_table;
-  past = grew_either result (taken_past status h r) (noted (leave_noted h)) p.past q.past (taken_keeps (kept_by_notes p.past) status h r) (kept_by_notes p.past (leave_noted h)) row.past row.left_past;
-  deeds = grew_if result (found_deeds status now p.locks r) p.deeds q.deeds (found_keeps (kept_by_deeds p.deeds) status now p.locks r) row.deeds row.same_deeds;
+  limits = ap (λ (x : Parts). x.limits) row.rest;
+  weighing = ap (λ (x : Parts). x.weighing) row.rest;
+  age = age_if result p.locks (table_found status now r p.locks) q.locks row.takes.table (age_found status now r p.locks) row.takes.same_table;
+  past = grew_either result (taken_past status h r) (noted (leave_noted h)) p.past q.past (taken_keeps (kept_by_notes p.past) status h r) (kept_by_notes p.past (leave_noted h)) row.takes.past row.takes.left_past;
+  deeds = grew_either result (found_deeds status now p.locks r) (λ x. x) p.deeds q.deeds (found_keeps (kept_by_deeds p.deeds) status now p.locks r) (λ x is. is) row.takes.deeds row.takes.same_deeds;
 }
 
 pub let_go : {h : Reader} {p q : Parts} → LetsGo h p q → Leads p q
@@ -117,27 +117,27 @@ pub request_ended : {result : Option LockName} {r : Request} {p q : Parts} → E
 request_ended {result} {r} {p} {q} row = record {
   limits = ap (λ (x : Parts). x.limits) row.rest;
   weighing = ap (λ (x : Parts). x.weighing) row.rest;
-  age = age_as p.locks (let_go_by r.held p.locks) q.locks row.table (age_let_go r.held p.locks);
-  past = grew_by (λ l. left_past r.reader (dropped_past r.write l)) p.past q.past (λ x is. left_keeps (kept_by_notes p.past) r.reader (dropped_past r.write x) (dropped_keeps (kept_by_notes p.past) r.write x is)) row.past;
-  deeds = grew_by (let_go_deeds r.held) p.deeds q.deeds (let_go_keeps (kept_by_deeds p.deeds) r.held) row.deeds;
+  age = age_as p.locks (let_go_by r.held p.locks) q.locks row.takes.table (age_let_go r.held p.locks);
+  past = grew_by (λ l. left_past r.reader (dropped_past r.write l)) p.past q.past (λ x is. left_keeps (kept_by_notes p.past) r.reader (dropped_past r.write x) (dropped_keeps (kept_by_notes p.past) r.write x is)) row.takes.gives.past;
+  deeds = grew_by (let_go_deeds r.held) p.deeds q.deeds (let_go_keeps (kept_by_deeds p.deeds) r.held) row.takes.deeds;
 }
 
 pub disabled : {result : Option LockName} {reason : NoCacheReason} {r s : Request} {p q : Parts} → Disables result reason r s p q → Leads p q
 disabled {result} {reason} {r} {s} {p} {q} row = record {
   limits = ap (λ (x : Parts). x.limits) row.rest;
   weighing = ap (λ (x : Parts). x.weighing) row.rest;
-  age = settled_at (status_for (λ text. GiveUp) reason) r.held p.locks q.locks row.table;
-  past = grew_by (λ l. left_past r.reader (dropped_past r.write l)) p.past q.past (λ x is. left_keeps (kept_by_notes p.past) r.reader (dropped_past r.write x) (dropped_keeps (kept_by_notes p.past) r.write x is)) row.past;
-  deeds = grew_by (settled_deeds (status_for (λ text. GiveUp) reason) r.held) p.deeds q.deeds (settled_keeps (kept_by_deeds p.deeds) (status_for (λ text. GiveUp) reason) r.held) row.deeds;
+  age = settled_at (status_for (λ text. GiveUp) reason) r.held p.locks q.locks row.takes.settles.table;
+  past = grew_by (λ l. left_past r.reader (dropped_past r.write l)) p.past q.past (λ x is. left_keeps (kept_by_notes p.past) r.reader (dropped_past r.write x) (dropped_keeps (kept_by_notes p.past) r.write x is)) row.takes.gives.past;
+  deeds = grew_by (settled_deeds (status_for (λ text. GiveUp) reason) r.held) p.deeds q.deeds (settled_keeps (kept_by_deeds p.deeds) (status_for (λ text. GiveUp) reason) r.held) row.takes.settles.deeds;
 }
 
 pub asked_on : {result : Result (Poll LockWaitOutcome) ErrorType} {now : ℕ} {r s : Request} {p q : Parts} → Waits result now r s p q → Leads p q
 asked_on {result} {now} {r} {s} {p} {q} row = record {
   limits = ap (λ (x : Parts). x.limits) row.rest;
   weighing = ap (λ (x : Parts). x.weighing) row.rest;
-  age = age_if result p.locks (table_waited p.locks now r.held r) q.locks row.table (age_waited p.locks now r.held r) (err_ap (λ (x : Parts). x.locks) result q p row.same);
+  age = age_if result p.locks (table_waited p.locks now r.held r) q.locks row.takes.table (age_waited p.locks now r.held r) (err_ap (λ (x : Parts). x.locks) result q p row.same);
   past = grew_same p.past q.past (ap (λ (x : Parts). x.past) row.rest);
-  deeds = grew_if result (waited_deeds p.locks now r.held r) p.deeds q.deeds (waited_keeps (kept_by_deeds p.deeds) p.locks now r.held r) row.deeds (err_ap (λ (x : Parts). x.deeds) result q p row.same);
+  deeds = grew_if result (waited_deeds p.locks now r.held r) p.deeds q.deeds (waited_keeps (kept_by_deeds p.deeds) p.locks now r.held r) row.takes.deeds (err_ap (λ (x : Parts). x.deeds) result q p row.same);
 }
 
 -- what is held of a lock is given back with this status, and nothing else is done
@@ -151,60 +151,60 @@ settled_on status r p q table deeds rest = record {
 }
 
 pub released : {result : Option ReleasedLock} {reason : NoCacheReason} {r s : Request} {p q : Parts} → Releases result reason r s p q → Leads p q
-released {result} {reason} {r} {s} {p} {q} row = settled_on (status_for (λ text. GiveUp) reason) r p q row.table row.deeds row.rest
+released {result} {reason} {r} {s} {p} {q} row = settled_on (status_for (λ text. GiveUp) reason) r p q row.takes.settles.table row.takes.settles.deeds row.rest
 
 pub served_on : {result : Option LockName} {h : Header} {reason : NoCacheReason} {r s : Request} {p q : Parts} → ServesUncacheable result h reason r s p q → Leads p q
-served_on {result} {h} {reason} {r} {s} {p} {q} row = settled_on (status_for (λ text. GiveUp) reason) r p q row.table row.deeds row.rest
+served_on {result} {h} {reason} {r} {s} {p} {q} row = settled_on (status_for (λ text. GiveUp) reason) r p q row.settles.table row.settles.deeds row.rest
 
 pub permit_taken : {result : Option LockName} {permit : WritePermit} {r s : Request} {p q : Parts} → TakesPermit result permit r s p q → Leads p q
 permit_taken {result} {permit} {r} {s} {p} {q} row = record {
   limits = ap (λ (x : Parts). x.limits) row.rest;
   weighing = ap (λ (x : Parts). x.weighing) row.rest;
-  age = age_as p.locks (table_handed permit r p.locks) q.locks row.table (age_handed permit r p.locks);
+  age = age_as p.locks (table_handed permit r p.locks) q.locks row.takes.table (age_handed permit r p.locks);
   past = grew_same p.past q.past (ap (λ (x : Parts). x.past) row.rest);
-  deeds = grew_by (handed_deeds permit r) p.deeds q.deeds (handed_keeps (kept_by_deeds p.deeds) permit r) row.deeds;
+  deeds = grew_by (handed_deeds permit r) p.deeds q.deeds (handed_keeps (kept_by_deeds p.deeds) permit r) row.takes.deeds;
 }
 
 pub published : {result : Result (Option LockName) ErrorType} {tokens : List ℕ} {r : Request} {p q : Parts} → Publishes result tokens r p q → Leads p q
 published {result} {tokens} {r} {p} {q} row = record {
   limits = ap (λ (x : Parts). x.limits) row.rest;
   weighing = ap (λ (x : Parts). x.weighing) row.rest;
-  age = age_if result p.locks (published_by tokens r.held p.locks) q.locks row.table (age_published tokens r.held p.locks) (err_ap (λ (x : Parts). x.locks) result q p row.same);
+  age = age_if result p.locks (published_by tokens r.held p.locks) q.locks row.takes.table (age_published tokens r.held p.locks) (err_ap (λ (x : Parts). x.locks) result q p row.same);
   past = grew_same p.past q.past (ap (λ (x : Parts). x.past) row.rest);
-  deeds = grew_if result (published_deeds tokens r.held) p.deeds q.deeds (published_keeps (kept_by_deeds p.deeds) tokens r.held) row.deeds (err_ap (λ (x : Parts). x.deeds) result q p row.same);
+  deeds = grew_if result (published_deeds tokens r.held) p.deeds q.deeds (published_keeps (kept_by_deeds p.deeds) tokens r.held) row.takes.deeds (err_ap (λ (x : Parts). x.deeds) result q p row.same);
 }
 
 pub renewed_body : {result : Result Bool ErrorType} {m : Meta} {r s : Request} {p q : Parts} → Revalidates result m r s p q → Leads p q
 renewed_body {result} {m} {r} {s} {p} {q} row = record {
   limits = ap (λ (x : Parts). x.limits) row.rest;
   weighing = ap (λ (x : Parts). x.weighing) row.rest;
-  age = settled_at Done r.held p.locks q.locks row.table;
+  age = settled_at Done r.held p.locks q.locks row.settles.table;
   past = renews_keeps (kept_by_notes p.past) p.weighing p.limits (renewed_by m r.meta) r.key result (stock p) (stock q) row.renews (grew_not p.past);
-  deeds = grew_by (settled_deeds Done r.held) p.deeds q.deeds (settled_keeps (kept_by_deeds p.deeds) Done r.held) row.deeds;
+  deeds = grew_by (settled_deeds Done r.held) p.deeds q.deeds (settled_keeps (kept_by_deeds p.deeds) Done r.held) row.settles.deeds;
 }
 
 pub varied_on : {result : Option LockName} {variance : Option (List ℕ)} {r s : Request} {p q : Parts} → Varies result variance r s p q → Leads p q
 varied_on {result} {variance} {r} {s} {p} {q} row = record {
   limits = ap (λ (x : Parts). x.limits) row.rest;
   weighing = ap (λ (x : Parts). x.weighing) row.rest;
-  age = age_as p.locks (table_varied variance r p.locks) q.locks row.table (age_varied variance r p.locks);
+  age = age_as p.locks (table_varied variance r p.locks) q.locks row.takes.table (age_varied variance r p.locks);
   past = grew_same p.past q.past (ap (λ (x : Parts). x.past) row.rest);
-  deeds = grew_by (varied_deeds variance r) p.deeds q.deeds (varied_keeps (kept_by_deeds p.deeds) variance r) row.deeds;
+  deeds = grew_by (varied_deeds variance r) p.deeds q.deeds (varied_keeps (kept_by_deeds p.deeds) variance r) row.takes.deeds;
 }
 
 begun_notes : (result : Result (Unit {0}) ErrorType) (r s : Request) (p q : Parts) → BeginsWrite result r s p q → Grew p.past q.past
-begun_notes (Ok a) r s p q row = grew_by (writing_past true p.store r) p.past q.past (writing_keeps (kept_by_notes p.past) true p.store r) row.past
+begun_notes (Ok a) r s p q row = grew_by (writing_past true p.store r) p.past q.past (writing_keeps (kept_by_notes p.past) true p.store r) row.takes.past
 begun_notes (Err e) r s p q row = ⊎_elim (λ same. grew_as p.past q.past (Some p.past) same.2 (grew_not p.past))
-    (λ gone. grew_as p.past q.past (begun_past p.store r (Some p.past)) gone.2 (begun_keeps (kept_by_notes p.past) p.store r (Some p.past) (grew_not p.past))) row.err
+    (λ gone. grew_as p.past q.past (begun_past p.store r (Some p.past)) gone.2 (begun_keeps (kept_by_notes p.past) p.store r (Some p.past) (grew_not p.past))) row.takes.err
 
 begun_deeds : (result : Result (Unit {0}) ErrorType) (r s : Request) (p q : Parts) → BeginsWrite result r s p q → Grew p.deeds q.deeds
-begun_deeds (Ok a) r s p q row = grew_by (settled_deeds Done r.held) p.deeds q.deeds (settled_keeps (kept_by_deeds p.deeds) Done r.held) row.deeds
+begun_deeds (Ok a) r s p q row = grew_by (settled_deeds Done r.held) p.deeds q.deeds (settled_keeps (kept_by_deeds p.deeds) Done r.held) row.takes.deeds
 begun_deeds (Err e) r s p q row = ⊎_elim (λ same. grew_as p.deeds q.deeds (Some p.deeds) same.4 (grew_not p.deeds))
-    (λ gone. grew_as p.deeds q.deeds (settled_deeds Done r.held (Some p.deeds)) gone.4 (settled_keeps (kept_by_deeds p.deeds) Done r.held (Some p.deeds) (grew_not p.deeds))) row.err
+    (λ gone. grew_as p.deeds q.deeds (settled_deeds Done r.held (Some p.deeds)) gone.4 (settled_keeps (kept_by_deeds p.deeds) Done r.held (Some p.deeds) (grew_not p.deeds))) row.takes.err
 
 begun_age : (result : Result (Unit {0}) ErrorType) (r s : Request) (p q : Parts) → BeginsWrite result r s p q → HasAgeOf p.locks q.locks
-begun_age (Ok a) r s p q row = settled_at Done r.held p.locks q.locks row.table
-begun_age (Err e) r s p q row = ⊎_elim (λ same. age_as p.locks p.locks q.locks same.3 refl) (λ gone. settled_at Done r.held p.locks q.locks gone.3) row.err
+begun_age (Ok a) r s p q row = settled_at Done r.held p.locks q.locks row.takes.table
+begun_age (Err e) r s p q row = ⊎_elim (λ same. age_as p.locks p.locks q.locks same.3 refl) (λ gone. settled_at Done r.held p.locks q.locks gone.3) row.takes.err
 
 pub begun : {result : Result (Unit {0}) ErrorType} {r s : Request} {p q : Parts} → BeginsWrite result r s p q → Leads p q
 begun {result} {r} {s} {p} {q} row = record {
@@ -226,9 +226,9 @@ pub ended : {result : Result (Option FinishReport) ErrorType} {r s : Request} {p
 ended {result} {r} {s} {p} {q} row = record {
   limits = row.limits;
   weighing = row.weighing;
-  age = ended_any result row.ended (λ how is. age_ended in_memory r r.key r.write (entered p.weighing p.store r.write) p.limits how p.store q.store (tracked_at_end p r how) q.tracked p.locks q.locks is.0);
-  past = ended_any result row.ended (λ how is. ends_request_keeps (kept_by_notes p.past) in_memory r.key r.write how (Some p.past) (Some q.past) is.1 (grew_not p.past));
-  deeds = ended_any result row.ended (λ how is. grew_by (end_deeds r.write r.held how) p.deeds q.deeds (end_keeps (kept_by_deeds p.deeds) r.write r.held how) is.2);
+  age = ended_any result row.ended (λ how is. age_ended in_memory r r.key r.write (entered p.weighing p.store r.write) p.limits how p.store q.store (tracked_at_end p r how) q.tracked p.locks q.locks is.ends);
+  past = ended_any result row.ended (λ how is. ends_request_keeps (kept_by_notes p.past) in_memory r.key r.write how (Some p.past) (Some q.past) is.past (grew_not p.past));
+  deeds = ended_any result row.ended (λ how is. grew_by (end_deeds r.write r.held how) p.deeds q.deeds (end_keeps (kept_by_deeds p.deeds) r.write r.held how) is.deeds);
 }
 
 -- nothing changed

@@ -62,6 +62,7 @@ impl<M: EvictionManager, K: Mark, const N: usize> SharedCache<M, K, N> {
     {
         let mut guard = self.part(put.place()).lock(rt);
         let part = &mut *guard;
+        // A test and no precondition, as for the write of a request.
         if !part.cache.may_end_put(&put.pending) {
             part.log.adds(&part.cache, &mut put.sight);
             return Err(Error::new(ErrorType::InternalError));
@@ -79,6 +80,8 @@ impl<M: EvictionManager, K: Mark, const N: usize> SharedCache<M, K, N> {
         ensures place { result.place ≡ put.place }
     {
         let lock = self.part(put.place());
+        // Before the lock, so that the drop of the policy, which is the caller's code, may call the
+        // cache.
         let (left, mut sight) = put.into_both();
         let mut guard = lock.lock(rt);
         let part = &mut *guard;

@@ -105,6 +105,8 @@ impl<M: EvictionManager, K: Mark, const N: usize> SharedCache<M, K, N> {
     {
         let mut guard = self.part(request.place()).lock(rt);
         let part = &mut *guard;
+        // A test and no precondition: of what is behind the lock a caller can know nothing but its
+        // type.
         if !part.cache.may_end(&request.request) {
             part.log.adds(&part.cache, &mut request.sight);
             return Err(Error::new(ErrorType::InternalError));

@@ -67,6 +67,7 @@ impl<M: EvictionManager, K: Mark, const N: usize> SharedCache<M, K, N> {
         ensures kind { IfErr result (λ e. e ≡ OutOfMemory) }
         ensures place { request.new.place ≡ request.old.place }
     {
+        // With one moment for all turns: a caller that waits for long calls again with a later one.
         for _turn in 0..turns {
             match self.cache_lock_wait(rt, request, now)? {
                 Poll::Pending => yield_now(),
@@ -120,6 +121,7 @@ impl<M: EvictionManager, K: Mark, const N: usize> SharedCache<M, K, N> {
         let mut guard = lock.lock(rt);
         let part = &mut *guard;
         let result = part.cache.set_write_lock(&mut request.request, permit);
+        // What the giver had seen is a beginning of this log, so the receiver is shown that too.
         part.log.meets(&sight);
         part.log.adds(&part.cache, &mut request.sight);
         result

@@ -82,7 +82,8 @@ impl<K: Mark> Sight<K> {
     pub fn headline(&self)
         ensures { IsLog self.now.log }
     {
-        let _place = self.place; // for the prover: once a field is used, the invariant is known
+        // For the prover: a use of a field brings in the invariant, so `IsLog` of what was seen.
+        let _place = self.place;
     }
 
     /// Afterwards this has seen what both had, if both are of one part, which the mark names. It has no cost.
@@ -93,6 +94,8 @@ impl<K: Mark> Sight<K> {
             → Begins (K.names self.old.place) other.now.log self.new.log }
     {
         if self.place == other.place {
+            // Of two beginnings of one log one begins the other, so nothing has to be asked of the
+            // part.
             self.seen.sees(&other.seen);
         }
     }
@@ -136,7 +139,8 @@ impl<K: Mark> PartLog<K> {
         requires weighing { cache.now.weighing ≡ Entries }
         ensures { result ≡ record { place = place; log = cache.now ∷ [] } }
     {
-        cache.headline(); // for the prover
+        // For the prover: the state that is noted is a sound one, as `IsLog` asks of each.
+        cache.headline();
         keeper.add(cache);
         PartLog {
             place,
@@ -201,7 +205,8 @@ impl<K: Mark> PartLog<K> {
             → EndsWith self.old.log p
             → Moves (K.names self.old.place) sight.old.log sight.new.log p cache.now }
     {
-        cache.headline(); // for the prover
+        // For the prover: the state that is noted is a sound one, as `IsLog` asks of each.
+        cache.headline();
         self.keeper.meets(&sight.seen);
         self.keeper.add(cache);
         sight.seen = self.keeper.see();

@@ -73,6 +73,8 @@ impl<M: EvictionManager, K: Mark, const N: usize> SharedCache<M, K, N> {
         part.log.adds(&part.cache, &mut request.sight);
         match found {
             Ok(found) => found,
+            // The look-up that follows makes its own copies, and says whether there is memory for
+            // them.
             Err(_refused) => None,
         }
     }
@@ -161,7 +163,9 @@ impl<M: EvictionManager, K: Mark, const N: usize> SharedCache<M, K, N> {
         let lock = self.part(request.place());
         // What needs no part takes no lock. What such a call returns is true of each state of the part, so of the last one seen.
         if request.request.cache.reads_alone() {
-            request.sight.headline(); // for the prover
+            // For the prover: the last state that was seen is a sound one, of which the clauses
+            // speak.
+            request.sight.headline();
             return request.request.cache.read_body_alone();
         }
         let mut guard = lock.lock(rt);
@@ -180,7 +184,9 @@ impl<M: EvictionManager, K: Mark, const N: usize> SharedCache<M, K, N> {
     {
         let lock = self.part(request.place());
         if request.request.cache.reads_alone() {
-            request.sight.headline(); // for the prover
+            // For the prover: the last state that was seen is a sound one, of which the clauses
+            // speak.
+            request.sight.headline();
             return request.request.cache.is_body_whole_alone();
         }
         let mut guard = lock.lock(rt);
@@ -198,7 +204,9 @@ impl<M: EvictionManager, K: Mark, const N: usize> SharedCache<M, K, N> {
     {
         let lock = self.part(request.place());
         if request.request.cache.reads_alone() {
-            request.sight.headline(); // for the prover
+            // For the prover: the last state that was seen is a sound one, of which the clauses
+            // speak.
+            request.sight.headline();
             return request.request.cache.body_length_alone();
         }
         let mut guard = lock.lock(rt);
@@ -253,6 +261,8 @@ impl<M: EvictionManager, K: Mark, const N: usize> SharedCache<M, K, N> {
     {
         let lock = self.part(request.place());
         if request.request.cache.reads_alone() {
+            // The reader has its bytes: the store counts readers of writes alone, so it need not be
+            // told.
             request.request.cache.finish_hit_handler_alone();
             return Ok(());
         }
@@ -299,6 +309,7 @@ impl<M: EvictionManager, K: Mark, const N: usize> SharedCache<M, K, N> {
     {
         let lock = self.part(request.place());
         let (request, mut sight) = request.into_both();
+        // Such an end leaves any part as it is, so it waits for nobody who has this one.
         if request.cache.may_end_alone() {
             request.end_alone();
             return Ended {

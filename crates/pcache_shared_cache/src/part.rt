@@ -106,6 +106,8 @@ impl<M: EvictionManager, K: Mark> PartLock<M, K> {
         let policy = portion.policy();
         let limit = portion.limit();
         let watermark = portion.watermark();
+        // Always by entries: only servers have parts, so no contract has to carry what a part
+        // weighs.
         let cache = Cache::with_weighing(alloc, seed, portion, age_timeout, Weighing::Entries);
         let mut log = PartLog::new(place, keeper, &cache);
         PartLock {
@@ -186,7 +188,8 @@ impl<M: EvictionManager, K: Mark> PartLock<M, K> {
     pub(crate) fn stored_bytes<R: Wait>(&self, rt: &R) -> usize
         ensures { OfPart self.now.first.limits (λ p. result ≡ stored_bytes p.store) }
     {
-        let _limit = self.limit; // for the prover: the limit is a `usize`
+        // For the prover: the limit is a `usize`, so the sum, which is within it, fits one.
+        let _limit = self.limit;
         let guard = self.lock(rt);
         let part = &*guard;
         part.cache.stored_bytes() as usize

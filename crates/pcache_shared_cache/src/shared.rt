@@ -33,6 +33,8 @@ use std::time::Duration;
 pub struct SharedCache<M: EvictionManager, K: Mark, const N: usize> {
     alloc: Global,
     parts: Vec<PartLock<M, K>>,
+    // Room for the managers that `into_portions` hands out, so that this takes no memory at the
+    // end.
     room: Vec<Portion<M>>,
 }
 
@@ -135,7 +137,9 @@ impl<M: EvictionManager, K: Mark, const N: usize> SharedCache<M, K, N> {
             ≡ with_key key (enabled_with
             (record { eviction = true; predictor = false; lock = true }) new_request) }
     {
-        let _parts = &self.parts; // for the prover: once a field is used, the invariant is known
+        // For the prover: a use of a field brings in the invariant: there are `N` parts, each at
+        // its place.
+        let _parts = &self.parts;
         let sight = self.part(place_of::<N>(&key)).beginning();
         SharedRequest::new(self.alloc, key, sight)
     }
@@ -154,7 +158,8 @@ impl<M: EvictionManager, K: Mark, const N: usize> SharedCache<M, K, N> {
             } }
         ensures taken { HasTaken (C.says policy) result.put [] None }
     {
-        let _parts = &self.parts; // for the prover, as above
+        // For the prover: there are `N` parts, each at its place.
+        let _parts = &self.parts;
         let begun = self.part(place_of::<N>(&key)).beginning();
         SharedPut::new(self.alloc, policy, key, begun)
     }

@@ -10,6 +10,7 @@ pub fn portion_of(whole: usize, parts: usize, place: usize) -> usize
     requires { 0 < parts }
     ensures { result ≡ portion whole parts place }
 {
+    // A body is kept only if it is within its part's limit, however large the whole one is.
     let each = whole / parts;
     if place < whole % parts {
         each + 1

@@ -51,7 +51,8 @@ impl<M: EvictionManager, P: PutPolicy, K: Mark> Desk<M, P, K> {
         ensures value { HasReached K.opened.log (λ log. result ≡ stored (events_in log)) }
         ensures within { result ≤ K.opened.log.limits.weight }
     {
-        // For the prover: the contract of the call says what is promised of the history.
+        // For the prover: the history is legal, so the complete bodies are within the manager's
+        // limits.
         let _history = self.world.history();
         self.world.stored_bytes()
     }
@@ -61,7 +62,8 @@ impl<M: EvictionManager, P: PutPolicy, K: Mark> Desk<M, P, K> {
         ensures value { HasReached K.opened.log (λ log. result ≡ slots (events_in log)) }
         ensures within { IfSome K.opened.log.limits.watermark (λ most. result ≤ most) }
     {
-        // For the prover: the contract of the call says what is promised of the history.
+        // For the prover: the history is legal, so the complete bodies are within the manager's
+        // limits.
         let _history = self.world.history();
         self.world.slots()
     }

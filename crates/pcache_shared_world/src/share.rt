@@ -74,8 +74,12 @@ impl<K: Mark> Share<K> {
             ≡ self.old ++ (record { index = index; call = call; reply = reply }) ∷ [])) }
         ensures err { OnErr result (self.new ≡ self.old) }
     {
+        // Both before the lock: once the call is made, nothing may be refused, or it had no
+        // receipt.
         self.receipts.reserve(1)?;
         let Ok(copy) = call.copied() else {
+            // The only refusal there is. The error of a call that lends may own nothing, as an
+            // `Error` would.
             return Err(AllocError);
         };
         let made = shared

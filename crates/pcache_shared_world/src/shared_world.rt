@@ -25,6 +25,7 @@ pub struct SharedWorld<M: EvictionManager, P: PutPolicy, K: Mark> {
     pub(crate) alloc: Global,
     pub(crate) room: Room,
     pub(crate) desk: Mutex<Desk<M, P, K>>,
+    // Room for what `close` hands out, so that it takes no memory.
     out: Vec<Vec<Receipt>>,
     ghost room_is: { room.shared.table_id ≡ K.opened.table },
     ghost word: { 0 < K.opened.table.words },
@@ -55,6 +56,7 @@ impl<M: EvictionManager, P: PutPolicy, K: Mark> SharedWorld<M, P, K> {
             world,
             shares: count,
         } = opening;
+        // Made now, so that `close` neither fails nor waits.
         let out = Vec::with_capacity(alloc, count)?;
         let mut shares = Vec::with_capacity(alloc, count)?;
         let mut made = 0;
@@ -104,6 +106,8 @@ impl<M: EvictionManager, P: PutPolicy, K: Mark> SharedWorld<M, P, K> {
     ) -> Result<&'a Reply, AllocError>
         ensures* added { sem 𝓛 (ends_added K.row K.Mark share.entry call result) }
     {
+        // The share comes first: what a call that lends leaves can be stated only of its first
+        // parameter.
         share.made(rt, shared, call)
     }
 
@@ -113,6 +117,8 @@ impl<M: EvictionManager, P: PutPolicy, K: Mark> SharedWorld<M, P, K> {
         ensures value { HasReached K.opened.log (λ log. result ≡ stored (events_in log)) }
         ensures within { result ≤ K.opened.log.limits.weight }
     {
+        // Of some state since the opening, as far as the contract knows: who asks hands in nothing
+        // that was seen, so that it is the present one is only tested.
         self.desk.lock(rt).stored_bytes()
     }
 
@@ -146,6 +152,9 @@ impl<M: EvictionManager, P: PutPolicy, K: Mark> SharedWorld<M, P, K> {
             mut keeper,
             of: _,
         } = desk.into_inner();
+        // As many shares as were made are all of them: each carries the mark, cannot be copied and
+        // has one part of that number. So none can be missing here, and one that was dropped bars
+        // the close.
         for share in shares {
             let Share {
                 receipts,

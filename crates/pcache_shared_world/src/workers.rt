@@ -47,6 +47,8 @@ pub fn run_workers<
     ensures refused { OnErr result ((shares.new ≡ shares.old)
         ⊎ (EachRuns RunsWhole scripts.now shares.old shares.new → ⊥)) }
 {
+    // Counted before any thread begins, so that at the end it is known which scripts ran whole. A
+    // flag that the threads set would say nothing: no contract knows what an atomic holds.
     let before = counts_of(shared.alloc, shares)?;
     let workers = shares.len();
     if workers == 0 {
@@ -83,6 +85,8 @@ fn run_script<M: EvictionManager, P: PutPolicy, K: Mark, G: Gate, R: Wait>(
 {
     for index in 0..script.len() {
         gate.enter(worker, index);
+        // The script is only lent, and a call is given away: the history has it, and a receipt its
+        // copy.
         let Ok(call) = script[index].copied() else {
             return Err(AllocError);
         };

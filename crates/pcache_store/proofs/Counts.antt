@@ -1,14 +1,12 @@
 -- Running totals of the complete bodies, after a slot was changed.
-use Rattle.std.proofs.Common.{◌≡◌, ℕ, suc, zero, ◌+◌, ◌-◌, ◌*◌, ◌^◌, ◌≤◌, ◌<◌, List, [], ◌∷◌, Bool, true, false, Option, None, Some, ◌∙◌, sym, ap, cond, refl, subst, arith, length, is_some, is_none, IsSome, ◌&&◌, lit<}
+use Rattle.std.proofs.Common.{◌*◌, is_some, lit<}
 use Rattle.std.proofs.Math.Nat.{mul-suc}
-use Rattle.std.specs.Ordering.{nat_cmp, eq_by_cmp, is_eq}
-use Rattle.std.specs.Cmp.{nat_cmp_total, tied_itself}
-use Rattle.std.specs.FinMap.{FinMap, empty, get, insert, remove, entries, len, find, get-insert, get-remove, get-empty, get-entries, len-remove, len-entries, empty_of_len, nat_cmp-IsAntisymmetric}
-use Rattle.pcache_base.specs.Totals.{total, share}
+use Rattle.std.specs.FinMap.{entries, find, len-entries, nat_cmp-IsAntisymmetric}
+use Rattle.pcache_base.specs.Totals.{total}
 use Rattle.pcache_base.proofs.Totals.{total-insert, total-remove, total-empty}
-use Rattle.pcache_meta.specs.Meta.{Meta}
-use Rattle.pcache_store.specs.Store.{Slot, Stored, complete_body, is_idle, with_slot, slot_or_new, opened_in, opened, shut_on, has_body_of, body_with, body_without, slot_without, write_gone_on, stored_on, with_meta, meta_changed_in, meta_changed_on}
-use Rattle.pcache_store.specs.Totals.{body_len, one, body_size, body_count, IsCounted}
+use Rattle.pcache_store.specs.Store.{has_body_of}
+use Rattle.pcache_store.specs.Totals.{body_size, body_count}
+use Rattle.pcache_store.proofs.Words.{◌≡◌, ℕ, suc, zero, ◌+◌, ◌-◌, ◌^◌, ◌≤◌, ◌<◌, List, [], ◌∷◌, Bool, true, false, Option, None, Some, ◌∙◌, sym, ap, cond, refl, subst, arith, length, is_none, IsSome, ◌&&◌, nat_cmp, eq_by_cmp, is_eq, nat_cmp_total, tied_itself, FinMap, empty, get, insert, remove, len, get-insert, get-remove, get-empty, get-entries, len-remove, empty_of_len, share, Meta, Slot, Stored, complete_body, is_idle, with_slot, slot_or_new, opened_in, opened, shut_on, body_with, body_without, slot_without, write_gone_on, stored_on, with_meta, meta_changed_in, meta_changed_on, body_len, one, IsCounted}
 
 -- ---- a sum is at most the bound of its terms, as often as there are entries
 

@@ -1,16 +1,11 @@
 -- What is known of a write by the calls of its store.
-use Rattle.std.proofs.Common.{◌≡◌, ℕ, ◌==◌, ◌≤◌, ◌<◌, ◌+◌, ◌-◌, ◌&&◌, ◌||◌, ◌++◌, Bool, true, false, cond, Option, None, Some, List, [], ◌∷◌, refl, sym, ap, subst, ◌∙◌, arith, length, nat_le}
-use Rattle.std.specs.Prelude.{IsSome, IfSome, ◌↔◌}
-use Rattle.std.specs.Ordering.{nat_cmp, eq_by_cmp}
-use Rattle.std.specs.Cmp.{nat_cmp_total}
-use Rattle.std.specs.FinMap.{FinMap, get, insert, remove, get-insert, get-remove}
-use Rattle.std.proofs.lemmas.Bool.{and_parts, eqb-true, false≢true, ne_eqb}
-use Rattle.std.proofs.lemmas.Bool.Decides.{nat_tests}
-use Rattle.std.proofs.lemmas.List.{append_assoc, append-nil}
-use Rattle.pcache_meta.specs.Meta.{Meta, numbered}
-use Rattle.pcache_store.specs.Store.{Store, Written, kept, grounded, is_named, new_write, begun, wrote_on, finished_on, dropped_on, followed_on, left_on, is_told, is_whole_part}
-use Rattle.pcache_store.specs.Drafts.{closed_on}
+use Rattle.std.proofs.Common.{nat_le}
+use Rattle.std.specs.Prelude.{IfSome}
+use Rattle.std.proofs.lemmas.Bool.{false≢true, ne_eqb}
+use Rattle.std.proofs.lemmas.List.{append_assoc}
+use Rattle.pcache_store.specs.Store.{is_told, is_whole_part}
 use Rattle.pcache_store.specs.Reading.{Act, Begins, Adds, Finishes, Drops, Follows, Leaves, Alters, after_act, after_acts, MayBe, MayAllBe, added_by, added, ends_well, has_ended_well, GivesWhatWasAdded, IsWholeExactly}
+use Rattle.pcache_store.proofs.Words.{◌≡◌, ℕ, ◌==◌, ◌≤◌, ◌<◌, ◌+◌, ◌-◌, ◌&&◌, ◌||◌, ◌++◌, Bool, true, false, cond, Option, None, Some, List, [], ◌∷◌, refl, sym, ap, subst, ◌∙◌, arith, length, IsSome, ◌↔◌, nat_cmp, eq_by_cmp, nat_cmp_total, FinMap, get, insert, remove, get-insert, get-remove, and_parts, eqb-true, nat_tests, append-nil, Meta, numbered, Store, Written, kept, grounded, is_named, new_write, begun, wrote_on, finished_on, dropped_on, followed_on, left_on, closed_on}
 
 abbrev Map : Type 0
 Map = FinMap nat_cmp Written

@@ -1,14 +1,12 @@
 -- A store that knows its past: what each call did leads from the store before it to the one after it.
-use Rattle.std.proofs.Common.{◌≡◌, ℕ, true, List, [], ◌∷◌, Option, None, Some, refl}
 use Rattle.pcache_base.specs.CompactKey.{compact_slot}
 use Rattle.pcache_evict.specs.Entry.{key_of, id_of}
-use Rattle.pcache_meta.specs.Meta.{Meta}
 use Rattle.pcache_store.specs.declared.storage.PurgeTarget.{PurgeTarget}
 use Rattle.pcache_store.specs.declared.storage.PurgeTarget.TheVariants.{Active, Exact}
-use Rattle.pcache_store.specs.Store.{Store, Reader, Whole, Part, followed, followed_by, left}
+use Rattle.pcache_store.specs.Store.{Part, followed, followed_by}
 use Rattle.pcache_store.specs.Purge.{entry_purged_in, expired_at, target_purged}
-use Rattle.pcache_store.specs.Past.{Note, Leads, PastLeads, IsWhatPastSays, empty_from}
-use Rattle.pcache_store.specs.Notes.{added, expiry_noted, joined_by, leave_noted, look_noted, purge_noted, removal_noted}
+use Rattle.pcache_store.specs.Notes.{added, joined_by, leave_noted, look_noted, removal_noted}
+use Rattle.pcache_store.proofs.Words.{◌≡◌, ℕ, true, List, [], ◌∷◌, Option, None, Some, refl, Meta, Store, Reader, Whole, left, Note, Leads, PastLeads, IsWhatPastSays, empty_from, expiry_noted, purge_noted}
 
 -- what a call that adds this note, or none, makes of a store
 abbrev pub LeadsIf : Option Note → Store → Store → Type 0

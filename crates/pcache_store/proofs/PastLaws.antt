@@ -1,20 +1,11 @@
 -- The laws of a store that is what its past says.
-use Rattle.std.proofs.Common.{◌≡◌, ℕ, ◌≤◌, ◌==◌, Bool, true, false, not, cond, ◌&&◌, ◌||◌, if◌then◌else◌, Option, None, Some, is_some, List, [], ◌∷◌, ◌++◌, length, take, drop, refl, ap, sym, subst, ◌∙◌, arith, inl, inr}
-use Rattle.std.specs.Prelude.{nat_lt}
-use Rattle.std.specs.List.{list_any}
-use Rattle.std.specs.Option.{option_map, option_and_then}
-use Rattle.std.specs.FinMap.{get, contains_key}
-use Rattle.std.proofs.lemmas.Bool.{eqb-true}
-use Rattle.std.proofs.lemmas.Bool.Decides.{nat_tests}
-use Rattle.std.proofs.lemmas.List.{take-append-drop}
+use Rattle.std.proofs.Common.{is_some, drop}
+use Rattle.std.specs.Option.{option_map}
 use Rattle.pcache_base.specs.declared.poll.Poll.TheVariants.{Ready, Pending}
-use Rattle.pcache_meta.specs.Meta.{Meta, numbered}
-use Rattle.pcache_table.specs.Numbers.{least}
-use Rattle.pcache_table.proofs.Least.{least_there, least_none}
-use Rattle.pcache_store.specs.Store.{Store, Slot, Stored, Written, new_write, Reader, Whole, Part, find, found_in, found_first, found_part, found_body, is_untouched, is_untouched_in, is_untouched_on, complete_body, write_read, read_part}
-use Rattle.pcache_store.specs.Past.{Note, Began, Wrote, Finished, Dropped, Purged, WritePurged, MetaSet, Expired, Joined, Left, Leads, PastLeads, IsWhatPastSays, empty_from}
-use Rattle.pcache_store.specs.PastSays.{option_any, bytes_in, body_of, after, begins, finishes, removes, longer, ended, closed_write, write_of, is_of, in_flight, is_removed, is_open, last_finished, write_finished, body_stored, complete, altered_by}
+use Rattle.pcache_store.specs.Store.{Part, find, found_in, found_first, found_part, found_body, write_read, read_part}
+use Rattle.pcache_store.specs.PastSays.{bytes_in, body_of}
 use Rattle.pcache_store.specs.PastLaws.{HasUntouched, Finds, Finishes, PurgedIsGone, BodiesAreLast, NothingIsLost, IsOfItsWrite, FoundIsOfItsWrite, ReadsInOrder, BodiesGrow}
+use Rattle.pcache_store.proofs.Words.{◌≡◌, ℕ, ◌≤◌, ◌==◌, Bool, true, false, not, cond, ◌&&◌, ◌||◌, if◌then◌else◌, Option, None, Some, List, [], ◌∷◌, ◌++◌, length, take, refl, ap, sym, subst, ◌∙◌, arith, inl, inr, nat_lt, list_any, option_and_then, get, contains_key, eqb-true, nat_tests, take-append-drop, Meta, numbered, least, least_there, least_none, Store, Slot, Stored, Written, new_write, Reader, Whole, is_untouched, is_untouched_in, is_untouched_on, complete_body, Note, Began, Wrote, Finished, Dropped, Purged, WritePurged, MetaSet, Expired, Joined, Left, Leads, PastLeads, IsWhatPastSays, empty_from, option_any, after, begins, finishes, removes, longer, ended, closed_write, write_of, is_of, in_flight, is_removed, is_open, last_finished, write_finished, body_stored, complete, altered_by}
 use Rattle.pcache_store.proofs.PastMaps.{same-number}
 use Rattle.pcache_store.proofs.PastWrites.{uncounted, IsEnded, complete-some, stored-numbered, body_at, unless_removed, write-numbered}
 use Rattle.pcache_store.proofs.PastStates.{IsState, state-of, state-led, some-of}

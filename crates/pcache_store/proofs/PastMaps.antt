@@ -1,11 +1,6 @@
 -- The records and slots of a store after one of them was set, changed or removed.
-use Rattle.std.proofs.Common.{◌≡◌, ℕ, ◌==◌, true, false, cond, Option, None, Some, is_some, is_none, refl, ap, sym, ◌∙◌, arith}
-use Rattle.std.specs.Ordering.{nat_cmp, eq_by_cmp}
-use Rattle.std.specs.Cmp.{nat_cmp_total}
-use Rattle.std.specs.FinMap.{FinMap, get, insert, remove, contains_key, len, get-empty, get-insert, get-remove, empty_of_len}
-use Rattle.std.proofs.lemmas.Bool.{eqb-true, and_parts}
-use Rattle.std.proofs.lemmas.Bool.Decides.{nat_tests}
-use Rattle.pcache_store.specs.Store.{Slot, Stored, Written, is_named, kept, is_untouched_in, is_idle, complete_body, with_slot, slot_or_new, shut_on, shut, body_without, slot_without, write_gone_on}
+use Rattle.std.proofs.Common.{is_some}
+use Rattle.pcache_store.proofs.Words.{◌≡◌, ℕ, ◌==◌, true, false, cond, Option, None, Some, is_none, refl, ap, sym, ◌∙◌, arith, nat_cmp, eq_by_cmp, nat_cmp_total, FinMap, get, insert, remove, contains_key, len, get-empty, get-insert, get-remove, empty_of_len, eqb-true, and_parts, nat_tests, Slot, Stored, Written, is_named, kept, is_untouched_in, is_idle, complete_body, with_slot, slot_or_new, shut_on, shut, body_without, slot_without, write_gone_on}
 
 -- the two tests of numbers agree
 cmp_same : (q w : ℕ) → eq_by_cmp nat_cmp q w ≡ (w == q)

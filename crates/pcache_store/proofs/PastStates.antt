@@ -1,15 +1,9 @@
 -- A store that is what its past says: its records, its slots and its bodies, read off the past.
-use Rattle.std.proofs.Common.{◌≡◌, ℕ, ◌+◌, ◌-◌, ◌≤◌, ◌==◌, Bool, true, false, cond, ◌&&◌, ◌||◌, if◌then◌else◌, Option, None, Some, is_some, List, [], ◌∷◌, refl, ap, sym, subst, ◌∙◌, arith}
-use Rattle.std.specs.Prelude.{nat_lt}
-use Rattle.std.specs.Option.{option_map, option_and_then}
-use Rattle.std.specs.Ordering.{nat_cmp}
-use Rattle.std.specs.FinMap.{FinMap, get, insert, remove, get-empty}
-use Rattle.std.proofs.lemmas.Bool.{eqb-true}
-use Rattle.std.proofs.lemmas.Bool.Decides.{nat_tests}
-use Rattle.pcache_meta.specs.Meta.{Meta, expired_at, in_place_of, numbered}
-use Rattle.pcache_store.specs.Store.{Store, Slot, Stored, Written, is_named, followed_on, joined, left_on, left, Part, slot_or_new, opened_in, opened, new_write, begun, wrote_on, wrote, is_untouched_in, is_untouched_on, is_untouched, grounded, closed, shut, dropped_on, dropped, stored_on, finished_on, finished, purged, body_without, write_purged, complete_body, with_meta, meta_changed_in, meta_changed_on, meta_changed, meta_set}
-use Rattle.pcache_store.specs.Past.{Note, Began, Wrote, Finished, Dropped, Purged, WritePurged, MetaSet, Expired, Joined, Left, Leads, PastLeads, IsWhatPastSays, empty_from}
-use Rattle.pcache_store.specs.PastSays.{option_any, after, before, finishes, longer, ended, closed_write, altered_by, write_of, is_of, is_removed, is_open, last_finished, write_finished, body_stored, complete}
+use Rattle.std.proofs.Common.{is_some}
+use Rattle.std.specs.Option.{option_map}
+use Rattle.pcache_meta.specs.Meta.{expired_at}
+use Rattle.pcache_store.specs.Store.{joined, Part, wrote, closed, dropped, finished, purged, write_purged, meta_changed, meta_set}
+use Rattle.pcache_store.proofs.Words.{◌≡◌, ℕ, ◌+◌, ◌-◌, ◌≤◌, ◌==◌, Bool, true, false, cond, ◌&&◌, ◌||◌, if◌then◌else◌, Option, None, Some, List, [], ◌∷◌, refl, ap, sym, subst, ◌∙◌, arith, nat_lt, option_and_then, nat_cmp, FinMap, get, insert, remove, get-empty, eqb-true, nat_tests, Meta, in_place_of, numbered, Store, Slot, Stored, Written, is_named, followed_on, left_on, left, slot_or_new, opened_in, opened, new_write, begun, wrote_on, is_untouched_in, is_untouched_on, is_untouched, grounded, shut, dropped_on, stored_on, finished_on, body_without, complete_body, with_meta, meta_changed_in, meta_changed_on, Note, Began, Wrote, Finished, Dropped, Purged, WritePurged, MetaSet, Expired, Joined, Left, Leads, PastLeads, IsWhatPastSays, empty_from, option_any, after, before, finishes, longer, ended, closed_write, altered_by, write_of, is_of, is_removed, is_open, last_finished, write_finished, body_stored, complete}
 use Rattle.pcache_store.proofs.PastMaps.{same-number, get-set, get-unset, get-kept, cut_of, get-shut, gone-key, new-key, cut-untouched, cut-body, bodies-at, new-untouched, new-body, lost_of, get-lost, lost-untouched, lost-body}
 use Rattle.pcache_store.proofs.PastWrites.{uncounted, IsEnded, opens-some, opens-none, open-wrote, open-dropped, open-finished, open-purged, open-write_purged, open-began, remade, complete-began, complete-purged, complete-write_purged, complete-altered, body_at, unless_removed, under}
 

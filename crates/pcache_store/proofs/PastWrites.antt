@@ -1,13 +1,8 @@
 -- What one more note makes of what a past says of writes.
-use Rattle.std.proofs.Common.{◌≡◌, ℕ, ◌==◌, nat_eq, Bool, true, false, not, cond, ◌&&◌, ◌||◌, if◌then◌else◌, Option, None, Some, List, [], ◌∷◌, refl, ap, sym, ◌∙◌, arith}
-use Rattle.std.specs.List.{list_any}
-use Rattle.std.specs.Option.{option_map, option_and_then, option_eq}
-use Rattle.std.proofs.lemmas.Bool.{eqb-true}
-use Rattle.std.proofs.lemmas.Bool.Decides.{nat_tests}
-use Rattle.pcache_meta.specs.Meta.{Meta, expired_at, in_place_of, numbered}
-use Rattle.pcache_store.specs.Store.{Stored, Written, body_without, new_write}
-use Rattle.pcache_store.specs.Past.{Note, Began, Wrote, Finished, Dropped, Purged, WritePurged, MetaSet, Expired, Joined, Left}
-use Rattle.pcache_store.specs.PastSays.{option_any, after, before, begins, finishes, removes, longer, ended, closed_write, write_of, is_of, in_flight, is_removed, is_open, last_finished, altered_by, write_finished, body_stored, complete}
+use Rattle.std.proofs.Common.{nat_eq}
+use Rattle.std.specs.Option.{option_map, option_eq}
+use Rattle.pcache_meta.specs.Meta.{expired_at}
+use Rattle.pcache_store.proofs.Words.{◌≡◌, ℕ, ◌==◌, Bool, true, false, not, cond, ◌&&◌, ◌||◌, if◌then◌else◌, Option, None, Some, List, [], ◌∷◌, refl, ap, sym, ◌∙◌, arith, list_any, option_and_then, eqb-true, nat_tests, Meta, in_place_of, numbered, Stored, Written, body_without, new_write, Note, Began, Wrote, Finished, Dropped, Purged, WritePurged, MetaSet, Expired, Joined, Left, option_any, after, before, begins, finishes, removes, longer, ended, closed_write, write_of, is_of, in_flight, is_removed, is_open, last_finished, altered_by, write_finished, body_stored, complete}
 
 -- a write without the count of its readers
 abbrev pub uncounted : Written → Written

@@ -1,21 +1,14 @@
 -- Records of writes in shards as one map, after one table was changed at one number.
-use Rattle.std.proofs.Common.{◌≡◌, ◌%◌, ◌==◌, ◌<◌, ◌≤◌, ◌^◌, ◌+◌, ◌-◌, ◌++◌, ℕ, zero, suc, inl, inr, Bool, true, false, Option, None, Some, is_some, List, [], ◌∷◌, cond, refl, sym, ap, subst, ◌∙◌, arith, length, Bor}
-use Rattle.std.specs.Prelude.{slice_set, slice_index_or, option_copied}
+use Rattle.std.proofs.Common.{is_some, Bor}
+use Rattle.std.specs.Prelude.{option_copied}
 use Rattle.std.specs.Option.{option_or}
-use Rattle.std.specs.Ordering.{nat_cmp, eq_by_cmp}
-use Rattle.std.specs.Cmp.{nat_cmp_total}
-use Rattle.std.specs.FinMap.{FinMap, empty, find, get, insert, remove, len, get-empty, get-entries, get-from_entries, get-insert, get-remove, get-retain_keys, len-empty, same_map}
-use Rattle.std.proofs.lemmas.Bool.{cases_lt}
-use Rattle.std.proofs.lemmas.Bool.Decides.{nat_tests}
-use Rattle.std.proofs.lemmas.List.{get_or-set_same, length-set, set-get_or}
-use Rattle.std.proofs.lemmas.Map.Lookups.{exact_unsigned}
+use Rattle.std.specs.FinMap.{find, get-from_entries, get-retain_keys}
+use Rattle.std.proofs.lemmas.List.{get_or-set_same}
 use Rattle.pcache_table.specs.Sharding.{all_entries, one_map}
-use Rattle.pcache_table.proofs.Sharded.{by_test, same_key, off_not, get-insert-at, get-remove-at}
-use Rattle.pcache_store.specs.Store.{Written, is_named, kept, wrote_on, followed_on, left_on, grounded_on}
-use Rattle.pcache_store.specs.Drafts.{closed_on, ended_on}
-use Rattle.pcache_store.specs.Shards.{parts, table_at, is_of_shard, of_shard, IsPlaceOf, AreRecords}
+use Rattle.pcache_table.proofs.Sharded.{same_key}
+use Rattle.pcache_store.specs.Shards.{is_of_shard, of_shard, IsPlaceOf}
+use Rattle.pcache_store.proofs.Words.{◌≡◌, ◌%◌, ◌==◌, ◌<◌, ◌≤◌, ◌^◌, ◌+◌, ◌-◌, ◌++◌, ℕ, zero, suc, inl, inr, Bool, true, false, Option, None, Some, List, [], ◌∷◌, cond, refl, sym, ap, subst, ◌∙◌, arith, length, slice_set, slice_index_or, nat_cmp, eq_by_cmp, nat_cmp_total, FinMap, empty, get, insert, remove, len, get-empty, get-entries, get-insert, get-remove, len-empty, same_map, cases_lt, nat_tests, length-set, set-get_or, exact_unsigned, by_test, off_not, get-insert-at, get-remove-at, Written, is_named, kept, wrote_on, followed_on, left_on, grounded_on, closed_on, ended_on, parts, table_at, AreRecords, one_if_some}
 use Rattle.pcache_store.proofs.Maps.{insert_len, remove_len}
-use Rattle.pcache_store.specs.Shards.{one_if_some}
 
 abbrev Map : Type 0
 Map = FinMap nat_cmp Written

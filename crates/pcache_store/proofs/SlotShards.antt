@@ -1,17 +1,10 @@
 -- Slots in shards as one map, after one table was changed at a key of its own.
-use Rattle.std.proofs.Common.{◌≡◌, ◌%◌, ◌<◌, ◌≤◌, ◌^◌, ◌+◌, ◌-◌, ℕ, zero, suc, true, false, Option, None, Some, List, [], ◌∷◌, cond, refl, sym, ap, subst, ◌∙◌, arith, length}
-use Rattle.std.specs.Prelude.{slice_get, slice_set, slice_index_or}
-use Rattle.std.specs.Ordering.{nat_cmp}
-use Rattle.std.specs.FinMap.{FinMap, empty, get, insert, remove, len, len-empty}
-use Rattle.std.proofs.lemmas.List.{length-set, set-get_or}
+use Rattle.std.specs.Prelude.{slice_get}
 use Rattle.std.proofs.lemmas.Option.{get_or_from_slice_get}
-use Rattle.pcache_meta.specs.Meta.{Meta}
-use Rattle.pcache_table.specs.Sharding.{Part, Belongs, Placed, AllPlaced, one_map, part_of}
-use Rattle.pcache_table.proofs.Sharded.{get-joined, insert-joined, remove-joined, all-set, part-joined, made-placed, made-empty, belongs-insert, belongs-remove, get-insert-at, get-remove-at}
-use Rattle.pcache_store.specs.Store.{Slot, Stored, is_idle, with_slot, slot_or_new, opened_in, opened, shut_on, slot_without, write_gone_on, stored_on, with_meta, meta_changed_in, meta_changed_on}
-use Rattle.pcache_store.specs.Shards.{parts, AreShards}
+use Rattle.pcache_table.specs.Sharding.{Part, Belongs, Placed, AllPlaced, one_map}
+use Rattle.pcache_table.proofs.Sharded.{get-joined, insert-joined, remove-joined, all-set, part-joined, made-placed, made-empty, belongs-insert, belongs-remove}
+use Rattle.pcache_store.proofs.Words.{◌≡◌, ◌%◌, ◌<◌, ◌≤◌, ◌^◌, ◌+◌, ◌-◌, ℕ, zero, suc, true, false, Option, None, Some, List, [], ◌∷◌, cond, refl, sym, ap, subst, ◌∙◌, arith, length, slice_set, slice_index_or, nat_cmp, FinMap, empty, get, insert, remove, len, len-empty, length-set, set-get_or, Meta, part_of, get-insert-at, get-remove-at, Slot, Stored, is_idle, with_slot, slot_or_new, opened_in, opened, shut_on, slot_without, write_gone_on, stored_on, with_meta, meta_changed_in, meta_changed_on, parts, AreShards, one_if_some}
 use Rattle.pcache_store.proofs.Maps.{insert_len, remove_len}
-use Rattle.pcache_store.specs.Shards.{one_if_some}
 
 abbrev Map : Type 0
 Map = FinMap nat_cmp Slot

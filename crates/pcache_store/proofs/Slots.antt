@@ -1,12 +1,6 @@
 -- Slots that were changed in place.
-use Rattle.std.proofs.Common.{◌≡◌, ◌+◌, ℕ, true, false, Option, None, Some, Result, Ok, Err, OnErr, ◌∙◌, sym, ap, cond, refl}
-use Rattle.std.specs.Ordering.{nat_cmp}
-use Rattle.std.specs.FinMap.{FinMap, get, insert, remove}
-use Rattle.pcache_meta.specs.Meta.{Meta}
-use Rattle.pcache_table.proofs.Sharded.{get-insert-at, get-remove-at}
-use Rattle.pcache_store.specs.Shards.{one_if_some}
+use Rattle.pcache_store.proofs.Words.{◌≡◌, ◌+◌, ℕ, true, false, Option, None, Some, Result, Ok, Err, OnErr, ◌∙◌, sym, ap, cond, refl, nat_cmp, FinMap, get, insert, remove, Meta, get-insert-at, get-remove-at, one_if_some, Slot, Stored, is_idle, with_slot, opened_in, opened, slot_or_new, shut_on, slot_without, write_gone_on, stored_on, with_meta, meta_changed_in, meta_changed_on}
 use Rattle.pcache_store.proofs.Maps.{insert_same, remove-insert}
-use Rattle.pcache_store.specs.Store.{Slot, Stored, is_idle, with_slot, opened_in, opened, slot_or_new, shut_on, slot_without, write_gone_on, stored_on, with_meta, meta_changed_in, meta_changed_on}
 
 -- what holds in any case holds if a call fails
 pub on_err : {A E P : Type 0} (r : Result A E) → P → OnErr r P

@@ -1,9 +1,9 @@
 -- Tags of writes and the numbers that they name.
-use Rattle.std.proofs.Common.{◌≡◌, ◌≢◌, ◌<◌, ◌^◌, ◌==◌, ℕ, List, length, Some, None, cond, true, false, refl, ap, arith}
-use Rattle.std.proofs.lemmas.Bool.Decides.{nat_tests}
-use Rattle.std.specs.Int.{w64, to_be_bytes, from_be_bytes}
+use Rattle.std.proofs.Common.{◌≢◌}
+use Rattle.std.specs.Int.{to_be_bytes}
 use Rattle.std.proofs.lemmas.Nat.{from_be_bytes-to_be_bytes_8}
 use Rattle.pcache_store.specs.Tag.{number_of_tag}
+use Rattle.pcache_store.proofs.Words.{◌≡◌, ◌<◌, ◌^◌, ◌==◌, ℕ, List, length, Some, None, cond, true, false, refl, ap, arith, nat_tests, w64, from_be_bytes}
 
 pub tag_names : (n : ℕ) → n < 2 ^ 64 → number_of_tag (to_be_bytes w64 n) ≡ Some n
 unfolding number_of_tag

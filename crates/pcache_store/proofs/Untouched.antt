@@ -1,18 +1,11 @@
 -- Maps from numbers with one entry set besides: what is taken out, what is least, and that there is one.
-use Rattle.std.proofs.Common.{◌||◌, ◌≡◌, ◌<◌, ◌==◌, ℕ, zero, suc, Bool, true, false, Option, None, Some, cond, refl, ap, sym, subst, ◌∙◌, arith}
-use Rattle.std.specs.Prelude.{nat_lt}
 use Rattle.std.specs.Option.{is_some}
 use Rattle.std.specs.declared.cmp.Ordering.TheVariants.{Less, Equal, Greater}
-use Rattle.std.specs.Ordering.{nat_cmp, eq_by_cmp}
-use Rattle.std.specs.Cmp.{nat_cmp_total, ranked, unsigned_tied}
-use Rattle.std.specs.FinMap.{FinMap, contains_key, get, insert, remove, len, get-empty, get-insert, get-remove, same_map, empty_of_len}
-use Rattle.std.proofs.lemmas.Map.Lookups.{exact_unsigned}
-use Rattle.std.proofs.lemmas.Map.Views.{tells_apart}
-use Rattle.std.proofs.lemmas.Bool.Decides.{nat_tests}
-use Rattle.pcache_table.specs.Numbers.{least}
-use Rattle.pcache_table.proofs.Least.{least_there, least_first, least_none}
-use Rattle.pcache_table.proofs.Sharded.{by_test, off_not, get-insert-at, get-insert-off}
-use Rattle.pcache_store.specs.Untouched.{with_one, lesser, is_one}
+use Rattle.std.specs.Cmp.{ranked, unsigned_tied}
+use Rattle.pcache_table.proofs.Least.{least_first}
+use Rattle.pcache_table.proofs.Sharded.{get-insert-off}
+use Rattle.pcache_store.specs.Untouched.{lesser, is_one}
+use Rattle.pcache_store.proofs.Words.{◌||◌, ◌≡◌, ◌<◌, ◌==◌, ℕ, zero, suc, Bool, true, false, Option, None, Some, cond, refl, ap, sym, subst, ◌∙◌, arith, nat_lt, nat_cmp, eq_by_cmp, nat_cmp_total, FinMap, contains_key, get, insert, remove, len, get-empty, get-insert, get-remove, same_map, empty_of_len, exact_unsigned, tells_apart, nat_tests, least, least_there, least_none, by_test, off_not, get-insert-at, with_one}
 use Rattle.pcache_store.proofs.Maps.{insert_same, remove-insert}
 
 module _ {X : Type 0} where

@@ -1,15 +1,10 @@
 -- Writes that were changed in place, and numbers that no write has.
-use Rattle.std.proofs.Common.{◌≡◌, ℕ, ◌++◌, ◌+◌, ◌-◌, ◌<◌, ◌^◌, List, Bool, true, false, Option, None, Some, Result, Ok, Err, OnOk, OnErr, ◌∙◌, sym, ap, cond, refl, subst, arith, unwrap_or}
+use Rattle.std.proofs.Common.{OnOk, unwrap_or}
 use Rattle.std.specs.Option.{SomeIff}
-use Rattle.std.specs.Ordering.{nat_cmp, is_eq}
-use Rattle.std.specs.Cmp.{nat_cmp_total, tied_itself}
-use Rattle.std.proofs.lemmas.Bool.Decides.{nat_tests}
-use Rattle.std.specs.FinMap.{FinMap, empty, get-empty, gets, get, insert, remove, get-insert}
+use Rattle.std.specs.FinMap.{gets}
+use Rattle.pcache_store.specs.Drafts.{Numbered}
+use Rattle.pcache_store.proofs.Words.{◌≡◌, ℕ, ◌++◌, ◌+◌, ◌-◌, ◌<◌, ◌^◌, List, Bool, true, false, Option, None, Some, Result, Ok, Err, OnErr, ◌∙◌, sym, ap, cond, refl, subst, arith, nat_cmp, is_eq, nat_cmp_total, tied_itself, nat_tests, FinMap, empty, get-empty, get, insert, remove, get-insert, Written, Stored, kept, is_named, wrote_on, followed_on, left_on, grounded_on, get-remove-at, one_if_some, next_number, AreBefore, IsBodyOf, closed_on, ended_on}
 use Rattle.pcache_store.proofs.Maps.{insert_same, undone, remove-insert}
-use Rattle.pcache_store.specs.Store.{Written, Stored, kept, is_named, wrote_on, followed_on, left_on, grounded_on}
-use Rattle.pcache_table.proofs.Sharded.{get-remove-at}
-use Rattle.pcache_store.specs.Shards.{one_if_some}
-use Rattle.pcache_store.specs.Drafts.{Numbered, next_number, AreBefore, IsBodyOf, closed_on, ended_on}
 
 module _ (ws : FinMap nat_cmp Written) (n : ℕ) (w v : Written) (m : FinMap nat_cmp Written) (is : Some w ≡ get ws n) (set : m ≡ insert ws n v) where
   pub wrote_there : (bytes : List ℕ) (eof : Bool) → v ≡ record w { bytes = w.bytes ++ bytes; told = eof } → m ≡ wrote_on ws n bytes eof (get ws n)

@@ -43,7 +43,7 @@ use pcache_base::seed::Seed;
 use pcache_evict::eviction::CacheEntryId;
 use pcache_meta::meta::CacheMeta;
 use pcache_meta::meta::spelled::SpelledMeta;
-use std::alloc::Global;
+use std::alloc::{AllocError, Global};
 use std::marker::Model;
 
 /// A store that keeps bodies and writes in memory, and knows its own past: a contract sees it as the
@@ -74,6 +74,8 @@ impl Model for MemCache {
 
     ghost view = { λ a. record { state = a.bare; past = a.past.notes } };
 
+    // Of a store and its past side by side: in one struct the past would be one step behind at the
+    // end of each helper that changes a field.
     ghost invariant = { λ a. IsWhatPastSays a.bare a.past.notes };
 }
 
@@ -242,11 +244,16 @@ impl MemCache {
         self.past = self.past.then(&Step::Left(number));
     }
 
-    pub(crate) fn write(&mut self, slot: u128, number: u64, bytes: Bytes, eof: bool) -> Result<()>
+    pub(crate) fn write(
+        &mut self,
+        slot: u128,
+        number: u64,
+        bytes: Bytes,
+        eof: bool,
+    ) -> Result<(), AllocError>
         ensures ok { OnOk result (self.new.state ≡ wrote self.old.state number bytes eof) }
         ensures past { OnOk result (self.new.past
             ≡ added (Some (Wrote number bytes eof)) self.old.past) }
-        ensures kind { IfErr result (λ e. e ≡ OutOfMemory) }
         ensures err { OnErr result (self.new ≡ self.old) }
     {
         let past = self.past.then(&Step::Wrote {

@@ -128,6 +128,7 @@ pub trait StoreMeaning {
     /// Whether removals always succeed, and whether an entry has the number of the write that fills it.
     ghost guarantees: { Guarantees };
 
+    // A relation: a storage that asks for memory there cannot know the result before.
     /// What the end of a reader may return: success, or the error.
     ghost ends_hit: { Self → Reader → Result (Unit {0}) ErrorType → Type 0 };
 }
@@ -284,6 +285,7 @@ pub trait HandleHit<S: StoreMeaning> {
         ensures same { S.state store.new ≡ S.state store.old }
         ensures same_past { S.past store.new ≡ S.past store.old };
 
+    // Asked beside the read, and no third case of its answer: who does not ask reads as before.
     /// Whether it has given all that it was to give: of a complete body its range; of a write each byte, and the write's end
     /// was announced, or it was finished. After the end that `read_body` gives, `false` says that the body was cut off.
     fn is_whole(&self, store: &S) -> bool

@@ -1,14 +1,9 @@
 -- A hash map's entries as a finite map from numbers.
-use Rattle.std.proofs.Common.{◌≡◌, ℕ, List, [], ◌∷◌, Some, None, cond, refl, ap, sym, subst, ◌∙◌, nat_eq, length}
 use Rattle.std.specs.List.{IsDistinct}
-use Rattle.std.specs.Ordering.{nat_cmp, eq_by_cmp}
-use Rattle.std.specs.Cmp.{nat_cmp_total, unsigned_ties}
-use Rattle.std.specs.Map.{lookup, keys_of}
-use Rattle.std.specs.BTreeMap.{is_at}
-use Rattle.std.specs.FinMap.{from_entries, get, insert, remove, len}
-use Rattle.std.proofs.lemmas.Map.Lookups.{exact_unsigned}
-use Rattle.pcache_base.proofs.Maps.{get-made, made-insert, made-remove}
+use Rattle.std.specs.Cmp.{unsigned_ties}
+use Rattle.std.specs.FinMap.{len}
 use Rattle.pcache_base.proofs.Totals.{made-len}
+use Rattle.pcache_table.proofs.Words.{◌≡◌, ℕ, List, [], ◌∷◌, Some, None, cond, refl, ap, sym, subst, ◌∙◌, nat_eq, length, nat_cmp, eq_by_cmp, nat_cmp_total, lookup, keys_of, is_at, from_entries, get, insert, remove, exact_unsigned, get-made, made-insert, made-remove}
 
 -- equal numbers are those that the order does not distinguish
 same_at : (k q : ℕ) → nat_eq k q ≡ is_at (nat_cmp k) q

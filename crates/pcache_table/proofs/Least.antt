@@ -1,13 +1,12 @@
 -- The least key of a map is in the map, and no key is below it.
-use Rattle.std.proofs.Common.{◌≡◌, ℕ, ◌<◌, List, [], ◌∷◌, Bool, true, false, ◌&&◌, T, cond, Option, None, Some, unwrap_or, refl, ap, sym, subst, ◌∙◌, arith}
-use Rattle.std.specs.Option.{IsSome, IfSome, IfNone, is_some}
+use Rattle.std.proofs.Common.{unwrap_or}
+use Rattle.std.specs.Option.{IfSome, IfNone}
 use Rattle.std.specs.declared.cmp.Ordering.{Ordering}
-use Rattle.std.specs.declared.cmp.Ordering.TheVariants.{Less, Equal, Greater}
-use Rattle.std.specs.Ordering.{nat_cmp, is_eq, is_lt}
-use Rattle.std.specs.Cmp.{nat_cmp_total, nat_cmp_is, ranked, tied_itself}
-use Rattle.std.specs.FinMap.{FinMap, get, entries, entries_sorted, get-entries, find, is_sorted}
-use Rattle.std.specs.FinMap.Entries.{below_all}
-use Rattle.pcache_table.specs.Numbers.{first_key, least}
+use Rattle.std.specs.declared.cmp.Ordering.TheVariants.{Greater}
+use Rattle.std.specs.Ordering.{is_eq}
+use Rattle.std.specs.Cmp.{nat_cmp_is, ranked, tied_itself}
+use Rattle.std.specs.FinMap.{entries_sorted, is_sorted}
+use Rattle.pcache_table.proofs.Words.{◌≡◌, ℕ, ◌<◌, List, [], ◌∷◌, Bool, true, false, ◌&&◌, T, cond, Option, None, Some, refl, ap, sym, subst, ◌∙◌, arith, IsSome, is_some, Less, Equal, nat_cmp, is_lt, nat_cmp_total, FinMap, get, entries, get-entries, find, below_all, first_key, least}
 
 less : (o : Ordering) → T (is_lt o) → o ≡ Less
 less Less p = refl

@@ -4,3 +4,4 @@ pub mod Seats
 pub mod ShardLists
 pub mod Sharded
 pub mod TableMaps
+pub mod Words

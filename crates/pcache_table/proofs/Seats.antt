@@ -1,10 +1,8 @@
 -- Locks at their places.
-use Rattle.std.proofs.Common.{◌≡◌, ◌∙◌, ◌+◌, ◌<◌, ◌++◌, ℕ, List, [], ◌∷◌, length, get_or, ap, sym, arith}
-use Rattle.std.specs.List.{range_with_len}
-use Rattle.std.specs.Prelude.{map}
 use Rattle.std.proofs.lemmas.List.{map-append, map-id}
-use Rattle.std.proofs.lemmas.List.FromFn.{fill_by_all, get_or-range_with_len, get_or-map-range_with_len, length-map-range_with_len, map-range_with_len_more}
-use Rattle.pcache_table.specs.Sharding.{Seat, seats}
+use Rattle.std.proofs.lemmas.List.FromFn.{fill_by_all, get_or-range_with_len}
+use Rattle.pcache_table.specs.Sharding.{Seat}
+use Rattle.pcache_table.proofs.Words.{◌≡◌, ◌∙◌, ◌+◌, ◌<◌, ◌++◌, ℕ, List, [], ◌∷◌, length, get_or, ap, sym, arith, range_with_len, map, get_or-map-range_with_len, length-map-range_with_len, map-range_with_len_more, seats}
 
 pub place-at : (places : List ℕ) (n i d : ℕ) → places ≡ range_with_len 0 n → i < n → get_or places i d ≡ i
 place-at places n i d is lt = ap (λ x. get_or x i d) is ∙ (get_or-range_with_len 0 n i d lt ∙ omega arith)

@@ -1,15 +1,11 @@
 -- Recency lists of shards.
-use Rattle.std.proofs.Common.{◌≡◌, ◌%◌, ◌∙◌, ◌+◌, ◌<◌, ◌++◌, ℕ, zero, suc, List, [], ◌∷◌, Some, inl, inr, refl, subst, sym, ap, arith, nat_eq, length}
-use Rattle.std.specs.Prelude.{Contains, Result, Ok, Err, OnOk, OnErr, slice_get}
-use Rattle.std.specs.Ordering.{nat_cmp, eq_by_cmp}
+use Rattle.std.proofs.Common.{inl, inr}
+use Rattle.std.specs.Prelude.{Contains}
 use Rattle.std.specs.Map.{remove_entry}
-use Rattle.std.proofs.Math.ListN.{set}
-use Rattle.std.proofs.lemmas.List.{get_or-set_same, length-set}
-use Rattle.std.proofs.lemmas.List.FromFn.{get_or-map-range_with_len, length-map-range_with_len, map-range_with_len_more}
-use Rattle.std.proofs.lemmas.Option.{get_or_from_slice_get, slice_get-get_or, slice_get_within}
 use Rattle.lru.specs.LruCache.{LruCache, lru_cache, put_entries}
 use Rattle.lru.proofs.CallerLemmas.{Contains-put_entries, Contains-remove_entry}
-use Rattle.pcache_table.specs.Sharding.{AllInPlace, InPlace, LruPart, OwnKeys, new_lists, part_with, part_without}
+use Rattle.pcache_table.specs.Sharding.{AllInPlace, LruPart, OwnKeys, part_with, part_without}
+use Rattle.pcache_table.proofs.Words.{◌≡◌, ◌%◌, ◌∙◌, ◌+◌, ◌<◌, ◌++◌, ℕ, zero, suc, List, [], ◌∷◌, Some, refl, subst, sym, ap, arith, nat_eq, length, Result, Ok, Err, OnOk, OnErr, slice_get, nat_cmp, eq_by_cmp, set, get_or-set_same, length-set, get_or-map-range_with_len, length-map-range_with_len, map-range_with_len_more, get_or_from_slice_get, slice_get-get_or, slice_get_within, InPlace, new_lists}
 use Rattle.pcache_table.proofs.Sharded.{by_test, off_not}
 
 none_of : {X P : Type 0} (x : X) → Contains [] x → P

@@ -1,18 +1,12 @@
 -- Shards as one map.
-use Rattle.std.proofs.Common.{◌≡◌, ◌%◌, ◌==◌, ◌<◌, length, get_or, ℕ, Bool, true, false, Option, None, Some, List, [], ◌∷◌, ◌++◌, cond, refl, sym, ◌∙◌, ap, subst, zero, suc, arith}
-use Rattle.std.specs.Prelude.{slice_get, Result, Ok, Err, OnOk, OnErr}
-use Rattle.std.proofs.Math.ListN.{set}
-use Rattle.std.proofs.lemmas.Option.{get_or_from_slice_get, slice_get-get_or, slice_get_within}
-use Rattle.std.proofs.lemmas.List.{get_or-set_same, length-set}
+use Rattle.std.proofs.Common.{◌==◌}
 use Rattle.std.specs.Option.{option_or}
-use Rattle.std.specs.Ordering.{nat_cmp, eq_by_cmp}
-use Rattle.std.specs.declared.cmp.Ordering.TheVariants.{Equal}
-use Rattle.std.specs.Cmp.{nat_cmp_total, unsigned_tied}
-use Rattle.std.proofs.lemmas.Map.Lookups.{exact_unsigned}
+use Rattle.std.specs.Cmp.{unsigned_tied}
 use Rattle.std.proofs.lemmas.Map.Views.{tells_apart}
 use Rattle.std.proofs.lemmas.Bool.Decides.{nat_tests}
-use Rattle.std.specs.FinMap.{FinMap, empty, find, get, insert, remove, entries, get-empty, get-entries, get-from_entries, get-insert, get-remove, get-retain_keys, same_map}
-use Rattle.pcache_table.specs.Sharding.{Part, Belongs, Placed, AllPlaced, all_entries, one_map, part_of}
+use Rattle.std.specs.FinMap.{empty, get-empty, get-insert, get-remove, get-retain_keys}
+use Rattle.pcache_table.specs.Sharding.{Belongs, Placed, AllPlaced, all_entries, one_map}
+use Rattle.pcache_table.proofs.Words.{◌≡◌, ◌%◌, ◌<◌, length, get_or, ℕ, Bool, true, false, Option, None, Some, List, [], ◌∷◌, ◌++◌, cond, refl, sym, ◌∙◌, ap, subst, zero, suc, arith, slice_get, Result, Ok, Err, OnOk, OnErr, set, get_or_from_slice_get, slice_get-get_or, slice_get_within, get_or-set_same, length-set, nat_cmp, eq_by_cmp, Equal, nat_cmp_total, exact_unsigned, FinMap, find, get, insert, remove, entries, get-entries, get-from_entries, same_map, Part, part_of}
 
 -- keys that are tested equal, and keys that are not
 pub by_test : {P : Type 0} (q k : ℕ) (b : Bool) → eq_by_cmp nat_cmp q k ≡ b → (q ≡ k → P) → (eq_by_cmp nat_cmp q k ≡ false → P) → P

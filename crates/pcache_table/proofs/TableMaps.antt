@@ -1,18 +1,11 @@
 -- A tree's entries as a finite map from numbers.
-use Rattle.std.proofs.Common.{◌≡◌, ℕ, List, [], ◌∷◌, Option, Some, None, cond, ap, sym, ◌∙◌, Bool, true, false, ◌&&◌, T, subst}
-use Rattle.std.specs.Option.{option_map, IsSome, is_some, OnSome}
-use Rattle.std.specs.Ordering.{nat_cmp, is_lt}
-use Rattle.std.specs.Cmp.{nat_cmp_total}
-use Rattle.std.specs.BTreeMap.{is_at}
-use Rattle.std.specs.Map.{lookup, keys_of}
-use Rattle.std.specs.FinMap.{from_entries, get, insert, remove, get-from_entries, same_map, entries, from_sorted, get-from_sorted, entries-from_sorted}
-use Rattle.std.specs.FinMap.Entries.{is_sorted, below_all}
+use Rattle.std.specs.Option.{option_map, OnSome}
+use Rattle.std.specs.FinMap.{from_sorted, get-from_sorted, entries-from_sorted}
+use Rattle.std.specs.FinMap.Entries.{is_sorted}
 use Rattle.std.specs.List.{AllByRecursion}
 use Rattle.std.specs.List.Sorted.{IsStrictlySortedBy}
-use Rattle.std.specs.declared.cmp.Ordering.TheVariants.{Less}
 use Rattle.std.proofs.lemmas.Map.Keys.{sorted_head, sorted_tail}
-use Rattle.std.proofs.lemmas.Map.Lookups.{exact_unsigned}
-use Rattle.pcache_base.proofs.Maps.{get-made, made-insert, made-remove}
+use Rattle.pcache_table.proofs.Words.{◌≡◌, ℕ, List, [], ◌∷◌, Option, Some, None, cond, ap, sym, ◌∙◌, Bool, true, false, ◌&&◌, T, subst, IsSome, is_some, nat_cmp, is_lt, nat_cmp_total, is_at, lookup, keys_of, from_entries, get, insert, remove, get-from_entries, same_map, entries, below_all, Less, exact_unsigned, get-made, made-insert, made-remove}
 
 module _ {X : Type 0} where
   -- what the map has at a number

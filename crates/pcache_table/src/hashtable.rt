@@ -103,7 +103,7 @@ impl<V, const N: usize> Shards<V, N> {
         ensures value_returned { IfErr result (λ y. y.value ≡ (key, value)) }
         ensures absent { OnErr result (map.get self.old key ≡ None) }
     {
-        let _ = &self.shards; // for the prover: once a field is used, the invariant is known
+        let _ = &self.shards; // for the prover: each of the `N` shards is at its place
         let place = (key % N as u128) as usize;
         let shard = &mut self.shards[place];
         shard.insert(key, value)
@@ -114,7 +114,7 @@ impl<V, const N: usize> Shards<V, N> {
         ensures before { result ≡ map.get self.old key }
         ensures removed { self.new ≡ map.remove self.old key }
     {
-        let _ = &self.shards; // for the prover: once a field is used, the invariant is known
+        let _ = &self.shards; // for the prover: each of the `N` shards is at its place
         let place = (key % N as u128) as usize;
         let shard = &mut self.shards[place];
         shard.remove(key)

@@ -1,7 +1,7 @@
 -- A list's elements, from the first separator on.
-use Rattle.std.proofs.Common.{◌≡◌, ℕ, ◌+◌, Bool, true, false, cond, List, [], ◌∷◌, ◌++◌, take, drop, map, refl, ap}
 use Rattle.std.specs.List.{onto_first}
 use Rattle.pcache_validation.specs.Lists.{separates, quoted_after, parts, trim_ows, elements}
+use Rattle.pcache_validation.proofs.Words.{◌≡◌, ℕ, ◌+◌, Bool, true, false, cond, List, [], ◌∷◌, ◌++◌, take, drop, map, refl, ap}
 
 -- the parts, with a list put before the first
 abbrev pub joined : List ℕ → List (List ℕ) → List (List ℕ)

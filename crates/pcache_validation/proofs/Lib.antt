@@ -2,3 +2,4 @@ mod Elements
 mod Shown
 mod Updates
 mod TagsRead
+pub mod Words

@@ -1,11 +1,7 @@
 -- The fields of a head, as a meta shows them.
-use Rattle.std.proofs.Common.{◌≡◌, ℕ, Bool, true, false, cond, ◌||◌, List, [], ◌∷◌, map, refl, ap, ◌∙◌, bytes_eq}
-use Rattle.std.specs.Prelude.{slice_get}
-use Rattle.std.specs.List.{list_any}
-use Rattle.http_header.specs.FieldValue.{FieldValue}
-use Rattle.http_header.specs.HeaderMap.{Entries, get, get_all}
 use Rattle.pcache_meta.specs.Header.{shown_fields}
-use Rattle.pcache_validation.specs.Fields.{lines, first, only, only_of, bytes_of}
+use Rattle.pcache_validation.specs.Fields.{lines, first, only, only_of}
+use Rattle.pcache_validation.proofs.Words.{◌≡◌, ℕ, Bool, true, false, cond, ◌||◌, List, [], ◌∷◌, map, refl, ap, ◌∙◌, bytes_eq, slice_get, list_any, FieldValue, Entries, get, get_all, bytes_of}
 
 abbrev pub bytes : FieldValue → List ℕ
 bytes value = value.bytes

@@ -1,5 +1,5 @@
 -- What is read as an entity tag is what the grammar spells.
-use Rattle.std.proofs.Common.{◌≡◌, ℕ, ◌+◌, ◌-◌, ◌<◌, ◌≤◌, Bool, true, false, ◌&&◌, cond, List, [], ◌∷◌, ◌++◌, length, take, drop, get_or, Some, None, refl, ap, ◌∙◌, subst, arith, length-append, add-one}
+use Rattle.std.proofs.Common.{◌-◌, ◌≤◌, get_or, length-append, add-one}
 use Rattle.std.specs.Prelude.{nat_le, ◌==◌, slice_index, slice_range}
 use Rattle.std.specs.List.{list_all}
 use Rattle.std.proofs.Math.Seq.{take-append_seam, get_or-append_seam}
@@ -7,6 +7,7 @@ use Rattle.std.proofs.lemmas.List.{drop_more, drop_all}
 use Rattle.std.proofs.lemmas.List.Folds.{drop_split}
 use borrow.Author.Tests.{leb-true, le-leb, eqb-true}
 use Rattle.pcache_validation.specs.EntityTags.{Tag, Spells, after_mark, characters_in, is_etagc, is_marked, is_quoted, mark, opaque_in, quoted, read_by, tag_in, tagged}
+use Rattle.pcache_validation.proofs.Words.{◌≡◌, ℕ, ◌+◌, ◌<◌, Bool, true, false, ◌&&◌, cond, List, [], ◌∷◌, ◌++◌, length, take, drop, Some, None, refl, ap, ◌∙◌, subst, arith}
 
 both : (a b : Bool) → (a && b) ≡ true → (a ≡ true) × (b ≡ true)
 both true true is = (refl, refl)

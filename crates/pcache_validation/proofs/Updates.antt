@@ -1,10 +1,8 @@
 -- Fields that are taken out of a head, and put into one.
-use Rattle.std.proofs.Common.{◌≡◌, ◌≢◌, ℕ, suc, ◌<◌, Bool, true, false, not, cond, ◌&&◌, ◌||◌, List, [], ◌∷◌, ◌++◌, length, Option, Some, None, MatchOption, Result, Ok, Err, refl, sym, ap, ◌∙◌, subst, bytes_eq, arith, append_assoc, append-nil}
-use Rattle.std.specs.Prelude.{slice_get, is_some, codes, All, OnOk}
-use Rattle.std.specs.List.{list_any}
+use Rattle.std.proofs.Common.{◌≢◌, suc, not, Option, MatchOption, Result, Ok, Err, append_assoc, append-nil}
+use Rattle.std.specs.Prelude.{is_some, All, OnOk}
 use Rattle.std.proofs.lemmas.Slice.Eq.{bytes_eq-Decides}
-use Rattle.http_header.specs.FieldValue.{FieldValue}
-use Rattle.http_header.specs.HeaderMap.{Entries, append, get, get_all, index_of, keys, remove, remove_at, IsHeaderMap, IsUnique}
+use Rattle.http_header.specs.HeaderMap.{append, index_of, keys, remove_at, IsHeaderMap, IsUnique}
 use Rattle.http_header.specs.Places.{IsAbsent, IsAt}
 use Rattle.http_header.specs.Token.{lowercase}
 use Rattle.http_header.proofs.BucketsLemmas.{IsUnique-swap_remove}
@@ -12,8 +10,9 @@ use Rattle.http_header.proofs.HeaderMapLemmas.{get_all-remove_same, get_all-remo
 use Rattle.http_header.proofs.PlacesLemmas.{index_of_cases}
 use Rattle.pcache_base.specs.declared.error.ErrorType.{ErrorType}
 use Rattle.pcache_validation.specs.Lists.{elements}
-use Rattle.pcache_validation.specs.Updating.{is_among, is_left_out, left_out, of_the_body, of_the_connection, of_the_message, of_the_proxy, without_names, without_lines, with_lines, AreSameBut, IsBroughtIn, IsUpdated, Takes}
+use Rattle.pcache_validation.specs.Updating.{is_among, is_left_out, left_out, of_the_body, of_the_connection, of_the_message, of_the_proxy, AreSameBut, IsBroughtIn, IsUpdated, Takes}
 use Rattle.pcache_validation.specs.declared.updating.StoredBody.{StoredBody}
+use Rattle.pcache_validation.proofs.Words.{◌≡◌, ℕ, ◌<◌, Bool, true, false, cond, ◌&&◌, ◌||◌, List, [], ◌∷◌, ◌++◌, length, Some, None, refl, sym, ap, ◌∙◌, subst, bytes_eq, arith, slice_get, codes, list_any, FieldValue, Entries, get, get_all, remove, without_names, without_lines, with_lines}
 
 -- ---- what is taken out
 

@@ -15,6 +15,7 @@ use http_header::{DATE, ETAG, HeaderMap, HeaderName, HeaderValue, LAST_MODIFIED}
 pub fn if_none_match(stored: &HeaderMap) -> Option<&HeaderValue>
     ensures { bytes_of (option_copied result) ≡ sent_tag (shown_fields stored.now) }
 {
+    // A sender may not send what the grammar does not have.
     if entity_tag(stored).is_none() {
         return None;
     }

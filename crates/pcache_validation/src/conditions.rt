@@ -68,6 +68,7 @@ fn lists_tag(selected: Option<&EntityTag<'_>>, line: &[u8]) -> bool
     ensures { result ≡ lists_tag (option_copied selected.entry) line.now }
 {
     for element in Elements::of(line) {
+        // Each element by itself, so that a list matches by those that are entity tags.
         if matches_weakly(EntityTag::read(element), selected) {
             return true;
         }
@@ -123,6 +124,7 @@ pub fn modified_at(stored: &HeaderMap, received: Moment) -> Option<Moment>
     ensures { result ≡ modified_at (shown_fields stored.now) received }
 {
     if has(stored, &LAST_MODIFIED) {
+        // One that is no date hides Date: the response says that it was modified, and not when.
         return moment_of(last_modified(stored));
     }
     Some(moment_of(date_of(stored, &DATE)).unwrap_or(received))
@@ -209,6 +211,8 @@ fn range_condition_holds(request: &HeaderMap, stored: &HeaderMap) -> bool
     ensures { result ≡ range_condition_holds (shown_fields request.now) (shown_fields stored.now) }
 {
     let tag = entity_tag(stored);
+    // By its tag alone: a date is a strong validator only by what is known of the origin's clock
+    // (RFC 9110 section 8.8.2.2).
     matches_strongly(condition_tag(request), tag.as_ref())
 }
 

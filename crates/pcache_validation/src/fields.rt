@@ -36,6 +36,8 @@ fn only_value<'a>(fields: &'a HeaderMap, name: &HeaderName) -> Option<&'a Header
 {
     let mut values = fields.get_all(name).iter();
     let value = values.next()?;
+    // Which of two is meant is not known, so there is none: a response is then served whole, or
+    // asked for again.
     if values.next().is_some() {
         return None;
     }

@@ -31,6 +31,8 @@ fn corresponds(new: &HeaderMap, stored: &HeaderMap) -> bool
     ensures { result ≡ corresponds (shown_fields new.now) (shown_fields stored.now) }
 {
     let tag = entity_tag(new);
+    // A tag decides, and not the date beside it: RFC 9110, section 13.1.3, calls it the more
+    // accurate one, and RFC 9111 leaves open what several weak validators must agree on.
     if tag.is_none() {
         return same_second(last_modified(new), last_modified(stored));
     }

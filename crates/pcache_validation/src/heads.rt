@@ -44,6 +44,7 @@ fn agrees(head: &HeaderMap, stored: &HeaderMap) -> bool
 {
     agrees_on(&ETAG, head, stored)
         && agrees_on(&LAST_MODIFIED, head, stored)
+        // One without a Content-Length differs too: its body's length is not in its head.
         && agrees_on(&CONTENT_LENGTH, head, stored)
 }
 

@@ -10,6 +10,7 @@ ghost use Rattle.pcache_validation.specs.Updating.{of_the_body, of_the_connectio
 use crate::lists::Elements;
 use http_header::{CONNECTION, HeaderMap, HeaderMapError, HeaderName, HeaderValue};
 use pcache_base::error::{Error, ErrorType, Result};
+use std::alloc::AllocError;
 
 /// How a body is stored.
 #[derive(Clone, Copy, Debug, PartialEq, Eq)]
@@ -72,6 +73,7 @@ fn take_out_of_message(headers: &mut HeaderMap)
     ensures { headers.new ≡ without_names headers.old of_the_message }
 {
     take_out(headers, "content-length");
+    // Content-Range may be left out (RFC 9111 section 3.2).
     take_out(headers, "content-range");
 }
 
@@ -81,6 +83,7 @@ fn take_out_of_body(headers: &mut HeaderMap, body: StoredBody)
 {
     match body {
         StoredBody::AsReceived => {}
+        // Only the caller knows that the body is no longer as these fields say.
         StoredBody::Processed => {
             take_out(headers, "content-encoding");
             take_out(headers, "content-type");
@@ -126,7 +129,7 @@ fn replace(updated: &mut HeaderMap, name: &HeaderName, brought: &HeaderMap) -> R
     ensures others { OnOk result (AreSameBut name.now updated.old updated.new) }
     ensures kind { IfErr result (λ e. (e ≡ OutOfMemory) ⊎ (e ≡ InternalError)) }
 {
-    // For the prover: its contract says what holds of each map.
+    // For the prover: it is a valid map of fields (`IsHeaderMap`).
     let _names = updated.keys_len();
     let _removed = updated.remove(name);
     append_lines(updated, name, brought)
@@ -137,7 +140,7 @@ fn replace_all(updated: &mut HeaderMap, brought: &HeaderMap) -> Result<()>
     ensures ok { OnOk result (Takes brought.now updated.old updated.new) }
     ensures kind { IfErr result (λ e. (e ≡ OutOfMemory) ⊎ (e ≡ InternalError)) }
 {
-    // For the prover: its contract says what holds of each map.
+    // For the prover: it is a valid map of fields (`IsHeaderMap`).
     let _names = brought.keys_len();
     'names: for name in brought.keys() {
         replace(updated, name, brought)?;
@@ -146,19 +149,17 @@ fn replace_all(updated: &mut HeaderMap, brought: &HeaderMap) -> Result<()>
 }
 
 // A copy of fields.
-fn copied(headers: &HeaderMap) -> Result<HeaderMap>
+fn copied(headers: &HeaderMap) -> Result<HeaderMap, AllocError>
     ensures ok { IfOk result (λ copy. copy ≡ headers.now) }
-    ensures kind { IfErr result (λ e. e ≡ OutOfMemory) }
 {
-    Ok(headers.clone()?)
+    headers.clone()
 }
 
 // A copy of the fields of a newer response, without those that are left out.
-fn brought_in(new: &HeaderMap, body: StoredBody) -> Result<HeaderMap>
+fn brought_in(new: &HeaderMap, body: StoredBody) -> Result<HeaderMap, AllocError>
     ensures ok { IfOk result (IsBroughtIn body new.now) }
-    ensures kind { IfErr result (λ e. e ≡ OutOfMemory) }
 {
-    // For the prover: its contract says what holds of each map.
+    // For the prover: it is a valid map of fields (`IsHeaderMap`).
     let _names = new.keys_len();
     let mut brought = copied(new)?;
     take_out_named(&mut brought, new);

@@ -8,7 +8,7 @@ use Rattle.pcache_lock.specs.Locks.{held_by, unless_free, changed}
 use Rattle.pcache_lock.specs.Waiting.{with_publication}
 use Rattle.pcache_history.specs.Deeds.{Did}
 use Rattle.pcache_world.specs.LockMoves.{held_moved}
-use Rattle.pcache_world.proofs.Words.{◌≡◌, ◌≢◌, ℕ, ◌+◌, ◌^◌, ◌<◌, ◌==◌, Bool, true, false, cond, if◌then◌else◌, Option, None, Some, is_some, List, [], ◌∷◌, ◌++◌, reverse, refl, ap, sym, subst, ◌∙◌, arith, get, eqb-true, UnusableFill, Pending, PermitState, Locked, Write, LockStatus, IsReason, Granted, Joined, Released, Published, is_held, Core, Permit, Watch, publications_at, readers_at, Locks, holder, lock_given, after_request, is_permit, number_of_lock, answer_at, is_old, watched, polled, published, reader_at, reader_polled, permit_state, told_or_pending, watch_at, publications_with, is_old_at, is_old_result, too_old_for, let_go_by, settled, Deed, Polled, done, who_holds, shown, shown_first, shown_more, publication, LockMove, rests, asks, settles, lets_go, publishes, polls, ages, each_deed, deeds_moved, table_moved, table_polled, MayMove, MovesLocks, IsTable, Holds, IsWatch, last_of, locks_read, permit_of, kept-if, same-number}
+use Rattle.pcache_world.proofs.Words.{◌≡◌, ◌≢◌, ℕ, ◌+◌, ◌^◌, ◌<◌, ◌==◌, Bool, true, false, cond, if◌then◌else◌, Option, None, Some, is_some, List, [], ◌∷◌, ◌++◌, reverse, refl, ap, sym, subst, ◌∙◌, arith, get, eqb-true, UnusableFill, Pending, PermitState, Locked, Write, LockStatus, IsReason, Granted, Joined, Released, Published, is_held, Core, Permit, Watch, publications_at, readers_at, Locks, holder, lock_given, after_request, is_permit, number_of_lock, answer_at, is_old, watched, polled, published, reader_at, reader_polled, permit_state, told_or_pending, watch_at, publications_with, is_old_at, is_old_result, too_old_for, let_go_by, settled, Deed, Polled, done, who_holds, shown, shown_first, shown_more, publication, LockMove, rests, asks, settles, lets_go, publishes, polls, ages, each_deed, deeds_moved, table_moved, table_polled, MayMoveLock, MovesLocks, IsTable, Holds, IsWatch, last_of, locks_read, permit_of, kept-if, same-number}
 use Rattle.pcache_lock.specs.declared.lock.outcome.PermitState.TheVariants as stage
 use Rattle.pcache_world.proofs.LockTable as table
 use Rattle.pcache_world.proofs.LockTable.{Follows, some-same, given-there, held-given, read-there, who-held}
@@ -282,7 +282,7 @@ pub reversed-two : (d : Deed) (f : ℕ → Deed) (o : Option ℕ) (ds : List Dee
 reversed-two d f None ds = refl
 reversed-two d f (Some x) ds = refl
 
-moved-kept : (r : ℕ) (ds : List Deed) (n m : ℕ → ℕ) (t : Locks) (move : LockMove) (mine : Option Locked) → IsTable ds n t → Holds r ds t mine → MayMove move mine t → ((l : ℕ) → n l + 1 < 2 ^ 128)
+moved-kept : (r : ℕ) (ds : List Deed) (n m : ℕ → ℕ) (t : Locks) (move : LockMove) (mine : Option Locked) → IsTable ds n t → Holds r ds t mine → MayMoveLock move mine t → ((l : ℕ) → n l + 1 < 2 ^ 128)
     → ((l : ℕ) → m l + locks_read l mine ≡ n l + locks_read l (held_moved move mine t)) → Kept r ds (reverse (deeds_moved move r mine t) ++ ds) n m t (table_moved move mine t) (held_moved move mine t)
 moved-kept r ds n m t rests mine k holds may few count = rest-kept r ds n m t mine k holds count
 moved-kept r ds n m t (asks slot stale at) mine k holds may few count =

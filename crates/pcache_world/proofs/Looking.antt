@@ -11,7 +11,7 @@ use Rattle.pcache_request.specs.Witnesses.{HasHeard, passed_over}
 use Rattle.pcache_store.specs.Store.{Reader, find}
 use Rattle.pcache_history.specs.Ongoing.{asked, policy_in}
 use Rattle.pcache_history.specs.Rules.{look_reply}
-use Rattle.pcache_world.specs.Moved.{Act, Acts, Did}
+use Rattle.pcache_world.specs.Moved.{Act, RunsActs, Did}
 use Rattle.pcache_world.specs.Step.{asked_answer, asking_if, held_after_look, look_answer, permit_in}
 use Rattle.pcache_history.proofs.ReadsLaw.{asked-reader, decided-reader, decided-held}
 use Rattle.pcache_world.proofs.Words.{◌≡◌, ℕ, ◌&&◌, Bool, true, false, cond, Option, None, Some, IsSome, is_none, List, [], ◌∷◌, ◌++◌, refl, ap, sym, subst, ◌∙◌, inl, inr, ◌≤◌, ◌^◌, ◌⊎◌, Result, Ok, Err, IfOk, IfErr, Key, slot, ErrorType, Locks, MayFailLock, TransientError, Meta, Decision, decided, decision_taken, is_deferral, with_decision, IsDisabled, MayLookUp, disabled_for, disabled_in, found_for, left_by, dropped_by, reader_in, settled, asked_for_key, is_unseen, table_key_locked, visible, with_key_lock, AskedLock, LookUp, CachePhase, reader_of, Store, followed, left, MemHitHandler, Reply, Answer, Nothing, Event, deeds_by, KeepsIn, KeepsKey, Owed, Facts, Ongoing, after_look, carrying, decides, looked_by, pair_of, pair_reader, HandsOn, Looks, LooksOn, Misses, drop_of, each, Limits, At, Joins, Leaves, IsNextAt, MovesStore, after_event, after_join, after_leave, at_call, Moves, asking, noted_look, MovesLocks, facts_in, LookNote}
@@ -310,7 +310,7 @@ next-carried limits d x None a (E.Finish w false) due = due
 next-carried limits d x None a e due = due
 next-carried limits d x (Some n) a e due = due
 
-acts-carried : (limits : Limits) (d : Option Decision) (x : Ongoing) (acts : List Act) (a b : At) → Acts limits (Some (carrying d x)) acts a b → Acts limits (Some x) acts a b
+acts-carried : (limits : Limits) (d : Option Decision) (x : Ongoing) (acts : List Act) (a b : At) → RunsActs limits (Some (carrying d x)) acts a b → RunsActs limits (Some x) acts a b
 acts-carried limits d x [] a b same = same
 acts-carried limits d x (Did e ∷ acts) a b h = (next-carried limits d x a.owed a e h.0, acts-carried limits d x acts (after_event e a) b h.1)
 acts-carried limits d x (Joins p ∷ acts) a b h = (h.0, acts-carried limits d x acts (after_join p a) b h.1)

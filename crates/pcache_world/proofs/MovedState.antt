@@ -2,7 +2,7 @@
 use Rattle.std.proofs.lemmas.Bool.{not-true, not-false}
 use Rattle.pcache_store.specs.Store.{Reader}
 use Rattle.pcache_history.specs.Events.{track}
-use Rattle.pcache_world.specs.Moved.{Act, Did, did, owing, Acts}
+use Rattle.pcache_world.specs.Moved.{Act, Did, did, owing, RunsActs}
 use Rattle.pcache_history.proofs.Runs.{turned}
 use Rattle.pcache_history.proofs.Tidy.{tidy-look, tidy-ask, tidy-access, tidy-release, tidy-let_go, tidy-aged, tidy-untrack, tidy-read, tidy-purge, tidy-expire, tidy-renew, tidy-admit, tidy-begin, tidy-wrote, tidy-refused, tidy-dropped, tidy-finish}
 use Rattle.pcache_world.proofs.Words.{◌≡◌, ℕ, ◌+◌, true, false, not, ◌&&◌, if◌then◌else◌, Option, None, Some, is_some, List, [], ◌∷◌, ◌++◌, refl, ap, sym, subst, ◌∙◌, arith, inl, reverse, FinMap, get, insert, remove, nat_cmp, share, Meta, numbered, CacheEntryKey, Tracked, Limits, PurgesAll, entry_purged, Store, Whole, Part, is_untouched, Event, Owed, makes, owes, MaySettle, IsNext, AreDue, begin_of, is_removed, has_ended, in_flight, tracked, Ongoing, pair_reader, Joins, Leaves, At, after_event, after_join, after_leave, IsNextAt, IsThereFor, evicted_from, MovesBy, reads_of, follows, readers, readers_in, IsState, IsTidy, same-number}
@@ -175,7 +175,7 @@ pub record Done (limits : Limits) (start : Tracked) (es : List Event) (q : Optio
   pub due : AreDue limits start es q a.write a.owed events b.write
 
 module _ (limits : Limits) (start : Tracked) (q : Option Ongoing) (others : ℕ → ℕ) (b : At) (none : b.owed ≡ None) where
-  acts-kept : (acts : List Act) (es : List Event) (a : At) → IsKept start es others a → Acts limits q acts a b → Done limits start es q (did acts) others a b
+  acts-kept : (acts : List Act) (es : List Event) (a : At) → IsKept start es others a → RunsActs limits q acts a b → Done limits start es q (did acts) others a b
   acts-kept [] es a k same = record {
     kept = record {
       tidy = k.tidy;

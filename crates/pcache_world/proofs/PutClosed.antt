@@ -5,7 +5,7 @@ use Rattle.pcache_put.specs.Steps.{EndsEarly, TellsResult, stage_ended, write_en
 use Rattle.pcache_request.specs.Requests.{Request}
 use Rattle.pcache_request.specs.WriteEnds.{EndsBody, EndsWrite as EndsIn, HoldsNoLock}
 use Rattle.pcache_history.specs.Due.{reader_for}
-use Rattle.pcache_world.specs.Moved.{Act, Did, Acts}
+use Rattle.pcache_world.specs.Moved.{Act, Did, RunsActs}
 use Rattle.pcache_history.specs.PutHistory.{Tells}
 use Rattle.pcache_world.specs.PutSteps.{IsUnwritten, IsWritten, end_reply}
 use Rattle.pcache_history.specs.Rules.{ClosesAt, EndsFilling}
@@ -33,7 +33,7 @@ next-like limits (Some n) a q r (E.Purge k) slots readers d = slots ∙ d
 next-like limits (Some n) a q r (E.Release l) slots readers d = d
 next-like limits (Some n) a q r e slots readers d = absurd d
 
-acts-like : (limits : Limits) (q r : Option Ongoing) (acts : List Act) (a b c : At) → slot_of r ≡ slot_of q → reader_for r ≡ reader_for q → Acts limits q acts a b → IsSame b c → Acts limits r acts a c
+acts-like : (limits : Limits) (q r : Option Ongoing) (acts : List Act) (a b c : At) → slot_of r ≡ slot_of q → reader_for r ≡ reader_for q → RunsActs limits q acts a b → IsSame b c → RunsActs limits r acts a c
 acts-like limits q r [] a b c slots readers same on = record {
   count = λ w. on.count w ∙ same.count w;
   write = on.write ∙ same.write;

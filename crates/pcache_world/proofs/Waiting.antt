@@ -13,7 +13,7 @@ use Rattle.pcache_history.specs.Deeds.{Did, handed_on}
 use Rattle.pcache_history.specs.Ongoing.{was_other, was_taken}
 use Rattle.pcache_history.specs.Waiting.{then_waiting, waiting_after, IsGiven}
 use Rattle.pcache_world.specs.TableWaiting.{waiting_of, IsReached, LocksMoved}
-use Rattle.pcache_world.proofs.Words.{◌≡◌, ℕ, Bool, true, false, ◌||◌, cond, Option, None, Some, List, [], ◌∷◌, ◌++◌, refl, ap, sym, subst, ◌∙◌, reverse, list_any, get, get-empty, nat_cmp, UnusableFill, Pending, Locks, no_locks, holder, lock_given, after_request, released, let_go, is_permit, number_of_lock, Core, Permit, IsReason, after_poll, answer_at, is_old, watched, polled, published, permit_state, told_or_pending, watch_at, is_old_at, next-then, next_by, begins, grows, PermitState, Locked, Write, LockStatus, GiveUp, NoCacheReason, published_by, is_old_result, too_old_for, status_for, let_go_by, settled, Event, Deed, deed_of, deeds_by, deeds_in, held_in, moment_of, published_on, said_by, status_left, Ongoing, ReplyKind, was_done, was_waited, was_wrong, LockMove, MayMove, MovesLocks, ages, asks, deeds_moved, each_deed, lets_go, polls, publishes, rests, settles, table_moved, table_polled, each, number_read, permit_of, Waiting, waiting_in, AreGiven, IsOfNoLock, AreOfNoLock, IsLocked}
+use Rattle.pcache_world.proofs.Words.{◌≡◌, ℕ, Bool, true, false, ◌||◌, cond, Option, None, Some, List, [], ◌∷◌, ◌++◌, refl, ap, sym, subst, ◌∙◌, reverse, list_any, get, get-empty, nat_cmp, UnusableFill, Pending, Locks, no_locks, holder, lock_given, after_request, released, let_go, is_permit, number_of_lock, Core, Permit, IsReason, after_poll, answer_at, is_old, watched, polled, published, permit_state, told_or_pending, watch_at, is_old_at, next-then, next_by, begins, grows, PermitState, Locked, Write, LockStatus, GiveUp, NoCacheReason, published_by, is_old_result, too_old_for, status_for, let_go_by, settled, Event, Deed, deed_of, deeds_by, deeds_in, held_in, moment_of, published_on, said_by, status_left, Ongoing, ReplyKind, was_done, was_waited, was_wrong, LockMove, MayMoveLock, MovesLocks, ages, asks, deeds_moved, each_deed, lets_go, polls, publishes, rests, settles, table_moved, table_polled, each, number_read, permit_of, Waiting, waiting_in, AreGiven, IsOfNoLock, AreOfNoLock, IsLocked}
 use Rattle.pcache_lock.specs.Permits as permits
 use Rattle.pcache_lock.specs.Deeds as table
 use Rattle.pcache_lock.specs.declared.lock.outcome.PermitState.TheVariants as stage
@@ -194,7 +194,7 @@ ages-by r t fills at (Some (Read rd)) old =
     is-old None e = absurd (cc)
     is-old (Some c) e = at-stage (permit_state at c) (watched c (watch_at c fills rd.watch)) e
 
-steps-by : (move : LockMove) (r : ℕ) (mine : Option Locked) (t : Locks) → MayMove move mine t → Steps t (spoken (deeds_moved move r mine t)) (table_moved move mine t)
+steps-by : (move : LockMove) (r : ℕ) (mine : Option Locked) (t : Locks) → MayMoveLock move mine t → Steps t (spoken (deeds_moved move r mine t)) (table_moved move mine t)
 steps-by rests r mine t may = quiet t t [] tt refl
 steps-by (asks k stale at) r mine t may =
     let u = after_request t k stale at (holder t k) in

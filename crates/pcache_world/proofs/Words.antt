@@ -91,7 +91,7 @@ pub use Rattle.pcache_store.specs.declared.memory.hit.MemHitHandler.{MemHitHandl
 pub use Rattle.pcache_world.specs.Evicting.{AddsEvicted}
 pub use Rattle.pcache_world.specs.FilesCalls.{AnswersFiles, HasCause, HasSaved}
 pub use Rattle.pcache_world.specs.Handing.{of_one, of_two, open_at, taker_at}
-pub use Rattle.pcache_world.specs.LockMoves.{LockMove, MayMove, MovesLocks, ages, asks, deeds_moved, each_deed, lets_go, polls, publishes, rests, settles, table_moved, table_polled}
+pub use Rattle.pcache_world.specs.LockMoves.{LockMove, MayMoveLock, MovesLocks, ages, asks, deeds_moved, each_deed, lets_go, polls, publishes, rests, settles, table_moved, table_polled}
 pub use Rattle.pcache_world.specs.LockTable.{Holds, IsTable, IsWatch, last_of, locks_read, read_locks}
 pub use Rattle.pcache_world.specs.Moved.{At, IsNextAt, IsSame, IsThereFor, Joins, Leaves, Moves, MovesBy, MovesRequest, MovesStore, after_event, after_join, after_leave, at_call, evicted_from, reads_of}
 pub use Rattle.pcache_world.specs.Opens.{held_with, open_with}

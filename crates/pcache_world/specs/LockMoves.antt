@@ -92,16 +92,16 @@ IsPolled fills at t (Some (Write p)) = ⊥
 IsPolled fills at t (Some (Read rd)) = polled at fills rd.watch (get t.cores rd.number) ≡ Pending
 
 -- a move may be made
-abbrev pub MayMove : LockMove → Option Locked → Locks → Type 0
-MayMove (settles s) mine t = IsReason s
-MayMove (polls fills at) mine t = IsPolled fills at t mine
-MayMove (ages fills at) mine t = too_old_for t at mine fills ≡ true
-MayMove _ mine t = Unit {0}
+abbrev pub MayMoveLock : LockMove → Option Locked → Locks → Type 0
+MayMoveLock (settles s) mine t = IsReason s
+MayMoveLock (polls fills at) mine t = IsPolled fills at t mine
+MayMoveLock (ages fills at) mine t = too_old_for t at mine fills ≡ true
+MayMoveLock _ mine t = Unit {0}
 
 -- these deeds are those of a move of the request r, from a table and the lock that it holds to those after it
 pub record MovesLocks (r : ℕ) (deeds : List Deed) (mine : Option Locked) (t : Locks) (last : Option Locked) (u : Locks) : Type 0 where
   pub move : LockMove
-  pub may : MayMove move mine t
+  pub may : MayMoveLock move mine t
   pub done : deeds ≡ deeds_moved move r mine t
   pub held : last ≡ held_moved move mine t
   pub table : u ≡ table_moved move mine t

@@ -116,15 +116,15 @@ pub record IsSame (a b : At) : Type 0 where
   pub tracked : b.tracked ≡ a.tracked
 
 -- from a to b by these acts, for a request that was q before the call
-abbrev pub Acts : Limits → Option Ongoing → List Act → At → At → Type 0
-Acts limits q [] a b = IsSame a b
-Acts limits q (Did e ∷ acts) a b = IsNextAt limits a.owed a q e × Acts limits q acts (after_event e a) b
-Acts limits q (Joins p ∷ acts) a b = IsThereFor a.store (pair_reader p) × Acts limits q acts (after_join p a) b
-Acts limits q (Leaves r ∷ acts) a b = (m : ℕ → ℕ) × ((w : ℕ) → a.count w ≡ m w + follows w r) × Acts limits q acts (after_leave m r a) b
+abbrev pub RunsActs : Limits → Option Ongoing → List Act → At → At → Type 0
+RunsActs limits q [] a b = IsSame a b
+RunsActs limits q (Did e ∷ acts) a b = IsNextAt limits a.owed a q e × RunsActs limits q acts (after_event e a) b
+RunsActs limits q (Joins p ∷ acts) a b = IsThereFor a.store (pair_reader p) × RunsActs limits q acts (after_join p a) b
+RunsActs limits q (Leaves r ∷ acts) a b = (m : ℕ → ℕ) × ((w : ℕ) → a.count w ≡ m w + follows w r) × RunsActs limits q acts (after_leave m r a) b
 
 -- the same by the events alone: there are acts with these events
 abbrev pub MovesBy : Limits → Option Ongoing → List Event → At → At → Type 0
-MovesBy limits q events a b = (acts : List Act) × (did acts ≡ events) × Acts limits q acts a b
+MovesBy limits q events a b = (acts : List Act) × (did acts ≡ events) × RunsActs limits q acts a b
 
 -- the readers of an open request, or of none
 abbrev pub reads_of : Option Ongoing → ℕ → ℕ

@@ -7,6 +7,7 @@ pub fn node_of(hash: u64, nodes: &[u64]) -> Option<u64>
     ensures some { IfSome result (λ node. GoesTo hash nodes.now node) }
     ensures none { result ≡ None → nodes.now ≡ [] }
 {
+    // By the highest hash, so that a node which goes moves only its own keys.
     let mut best = *nodes.first()?;
     for place in 1..nodes.len() {
         best = winner(hash, best, nodes[place]);
@@ -31,6 +32,8 @@ fn winner(hash: u64, one: u64, other: u64) -> u64
 fn score(hash: u64, node: u64) -> u64
     ensures { result ≡ score hash node }
 {
+    // Mixed twice, since the numbers of nodes are near each other. BLAKE2b of each pair would take
+    // longer than all else.
     mixed(hash ^ mixed(node.wrapping_add(1)))
 }
 

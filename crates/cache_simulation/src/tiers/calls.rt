@@ -72,6 +72,8 @@ impl Tiers {
             × (self.new.size ≡ self.old.size) }
         ensures kind { IfErr result (λ e. (e ≡ OutOfMemory) ⊎ (e ≡ NumbersExhausted)) }
     {
+        // A request at a time, in one thread: the shield is asked in the order in which nodes
+        // missed.
         let Some(number) = node_of(hash, self.there.as_slice()) else {
             return self.ask_shield(asked);
         };
@@ -180,6 +182,7 @@ fn empty_shield(
     ensures kind { IfErr result (λ e. e ≡ OutOfMemory) }
 {
     match size {
+        // Of the policy of the nodes: two policies would be a table in two dimensions.
         Some(size) => Ok(Some(Cache::new(alloc, setting, policy, size)?)),
         None => Ok(None),
     }

@@ -32,7 +32,7 @@ fn take_out(headers: &mut HeaderMap, name: &HeaderName)
         → name.now ≢ other
         → get_all headers.new other ≡ get_all headers.old other }
 {
-    // For the prover: its contract says what holds of each map.
+    // For the prover: it is a valid map of fields (`IsHeaderMap`).
     let _names = headers.keys_len();
     let _removed = headers.remove(name);
 }
@@ -87,17 +87,18 @@ fn copy_field(
     ensures map { OnOk result (IsHeaderMap headers.new) }
 {
     let Some(value) = stored.get(from) else {
-        // For the prover: its contract says what holds of each map.
+        // For the prover: it is a valid map of fields (`IsHeaderMap`).
         let _names = headers.keys_len();
         return Ok(());
     };
+    // Before the value is copied, so that a call fails for memory only where there is room.
     if is_full(headers) {
         return Err(Error::new(ErrorType::InternalError));
     }
     let value = value.clone()?;
     match headers.insert(to, value) {
         Ok(_) => {
-            // For the prover: its contract says what holds of each map.
+            // For the prover: it is a valid map of fields (`IsHeaderMap`).
             let _names = headers.keys_len();
             Ok(())
         }
@@ -143,7 +144,7 @@ fn ask(headers: &mut HeaderMap, meta: &CacheMeta) -> Result<()>
     ensures no_room { LacksRoom headers.old meta.now.header.fields → IsErr result }
     ensures nothing { HasNoValidator meta.now.header.fields → IsOk result }
 {
-    // For the prover: its contract says what holds of each map.
+    // For the prover: it is a valid map of fields (`IsHeaderMap`).
     let _names = headers.keys_len();
     ask_since(headers, meta)?;
     ask_unlike(headers, meta)

@@ -180,6 +180,7 @@ impl Ord for CacheEntryKey {
     ghost matches_eq = { entry_ties };
 
     fn cmp(&self, other: &CacheEntryKey) -> Ordering {
+        // As the Rust derives it on the enum: entries without a number come before all with one.
         let has_id = self.entry_id().is_some();
         has_id
             .cmp(&other.entry_id().is_some())

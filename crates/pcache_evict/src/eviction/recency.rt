@@ -15,7 +15,7 @@ ghost use Rattle.pcache_evict.specs.Chain.{IsWithinTotals, Walks};
 use super::CacheEntryKey;
 use lru::{Iter, LruCache};
 use pcache_base::error::Result;
-use std::alloc::Global;
+use std::alloc::{AllocError, Global};
 use std::hash::BuildHasher;
 use std::marker::Model;
 
@@ -26,6 +26,7 @@ use std::marker::Model;
 pub(super) struct RecencyList<S: BuildHasher> {
     cache: Weights<S>,
     weight: u128,
+    // Kept beside the table too, since a load works on a copy of the list.
     seed: S,
 }
 
@@ -45,9 +46,8 @@ impl<S: BuildHasher> Model for RecencyList<S> {
 
 impl<S: BuildHasher + Copy + Drop> RecencyList<S> {
     /// An empty list. No result depends on the seed.
-    pub(super) fn new(alloc: Global, seed: S) -> Result<RecencyList<S>>
+    pub(super) fn new(alloc: Global, seed: S) -> Result<RecencyList<S>, AllocError>
         ensures ok { IfOk result (λ list. list ≡ []) }
-        ensures kind { IfErr result (λ e. e ≡ OutOfMemory) }
     {
         Ok(RecencyList {
             cache: LruCache::unbounded_with_hasher(alloc, seed)?,
@@ -81,14 +81,13 @@ impl<S: BuildHasher + Copy + Drop> RecencyList<S> {
     }
 
     /// Sets the weight of an entry and moves it to the front.
-    pub(super) fn put(&mut self, item: CacheEntryKey, size: usize) -> Result<()>
+    pub(super) fn put(&mut self, item: CacheEntryKey, size: usize) -> Result<(), AllocError>
         ensures ok { OnOk result (self.new ≡ moved item size self.old) }
         ensures once { IsOnce self.new }
-        ensures kind { IfErr result (λ e. e ≡ OutOfMemory) }
         ensures err { OnErr result (self.new ≡ self.old) }
     {
         let before = self.cache.put(item, size)?.unwrap_or(0);
-        self.cache.len(); // for the prover: its contract says that the list is valid
+        self.cache.len(); // for the prover: the list is valid, so no entry occurs twice
         self.weight = self.weight - before as u128 + size as u128;
         Ok(())
     }
@@ -107,7 +106,7 @@ impl<S: BuildHasher + Copy + Drop> RecencyList<S> {
         ensures once { IsOnce self.new }
     {
         let raised = raise_in(&mut self.cache, item, delta, max_weight);
-        self.cache.len(); // for the prover: its contract says that the list is valid
+        self.cache.len(); // for the prover: the list is valid, so no entry occurs twice
         let Some((before, after)) = raised else {
             return false;
         };
@@ -125,7 +124,7 @@ impl<S: BuildHasher + Copy + Drop> RecencyList<S> {
         ensures once { IsOnce self.new }
     {
         set_weight(&mut self.cache, item, size);
-        self.cache.len(); // for the prover: its contract says that the list is valid
+        self.cache.len(); // for the prover: the list is valid, so no entry occurs twice
         self.weight = rest + size as u128;
     }
 
@@ -138,7 +137,7 @@ impl<S: BuildHasher + Copy + Drop> RecencyList<S> {
         ensures list { self.new ≡ reweighed item.now size self.old }
     {
         write_weight(&mut self.cache, item, size);
-        self.cache.len(); // for the prover: its contract says that the list is valid
+        self.cache.len(); // for the prover: the list is valid, so no entry occurs twice
         self.weight = rest + size as u128;
     }
 
@@ -160,7 +159,7 @@ impl<S: BuildHasher + Copy + Drop> RecencyList<S> {
         ensures missing { result ≡ false → self.new ≡ self.old }
     {
         let was = self.cache.promote(item);
-        self.cache.len(); // for the prover: its contract says that the list is valid
+        self.cache.len(); // for the prover: the list is valid, so no entry occurs twice
         was
     }
 
@@ -192,7 +191,7 @@ impl<S: BuildHasher + Copy + Drop> RecencyList<S> {
         let copy = item.copied()?;
         self.put(item, size)?;
         self.cache.demote(&copy);
-        self.cache.len(); // for the prover: its contract says that the list is valid
+        self.cache.len(); // for the prover: the list is valid, so no entry occurs twice
         Ok(())
     }
 
@@ -204,7 +203,7 @@ impl<S: BuildHasher + Copy + Drop> RecencyList<S> {
         ensures err { OnErr result (self.new ≡ self.old) }
     {
         if self.weight_of(&item).is_some() {
-            return self.put(item, size);
+            return Ok(self.put(item, size)?);
         }
         self.push_last(item, size)
     }
@@ -239,7 +238,7 @@ impl<S: BuildHasher + Copy + Drop> RecencyList<S> {
         ensures rest { result ≡ self.now }
         ensures once { IsOnce self.now }
     {
-        self.cache.len(); // for the prover: its contract says that the list is valid
+        self.cache.len(); // for the prover: the list is valid, so no entry occurs twice
         self.cache.iter()
     }
 
@@ -411,6 +410,7 @@ impl<S: BuildHasher + Copy + Drop> RecencyList<S> {
         ensures evicts { Evicts (limits_of Lru limit watermark) self.old self.new out.new.items }
         ensures gone { result ≡ min (weight self.old - weight self.new) (2 ^ 64 - 1) }
     {
+        // By exact sums: only the totals of what was evicted stop at the largest number.
         let before = self.weight();
         while exceeds(self.weight(), self.len(), limit, watermark) {
             let Some((key, _)) = self.pop_last() else {

@@ -16,7 +16,7 @@ use lru::Iter;
 use pcache_base::error::Result;
 use pcache_base::moment::Moment;
 use pcache_base::seed::Seed;
-use std::alloc::Global;
+use std::alloc::{AllocError, Global};
 use std::hash::BuildHasher;
 use std::marker::Model;
 
@@ -85,6 +85,7 @@ impl<const N: usize, S: BuildHasher + Copy + Drop> Manager<N, S> {
             alloc,
             limit,
             watermark,
+            // Without the capacity, which promises nothing: lists grow as they are filled.
             shards: RecencyShards::new(alloc, seed)?,
             evicted_size: 0,
             evicted_items: 0,
@@ -111,7 +112,7 @@ impl<const N: usize, S: BuildHasher + Copy + Drop> Manager<N, S> {
         ensures value { result ≡ N }
         ensures placed { ArePlaced N self.now.shards }
     {
-        self.shards.len(); // for the prover: once it is asked, the invariant is known
+        self.shards.len(); // for the prover: each of the `N` lists has its own entries
         N
     }
 
@@ -158,7 +159,7 @@ impl<const N: usize, S: BuildHasher + Copy + Drop> Manager<N, S> {
             ≡ weight_of item.now (list_at self.now.shards (shard_of N item.now)) }
         ensures placed { ArePlaced N self.now.shards }
     {
-        self.shards.len(); // for the prover: once it is asked, the invariant is known
+        self.shards.len(); // for the prover: each of the `N` lists has its own entries
         let list = self.shards.list(self.shards.place_of(item));
         list.weight_of(item)
     }
@@ -226,7 +227,7 @@ impl<const N: usize, S: BuildHasher + Copy + Drop> Manager<N, S> {
         ensures kind { IfErr result (λ e. e ≡ OutOfMemory) }
         ensures err { OnErr result (self.new ≡ self.old) }
     {
-        self.put_and_evict(item, size)
+        Ok(self.put_and_evict(item, size)?)
     }
 
     /// Adds to the weight of an entry, up to `max_weight` (the largest `usize` if that is `None`),
@@ -253,10 +254,10 @@ impl<const N: usize, S: BuildHasher + Copy + Drop> Manager<N, S> {
         let present = self.peek_weight(item);
         let size = raised_weight(present, delta, max_weight);
         if present.is_some() {
-            return self.set_and_evict(item, size);
+            return Ok(self.set_and_evict(item, size)?);
         }
         let copy = item.copied()?;
-        self.put_and_evict(copy, size)
+        Ok(self.put_and_evict(copy, size)?)
     }
 
     /// Removes an entry, if it is tracked. That is no eviction.
@@ -265,7 +266,7 @@ impl<const N: usize, S: BuildHasher + Copy + Drop> Manager<N, S> {
             ≡ record self.old { shards = in_shard N item.now (others item.now) self.old.shards } }
         ensures placed { ArePlaced N self.old.shards }
     {
-        self.shards.len(); // for the prover: once it is asked, the invariant is known
+        self.shards.len(); // for the prover: each of the `N` lists has its own entries
         self.shards.remove(item);
     }
 
@@ -291,7 +292,7 @@ impl<const N: usize, S: BuildHasher + Copy + Drop> Manager<N, S> {
         ensures kind { IfErr result (λ e. e ≡ OutOfMemory) }
         ensures err { OnErr result (self.new ≡ self.old) }
     {
-        self.shards.len(); // for the prover: once it is asked, the invariant is known
+        self.shards.len(); // for the prover: each of the `N` lists has its own entries
         if self.shards.promote(item) {
             return Ok(true);
         }
@@ -318,20 +319,23 @@ impl<const N: usize, S: BuildHasher + Copy + Drop> Manager<N, S> {
         ensures rest { result ≡ list_at self.now.shards shard }
         ensures placed { ArePlaced N self.now.shards }
     {
-        self.shards.len(); // for the prover: once it is asked, the invariant is known
+        self.shards.len(); // for the prover: each of the `N` lists has its own entries
         let list = self.shards.list(shard);
         list.iter()
     }
 
     // The room for the evicted entries is reserved first, so that a failed call changes nothing.
-    fn put_and_evict(&mut self, item: CacheEntryKey, size: usize) -> Result<Vec<CacheEntryKey>>
+    fn put_and_evict(
+        &mut self,
+        item: CacheEntryKey,
+        size: usize,
+    ) -> Result<Vec<CacheEntryKey>, AllocError>
         ensures ok { IfOk result (λ out. Runs N self.old
             (in_shard N item (moved item size) self.old.shards) self.new out.items) }
         ensures placed { ArePlaced N self.old.shards }
-        ensures kind { IfErr result (λ e. e ≡ OutOfMemory) }
         ensures err { OnErr result (self.new ≡ self.old) }
     {
-        self.shards.len(); // for the prover: once it is asked, the invariant is known
+        self.shards.len(); // for the prover: each of the `N` lists has its own entries
         let place = self.shards.place_of(&item);
         let rest = self.shards.others(&item);
         let room = self
@@ -343,7 +347,11 @@ impl<const N: usize, S: BuildHasher + Copy + Drop> Manager<N, S> {
     }
 
     // The same for the weight of a tracked entry.
-    fn set_and_evict(&mut self, item: &CacheEntryKey, size: usize) -> Result<Vec<CacheEntryKey>>
+    fn set_and_evict(
+        &mut self,
+        item: &CacheEntryKey,
+        size: usize,
+    ) -> Result<Vec<CacheEntryKey>, AllocError>
         requires there { IsSome
             (weight_of item.now (list_at self.old.shards (shard_of N item.now))) }
         ensures ok { IfOk result (λ out. Runs N self.old
@@ -352,10 +360,9 @@ impl<const N: usize, S: BuildHasher + Copy + Drop> Manager<N, S> {
             (all (in_shard N item.now (reweighed item.now size) self.old.shards))
             → IsOk result }
         ensures placed { ArePlaced N self.old.shards }
-        ensures kind { IfErr result (λ e. e ≡ OutOfMemory) }
         ensures err { OnErr result (self.new ≡ self.old) }
     {
-        self.shards.len(); // for the prover: once it is asked, the invariant is known
+        self.shards.len(); // for the prover: each of the `N` lists has its own entries
         let place = self.shards.place_of(item);
         let rest = self.shards.others(item);
         let fits = self
@@ -381,7 +388,7 @@ impl<const N: usize, S: BuildHasher + Copy + Drop> Manager<N, S> {
             (vec_capacity out) }
         ensures { Runs N self.old self.old.shards self.new result.items }
     {
-        self.shards.len(); // for the prover: once it is asked, the invariant is known
+        self.shards.len(); // for the prover: each of the `N` lists has its own entries
         let gone = self
             .shards
             .evict(place, self.limit, self.watermark, &mut out);

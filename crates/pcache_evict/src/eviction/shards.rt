@@ -13,7 +13,7 @@ use super::CacheEntryKey;
 use super::recency::{RecencyList, Walk, exceeds};
 use pcache_base::error::{Error, ErrorType, Result};
 use pcache_base::key::CacheHashKey;
-use std::alloc::Global;
+use std::alloc::{AllocError, Global};
 use std::hash::BuildHasher;
 use std::marker::Model;
 
@@ -24,6 +24,8 @@ const MOST_ENTRIES: usize = (1 << 63) - 1;
 fn is_full(count: usize) -> bool
     ensures { IsTrue result ↔ (2 ^ 63 - 1 ≤ count) }
 {
+    // Each entry has the links of its list in memory, at least 16 bytes, and 2^64 addresses have
+    // room for fewer than 2^60 of these.
     count >= MOST_ENTRIES
 }
 
@@ -33,6 +35,7 @@ fn is_full(count: usize) -> bool
 /// Each move takes one look-up.
 #[derive(Drop)]
 pub(super) struct RecencyShards<S: BuildHasher, const N: usize> {
+    // In a vector, since a list takes memory when it is made.
     lists: Vec<RecencyList<S>>,
     weight: u128,
     items: usize,
@@ -52,10 +55,9 @@ impl<S: BuildHasher, const N: usize> Model for RecencyShards<S, N> {
 
 impl<S: BuildHasher + Copy + Drop, const N: usize> RecencyShards<S, N> {
     /// `N` empty lists. No result depends on the seed.
-    pub(super) fn new(alloc: Global, seed: S) -> Result<RecencyShards<S, N>>
+    pub(super) fn new(alloc: Global, seed: S) -> Result<RecencyShards<S, N>, AllocError>
         requires { 0 < N }
         ensures ok { IfOk result (λ shards. shards ≡ no_entries N) }
-        ensures kind { IfErr result (λ e. e ≡ OutOfMemory) }
     {
         let mut lists = Vec::new(alloc);
         for _place in 0..N {
@@ -73,7 +75,7 @@ impl<S: BuildHasher + Copy + Drop, const N: usize> RecencyShards<S, N> {
         ensures value { result ≡ shard_of N item.now }
         ensures in_range { result < N }
     {
-        let _ = &self.lists; // for the prover: once a field is used, the invariant is known
+        let _ = &self.lists; // for the prover: there are `N` lists, and `N` is not 0
         (item.key().slot() % N as u128) as usize
     }
 
@@ -121,14 +123,13 @@ impl<S: BuildHasher + Copy + Drop, const N: usize> RecencyShards<S, N> {
     }
 
     /// Sets the weight of an entry and moves it to the front of its list.
-    pub(super) fn put(&mut self, item: CacheEntryKey, size: usize) -> Result<()>
+    pub(super) fn put(&mut self, item: CacheEntryKey, size: usize) -> Result<(), AllocError>
         ensures ok { OnOk result (self.new ≡ in_shard N item (moved item size) self.old) }
-        ensures kind { IfErr result (λ e. e ≡ OutOfMemory) }
         ensures err { OnErr result (self.new ≡ self.old) }
     {
         let rest = self.others(&item);
         if is_full(rest.1) {
-            return Err(Error::new(ErrorType::OutOfMemory));
+            return Err(AllocError);
         }
         let place = self.place_of(&item);
         let list = &mut self.lists[place];
@@ -190,6 +191,8 @@ impl<S: BuildHasher + Copy + Drop, const N: usize> RecencyShards<S, N> {
         ensures kind { IfErr result (λ e. e ≡ OutOfMemory) }
         ensures err { OnErr result (self.new ≡ self.old) }
     {
+        // Entries only come in at the backs, so that the lists can be cut back without memory. A
+        // copy of all shards for each shard's file would cost their number squared.
         let lens = self.lens(alloc)?;
         if let Err(refused) = self.join_each(entries) {
             self.cut(&lens);
@@ -199,9 +202,8 @@ impl<S: BuildHasher + Copy + Drop, const N: usize> RecencyShards<S, N> {
     }
 
     /// The numbers of entries of the lists.
-    fn lens(&self, alloc: Global) -> Result<Vec<usize>>
+    fn lens(&self, alloc: Global) -> Result<Vec<usize>, AllocError>
         ensures ok { IfOk result (λ v. AreLengths N v.items self.now) }
-        ensures kind { IfErr result (λ e. e ≡ OutOfMemory) }
     {
         let mut lens = Vec::new(alloc);
         for list in &self.lists {
@@ -229,7 +231,7 @@ impl<S: BuildHasher + Copy + Drop, const N: usize> RecencyShards<S, N> {
         ensures err { OnErr result (self.new ≡ self.old) }
         ensures placed { ArePlaced N self.old }
     {
-        self.len(); // for the prover: once it is asked, the invariant is known
+        self.len(); // for the prover: each of the `N` lists has its own entries
         let list = self.list(self.place_of(&item));
         if list.weight_of(&item).is_some() {
             return Ok(());
@@ -263,10 +265,10 @@ impl<S: BuildHasher + Copy + Drop, const N: usize> RecencyShards<S, N> {
             → self.new ≡ shards }
     {
         for place in 0..N {
-            self.len(); // for the prover: once it is asked, the invariant is known
+            self.len(); // for the prover: each of the `N` lists has its own entries
             self.truncate(place, lens[place]);
         }
-        self.len(); // for the prover: once it is asked, the invariant is known
+        self.len(); // for the prover: each of the `N` lists has its own entries
     }
 
     /// Removes entries from the back of a list until it has at most so many.
@@ -275,10 +277,10 @@ impl<S: BuildHasher + Copy + Drop, const N: usize> RecencyShards<S, N> {
         ensures { self.new ≡ slice_set self.old place (take len (list_at self.old place)) }
     {
         while self.list(place).len() > len {
-            self.len(); // for the prover: once it is asked, the invariant is known
+            self.len(); // for the prover: each of the `N` lists has its own entries
             self.pop(place);
         }
-        self.len(); // for the prover: once it is asked, the invariant is known
+        self.len(); // for the prover: each of the `N` lists has its own entries
     }
 
     /// Removes the last entry of a list.
@@ -332,7 +334,7 @@ impl<S: BuildHasher + Copy + Drop, const N: usize> RecencyShards<S, N> {
             → ¬ IsWithinAsList (limits_of ShardedLru limit watermark)
             (all (in_shard N item.now (reweighed item.now size) self.now)) }
     {
-        let _ = &self.lists; // for the prover: once a field is used, the invariant is known
+        let _ = &self.lists; // for the prover: there are `N` lists, and `N` is not 0
         !exceeds(rest.0 + size as u128, rest.1 + 1, limit, watermark)
     }
 
@@ -353,7 +355,7 @@ impl<S: BuildHasher + Copy + Drop, const N: usize> RecencyShards<S, N> {
         requires count_fits { rest.1 < 2 ^ 63 }
         ensures { RoomFor N (limits_of ShardedLru limit watermark) item.now size self.now result }
     {
-        let _ = &self.lists; // for the prover: once a field is used, the invariant is known
+        let _ = &self.lists; // for the prover: there are `N` lists, and `N` is not 0
         let place = self.place_of(item);
         let start = Walk {
             sum: rest.0 + size as u128,
@@ -450,7 +452,9 @@ impl<S: BuildHasher + Copy + Drop, const N: usize> RecencyShards<S, N> {
         ensures some { IfSome result (λ at. IsFirst N place self.now at) }
         ensures none { IfNone result (all self.now ≡ []) }
     {
-        let _ = &self.lists; // for the prover: once a field is used, the invariant is known
+        let _ = &self.lists; // for the prover: there are `N` lists, and `N` is not 0
+        // Keys are hashes, so evictions take from all lists alike. The list of the new entry comes
+        // last, so that this entry is the last to go.
         let behind = self.first_of(place + 1, N);
         if behind.is_some() {
             return behind;

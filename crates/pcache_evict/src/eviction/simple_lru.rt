@@ -11,7 +11,7 @@ use lru::Iter;
 use pcache_base::error::Result;
 use pcache_base::moment::Moment;
 use pcache_base::seed::Seed;
-use std::alloc::Global;
+use std::alloc::{AllocError, Global};
 use std::hash::BuildHasher;
 use std::marker::Model;
 
@@ -135,7 +135,7 @@ impl<S: BuildHasher + Copy + Drop> Manager<S> {
         ensures kind { IfErr result (λ e. e ≡ OutOfMemory) }
         ensures err { OnErr result (self.new ≡ self.old) }
     {
-        self.put_and_evict(item, size)
+        Ok(self.put_and_evict(item, size)?)
     }
 
     /// Adds to the weight of an entry, up to `max_weight` (the largest `usize` if that is `None`),
@@ -172,13 +172,14 @@ impl<S: BuildHasher + Copy + Drop> Manager<S> {
             }
         }
         let copy = item.copied()?;
-        self.put_and_evict(copy, size)
+        Ok(self.put_and_evict(copy, size)?)
     }
 
     /// Removes an entry, if it is tracked. That is no eviction.
     pub fn remove(&mut self, item: &CacheEntryKey)
         ensures { self.new ≡ record self.old { entries = others item.now self.old.entries } }
     {
+        // No eviction, so the totals of what was evicted stay.
         self.list.remove(item);
     }
 
@@ -215,7 +216,7 @@ impl<S: BuildHasher + Copy + Drop> Manager<S> {
         ensures err { OnErr result (self.new ≡ self.old) }
     {
         if self.list.weight_of(&item).is_some() {
-            return self.list.put(item, size);
+            return Ok(self.list.put(item, size)?);
         }
         self.list.push_last(item, size)
     }
@@ -229,6 +230,8 @@ impl<S: BuildHasher + Copy + Drop> Manager<S> {
         ensures kind { IfErr result (λ e. e ≡ OutOfMemory) }
         ensures err { OnErr result (self.new ≡ self.old) }
     {
+        // A copy, since an entry that is listed already moves and takes another weight, which could
+        // not be undone if memory ran out midway.
         let mut list = self.list.copied(self.alloc)?;
         list.load_all(entries)?;
         self.list = list;
@@ -244,12 +247,17 @@ impl<S: BuildHasher + Copy + Drop> Manager<S> {
     }
 
     // The room for the evicted entries is reserved first, so that a failed call changes nothing.
-    fn put_and_evict(&mut self, item: CacheEntryKey, size: usize) -> Result<Vec<CacheEntryKey>>
+    fn put_and_evict(
+        &mut self,
+        item: CacheEntryKey,
+        size: usize,
+    ) -> Result<Vec<CacheEntryKey>, AllocError>
         ensures ok { IfOk result (λ out. Moves self.old
             (moved item size self.old.entries) self.new out.items) }
-        ensures kind { IfErr result (λ e. e ≡ OutOfMemory) }
         ensures err { OnErr result (self.new ≡ self.old) }
     {
+        // An entry makes a list heavier by no more than its size, so nobody asks whether it is
+        // there if it would fit even as a new one.
         if self.list.allows(size, 1, self.limit, self.watermark) {
             self.list.put(item, size)?;
             return Ok(self.keep_limits(Vec::new(self.alloc)));
@@ -259,6 +267,7 @@ impl<S: BuildHasher + Copy + Drop> Manager<S> {
             .room_at_most(&item, size, self.limit, self.watermark);
         let out = match Vec::with_capacity(self.alloc, room) {
             Ok(out) => out,
+            // Only then is it looked up: no call is refused for memory that it would not need.
             Err(_) => self.exact_room(&item, size)?,
         };
         self.list.put(item, size)?;
@@ -267,16 +276,19 @@ impl<S: BuildHasher + Copy + Drop> Manager<S> {
 
     // A vector with room for exactly the entries that go when this one is put and the list is then
     // brought within the limits.
-    fn exact_room(&self, item: &CacheEntryKey, size: usize) -> Result<Vec<CacheEntryKey>>
+    fn exact_room(
+        &self,
+        item: &CacheEntryKey,
+        size: usize,
+    ) -> Result<Vec<CacheEntryKey>, AllocError>
         ensures ok { IfOk result (λ out. (out.items ≡ [])
             × IsEnough self.now.limits (moved item.now size self.now.entries) (vec_capacity out)) }
-        ensures kind { IfErr result (λ e. e ≡ OutOfMemory) }
     {
         let rest = self.list.others(item);
         let room = self
             .list
             .room_for(item, size, self.limit, self.watermark, rest);
-        Ok(Vec::with_capacity(self.alloc, room)?)
+        Vec::with_capacity(self.alloc, room)
     }
 
     // Evicts into a vector that has room for all evicted entries. It is inlined: a vector that it

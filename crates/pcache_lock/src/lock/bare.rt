@@ -20,7 +20,7 @@ use pcache_base::key::{CacheHashKey, CacheKey};
 use pcache_base::moment::Moment;
 use pcache_base::poll::Poll;
 use pcache_table::hashtable::{Shards, Table};
-use std::alloc::Global;
+use std::alloc::{AllocError, Global};
 use std::marker::Model;
 use std::time::Duration;
 
@@ -124,12 +124,16 @@ fn age(cores: &mut Table<LockCore>, number: u128)
 }
 
 // Replaces the current publication.
-fn publish(alloc: Global, cores: &mut Table<LockCore>, number: u128, tokens: &[u64]) -> Result<()>
+fn publish(
+    alloc: Global,
+    cores: &mut Table<LockCore>,
+    number: u128,
+    tokens: &[u64],
+) -> Result<(), AllocError>
     ensures ok { OnOk result (cores.new
         ≡ changed (with_publication tokens.now) cores.old number (map.get cores.old number)) }
     ensures clears { tokens.now ≡ [] → IsOk result }
     ensures err { OnErr result (cores.new ≡ cores.old) }
-    ensures kind { IfErr result (λ e. e ≡ OutOfMemory) }
 {
     let Some(core) = cores.get_mut(number) else {
         return Ok(());
@@ -256,11 +260,10 @@ impl BareLock {
     }
 
     // Adds a new lock of a key, which becomes the key's current entry.
-    fn add_core(&mut self, number: u64, slot: u128, core: LockCore) -> Result<()>
+    fn add_core(&mut self, number: u64, slot: u128, core: LockCore) -> Result<(), AllocError>
         requires { number ≡ self.old.next }
         ensures ok { OnOk result (self.new ≡ with_core self.old slot core) }
         ensures err { OnErr result (self.new ≡ self.old) }
-        ensures kind { IfErr result (λ e. e ≡ OutOfMemory) }
     {
         if self.current.value(slot).is_some() {
             self.cores.insert(self.next, core)?;
@@ -271,7 +274,7 @@ impl BareLock {
         self.current.insert(slot, number)?;
         if let Err(refused) = self.cores.insert(self.next, core) {
             self.current.remove(slot);
-            return Err(Error::from(refused));
+            return Err(AllocError::from(refused));
         }
         self.next += 1;
         Ok(())
@@ -285,6 +288,7 @@ impl BareLock {
               current = without_entry number slot self.old.current;
             } }
     {
+        // With its entry: a key whose lock nobody names takes no memory.
         self.cores.remove(number);
         leave_entry(&mut self.current, number, slot);
     }
@@ -414,7 +418,7 @@ impl CacheKeyLock for BareLock {
     }
 
     fn publish(&mut self, alloc: Global, permit: &WritePermit, tokens: &[u64]) -> Result<()> {
-        publish(alloc, &mut self.cores, u128::from(permit.number()), tokens)
+        Ok(publish(alloc, &mut self.cores, u128::from(permit.number()), tokens)?)
     }
 
     fn custom_lock_status(&self, _custom_no_cache: &'static str) -> LockStatus {

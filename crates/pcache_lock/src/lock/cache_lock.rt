@@ -45,6 +45,8 @@ impl Model for CacheLock {
 
     ghost view = { λ a. record { table = a.bare; past = a.past.deeds } };
 
+    // Of a table and its past side by side: in one struct the past would be one deed behind at the
+    // end of each helper that changes a field.
     ghost invariant = { λ a. IsPastOf a.bare a.past.deeds };
 }
 

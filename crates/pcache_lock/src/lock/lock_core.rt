@@ -1,6 +1,5 @@
 //! What a table knows of a lock.
-ghost use Rattle.std.specs.Prelude.{◌≡◌, ◌==◌, ◌-◌, [], IfErr, IsOk, None, OnErr, OnOk, Some, drop, false, length, nat_lt, slice_get};
-ghost use Rattle.pcache_base.specs.declared.error.ErrorType.TheVariants.{OutOfMemory};
+ghost use Rattle.std.specs.Prelude.{◌≡◌, ◌==◌, ◌-◌, [], IsOk, None, OnErr, OnOk, Some, drop, false, length, nat_lt, slice_get};
 ghost use Rattle.std.specs.Duration.{as_nanos};
 ghost use Rattle.pcache_lock.specs.Locks.{ended};
 ghost use Rattle.pcache_lock.specs.Permits.{new_core, is_locked, is_named, with_reader, without_reader, spent, dropped_status};
@@ -10,10 +9,9 @@ ghost use Rattle.pcache_lock.specs.Waiting.{aged, first_told, is_expired, says_n
 use crate::lock::outcome::PermitState;
 use crate::lock::publications::Publications;
 use crate::lock::status::LockStatus;
-use pcache_base::error::Result;
 use pcache_base::fills::{UnusableFill, UnusableFills};
 use pcache_base::moment::Moment;
-use std::alloc::Global;
+use std::alloc::{AllocError, Global};
 use std::marker::Model;
 use std::time::Duration;
 
@@ -26,6 +24,7 @@ pub struct LockCore {
     age_timeout: Duration,
     stale_writer: bool,
     held: bool,
+    // Wider than a number of locks, so that there are never as many as can be counted.
     readers: u128,
     publications: Publications,
 }
@@ -91,6 +90,7 @@ impl LockCore {
     pub fn locked(&self) -> bool
         ensures { result ≡ is_locked self.now }
     {
+        // Also if it was unlocked as too old: an aged permit is held until it is spent.
         self.held && matches!(self.status, LockStatus::Waiting | LockStatus::AgeTimeout)
     }
 
@@ -237,11 +237,10 @@ impl LockCore {
     }
 
     // Replaces the current publication.
-    pub(super) fn publish(&mut self, alloc: Global, tokens: &[u64]) -> Result<()>
+    pub(super) fn publish(&mut self, alloc: Global, tokens: &[u64]) -> Result<(), AllocError>
         ensures ok { OnOk result (self.new ≡ with_publication tokens.now self.old) }
         ensures clears { tokens.now ≡ [] → IsOk result }
         ensures err { OnErr result (self.new ≡ self.old) }
-        ensures kind { IfErr result (λ e. e ≡ OutOfMemory) }
     {
         self.publications.publish(alloc, self.readers, tokens)
     }

@@ -24,6 +24,8 @@ impl Model for Past {
 // It owns nothing, so nothing that belongs to one thread: a table with its past may go to another thread.
 unsafe impl Send for Past {}
 
+// With what the call returned, so that laws read the list alone and play no table again. A call
+// that failed is no note: what it asked for matters to nobody later.
 /// What a call did, told by what it was passed and what it returned.
 #[derive(Drop)]
 pub enum Note<'a> {

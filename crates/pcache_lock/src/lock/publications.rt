@@ -2,16 +2,14 @@
 //!
 //! A reader looks for the first publication that has one of its fills. An index of the tokens is kept beside the
 //! publications, so that a look takes time for each of the reader's own fills, however much was published.
-ghost use Rattle.std.specs.Prelude.{◌≡◌, ◌<◌, ◌≤◌, ◌-◌, ◌==◌, ◌||◌, ◌&&◌, ◌++◌, ◌∷◌, ◌^◌, not, ℕ, [], IfErr, IsOk, OnErr, OnOk, drop, false, length, slice_get, true};
+ghost use Rattle.std.specs.Prelude.{◌≡◌, ◌<◌, ◌≤◌, ◌-◌, ◌==◌, ◌||◌, ◌&&◌, ◌++◌, ◌∷◌, ◌^◌, not, ℕ, [], IsOk, OnErr, OnOk, drop, false, length, slice_get, true};
 ghost use Rattle.std.specs.BTreeSet.{contains};
 ghost use Rattle.std.specs.Ordering.{nat_cmp};
-ghost use Rattle.pcache_base.specs.declared.error.ErrorType.TheVariants.{OutOfMemory};
 ghost use Rattle.pcache_lock.specs.Published.{IsFirstPosition, entry_of, is_entry_for};
 ghost use Rattle.pcache_lock.specs.Waiting.{first_told, publications_with, says_nothing};
 
-use pcache_base::error::{Error, ErrorType, Result};
 use pcache_base::fills::{UnusableFill, UnusableFills};
-use std::alloc::Global;
+use std::alloc::{AllocError, Global};
 use std::collections::BTreeSet;
 use std::marker::Model;
 
@@ -48,7 +46,7 @@ fn entry(token: u64, place: usize) -> u128
 }
 
 // Adds the tokens of the publication at this position to the index.
-fn mark(index: &mut BTreeSet<u128>, place: usize, tokens: &[u64]) -> Result<()>
+fn mark(index: &mut BTreeSet<u128>, place: usize, tokens: &[u64]) -> Result<(), AllocError>
     requires { (q : ℕ)
         → is_entry_for place tokens.now q ≡ true
         → contains nat_cmp index.old q ≡ false }
@@ -57,12 +55,11 @@ fn mark(index: &mut BTreeSet<u128>, place: usize, tokens: &[u64]) -> Result<()>
         ≡ (contains nat_cmp index.old q || is_entry_for place tokens.now q)) }
     ensures err { OnErr result ((q : ℕ)
         → contains nat_cmp index.new q ≡ contains nat_cmp index.old q) }
-    ensures kind { IfErr result (λ e. e ≡ OutOfMemory) }
 {
     for token in tokens {
         let Ok(_added) = index.insert(entry(*token, place)) else {
             unmark(index, place, tokens);
-            return Err(Error::new(ErrorType::OutOfMemory));
+            return Err(AllocError);
         };
     }
     Ok(())
@@ -84,6 +81,7 @@ fn unmark(index: &mut BTreeSet<u128>, place: usize, tokens: &[u64])
 pub(super) struct Publications {
     kept: Vec<Publication>,
     // An index entry for each token of each publication.
+    // A tree needs no seed, whoever picks the tokens.
     index: BTreeSet<u128>,
 }
 
@@ -162,11 +160,15 @@ impl Publications {
     }
 
     // Replaces the current publication. The earlier ones are kept only if a read lock may look at them.
-    pub(super) fn publish(&mut self, alloc: Global, readers: u128, tokens: &[u64]) -> Result<()>
+    pub(super) fn publish(
+        &mut self,
+        alloc: Global,
+        readers: u128,
+        tokens: &[u64],
+    ) -> Result<(), AllocError>
         ensures ok { OnOk result (self.new ≡ publications_with readers tokens.now self.old) }
         ensures clears { tokens.now ≡ [] → IsOk result }
         ensures err { OnErr result (self.new ≡ self.old) }
-        ensures kind { IfErr result (λ e. e ≡ OutOfMemory) }
     {
         if tokens.is_empty() {
             self.clear(alloc, readers);
@@ -192,11 +194,10 @@ impl Publications {
     }
 
     // Replaces the current publication by one that has tokens.
-    fn say(&mut self, alloc: Global, readers: u128, tokens: &[u64]) -> Result<()>
+    fn say(&mut self, alloc: Global, readers: u128, tokens: &[u64]) -> Result<(), AllocError>
         requires { (length tokens.now == 0) ≡ false }
         ensures ok { OnOk result (self.new ≡ publications_with readers tokens.now self.old) }
         ensures err { OnErr result (self.new ≡ self.old) }
-        ensures kind { IfErr result (λ e. e ≡ OutOfMemory) }
     {
         if readers > 0 {
             return self.add(alloc, tokens);
@@ -208,10 +209,9 @@ impl Publications {
     }
 
     // Adds a publication after the others, with room to clear it.
-    fn add(&mut self, alloc: Global, tokens: &[u64]) -> Result<()>
+    fn add(&mut self, alloc: Global, tokens: &[u64]) -> Result<(), AllocError>
         ensures ok { OnOk result (self.new ≡ self.old ++ tokens.now ∷ []) }
         ensures err { OnErr result (self.new ≡ self.old) }
-        ensures kind { IfErr result (λ e. e ≡ OutOfMemory) }
     {
         let publication = Publication {
             tokens: Vec::from_slice(alloc, tokens)?,

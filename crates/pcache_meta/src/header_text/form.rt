@@ -155,6 +155,8 @@ fn are_grouped(bytes: &[u8]) -> bool
         if room == 0 || is_among(name, &passed[..count]) {
             return false;
         }
+        // A pass over the text for each 64 names: whether lines stand together cannot be told in
+        // one pass without memory.
         if count == AT_ONCE {
             if has_any(behind, &passed[..count]) {
                 return false;

@@ -21,7 +21,7 @@ use http_header::{
 };
 use memchr::memchr;
 use pcache_base::error::{Error, ErrorType, Result};
-use std::alloc::Global;
+use std::alloc::{AllocError, Global};
 
 // How many bytes come before the first CR, found by one search: they stay in their line.
 fn before_return(bytes: &[u8]) -> usize
@@ -96,7 +96,7 @@ fn status_of(text: &[u8]) -> Result<StatusCode>
 {
     match StatusCode::from_bytes(text) {
         Ok(code) => {
-            // For the prover: its contract says what holds of each status.
+            // For the prover: a status has three digits (`IsStatusCode`).
             let _number = code.as_u16();
             Ok(code)
         }
@@ -167,7 +167,7 @@ fn value_of(bytes: Bytes) -> Result<HeaderValue>
 {
     match HeaderValue::from_shared(bytes) {
         Ok(value) => {
-            // For the prover: its contract says what holds of each value.
+            // For the prover: its bytes are such as a value may have.
             let _bytes = value.as_bytes();
             Ok(value)
         }
@@ -219,7 +219,7 @@ fn append_field(headers: &mut HeaderMap, name: HeaderName, value: HeaderValue) -
 {
     match headers.append(name, value) {
         Ok(_) => {
-            // For the prover: its contract says what holds of each map.
+            // For the prover: it is a valid map, of at most so many names.
             let _values = headers.len();
             Ok(())
         }
@@ -229,13 +229,12 @@ fn append_field(headers: &mut HeaderMap, name: HeaderName, value: HeaderValue) -
 }
 
 // A map with room for so many names.
-fn room_for(alloc: Global, names: usize) -> Result<HeaderMap>
+fn room_for(alloc: Global, names: usize) -> Result<HeaderMap, AllocError>
     ensures ok { IfOk result (λ m. m ≡ []) }
-    ensures kind { IfErr result (λ e. e ≡ OutOfMemory) }
 {
     match HeaderMap::with_capacity(alloc, names.min(MAX_KEYS)) {
         Ok(headers) => Ok(headers),
-        Err(_) => Err(Error::new(ErrorType::OutOfMemory)),
+        Err(_) => Err(AllocError),
     }
 }
 
@@ -337,6 +336,8 @@ pub fn header_deserialize(alloc: Global, bytes: &[u8]) -> Result<ResponseHeader>
         Ok(header) => return Ok(header),
         Err(refused) => refused,
     };
+    // Memory ran out before all bytes were seen: so they are looked through once more, without any,
+    // and bytes that spell no head never fail for memory.
     if refused.etype() == ErrorType::OutOfMemory && is_header_text(bytes) {
         Err(refused)
     } else {

@@ -10,7 +10,7 @@ use crate::header::{HttpVersion, ResponseHeader};
 use http::StatusCode;
 use http_header::{HeaderMap, HeaderName, HeaderValue};
 use pcache_base::error::Result;
-use std::alloc::Global;
+use std::alloc::{AllocError, Global};
 
 fn version_text(version: HttpVersion) -> &'static [u8]
     ensures { result.now ≡ version_text version }
@@ -25,13 +25,14 @@ fn version_text(version: HttpVersion) -> &'static [u8]
 }
 
 #[tactic(auto, unfolding(crate::specs::HeaderText::field_text, crate::specs::HeaderText::field_line))]
-fn put_field(out: &mut Vec<u8>, name: &HeaderName, value: &HeaderValue) -> Result<()>
+fn put_field(out: &mut Vec<u8>, name: &HeaderName, value: &HeaderValue) -> Result<(), AllocError>
     ensures written { OnOk result (out.new.items
         ≡ out.old.items ++ field_line (name.now, value.now.bytes)) }
     ensures valid { OnOk result (IsField (name.now, value.now.bytes)) }
-    ensures kind { IfErr result (λ e. e ≡ OutOfMemory) }
 {
     out.extend_from_slice(name.as_bytes())?;
+    // The space also before an empty value: a reader takes exactly one, and what white space a
+    // value has at its ends stays.
     out.extend_from_slice(b": ")?;
     out.extend_from_slice(value.as_bytes())?;
     out.extend_from_slice(b"\r\n")?;
@@ -39,11 +40,10 @@ fn put_field(out: &mut Vec<u8>, name: &HeaderName, value: &HeaderValue) -> Resul
 }
 
 #[tactic(auto, unfolding(crate::specs::HeaderText::fields_text))]
-fn put_fields(out: &mut Vec<u8>, headers: &HeaderMap) -> Result<()>
+fn put_fields(out: &mut Vec<u8>, headers: &HeaderMap) -> Result<(), AllocError>
     ensures written { OnOk result (out.new.items
         ≡ out.old.items ++ fields_text (shown_lines (pairs headers.now))) }
     ensures valid { OnOk result (All IsField (shown_lines (pairs headers.now))) }
-    ensures kind { IfErr result (λ e. e ≡ OutOfMemory) }
 {
     'fields: for (name, value) in headers.iter() {
         put_field(out, name, value)?;
@@ -54,13 +54,16 @@ fn put_fields(out: &mut Vec<u8>, headers: &HeaderMap) -> Result<()>
 
 // The line of version and status, and its end.
 #[tactic(auto, unfolding(crate::specs::HeaderText::status_text))]
-fn put_status_line(out: &mut Vec<u8>, version: HttpVersion, status: StatusCode) -> Result<()>
+fn put_status_line(
+    out: &mut Vec<u8>,
+    version: HttpVersion,
+    status: StatusCode,
+) -> Result<(), AllocError>
     ensures written { OnOk result (out.new.items
         ≡ out.old.items ++ (status_text version status ++ line_end)) }
     ensures valid { OnOk result (IsStatusCode status) }
-    ensures kind { IfErr result (λ e. e ≡ OutOfMemory) }
 {
-    // For the prover: its contract says what holds of each status.
+    // For the prover: a status has three digits (`IsStatusCode`).
     let _number = status.as_u16();
     out.extend_from_slice(version_text(version))?;
     out.extend_from_slice(b" ")?;
@@ -82,17 +85,17 @@ fn text_len(headers: &HeaderMap) -> usize {
 }
 
 #[tactic(auto, unfolding(crate::specs::HeaderText::header_text))]
-fn write_header(alloc: Global, header: &ResponseHeader) -> Result<Vec<u8>>
+fn write_header(alloc: Global, header: &ResponseHeader) -> Result<Vec<u8>, AllocError>
     ensures written { IfOk result (λ v. v.items
         ≡ header_text header.now.version header.now.status
         (shown_lines (pairs header.now.headers))) }
     ensures status { OnOk result (IsStatusCode header.now.status) }
     ensures valid { OnOk result (All IsField (shown_lines (pairs header.now.headers))) }
     ensures map { OnOk result (IsHeaderMap header.now.headers) }
-    ensures kind { IfErr result (λ e. e ≡ OutOfMemory) }
 {
-    // For the prover: its contract says what holds of each map.
+    // For the prover: it is a valid map, of at most so many names.
     let _values = header.headers.len();
+    // Exactly so much, since a stored meta keeps its texts as they were written.
     let mut out = Vec::with_capacity(alloc, text_len(&header.headers))?;
     put_status_line(&mut out, header.version, header.status)?;
     put_fields(&mut out, &header.headers)?;
@@ -106,5 +109,5 @@ pub fn header_serialize(alloc: Global, header: &ResponseHeader) -> Result<Vec<u8
     ensures spelled { IfOk result (λ v. SpellsHeader v.items (shown header.now)) }
     ensures kind { IfErr result (λ e. e ≡ OutOfMemory) }
 {
-    write_header(alloc, header)
+    Ok(write_header(alloc, header)?)
 }

@@ -24,7 +24,7 @@ use pcache_base::key::HashBinary;
 use pcache_base::moment::Moment;
 use std::alloc::Global;
 
-// The fewest bytes that a meta has.
+// The fewest bytes that a meta has. Nothing reads the nine that version 0 can be written with.
 const MIN_SIZE: usize = 10;
 
 // Enough bytes for nearly every meta, so that room is reserved once.
@@ -146,6 +146,8 @@ fn read_versioned(reader: &mut Reader<'_>, count: u64) -> Result<InternalMetaV3>
             reader.mark(InternalMetaV2::VERSION)?;
             read_items(reader, count - 6)
         }
+        // Always ten items, since a meta of version 2 has nine at most: so their number tells the
+        // version, and neither is read as the other.
         10 => {
             reader.mark(InternalMetaV3::VERSION)?;
             read_items(reader, 4)

@@ -195,6 +195,7 @@ impl From<InternalMetaV0> for InternalMetaV3 {
 
     /// The older meta, last updated when it was created.
     fn from(v0: InternalMetaV0) -> InternalMetaV3 {
+        // By way of each version between: so what an added field is in older metas is said once.
         InternalMetaV3::from(InternalMetaV2::from(v0))
     }
 }

@@ -25,6 +25,7 @@ use std::marker::Model;
 pub struct SpelledMeta {
     text: Bytes,
     split: usize,
+    // So that the map is made with room for all of its names at once.
     names: usize,
     // The number that the text says, so that nobody reads the text for it.
     entry_id: Option<CacheEntryId>,
@@ -107,6 +108,9 @@ impl SpelledMeta {
         let Ok(internal) = deserialize_internal(internal) else {
             unreachable!();
         };
+        // The order of the lines is not looked at again: by the invariant the text is the written
+        // one. No map is kept, since it takes several times the text, and each request may change
+        // its own.
         let header = header_kept(alloc, Bytes::copy_from_slice(alloc, head)?, self.names)?;
         Ok(CacheMeta { internal, header })
     }

@@ -19,6 +19,8 @@ impl HttpCache<MemCache> {
     pub fn reads_alone(&self) -> bool
         ensures { result ≡ reads_alone self.now.reader }
     {
+        // For the store in memory alone: a method of `HandleHit` would be one more thing for each
+        // store to say.
         match &self.reader {
             Some(reader) => reader.needs_no_store(),
             None => true,

@@ -53,13 +53,11 @@ pub(super) fn status_for<L: CacheKeyLock>(lock: &L, reason: NoCacheReason) -> Lo
 }
 
 impl<S: Storage> HttpCache<S> {
-    ghost use Rattle.std.specs.Prelude.{◌≡◌, ◌↔◌, IsTrue, option_map};
-    ghost use Rattle.pcache_request.specs.Phases.{IsDisabled, MayBypass};
-    ghost use Rattle.pcache_request.specs.Releasing.{MayRelease, MayDisable, status_for, disabled_for, bypassed};
-    ghost use Rattle.pcache_request.specs.Reports.{name_of};
-    ghost use Rattle.pcache_request.specs.LockPasts.{settled_deeds};
-    ghost use Rattle.pcache_request.specs.StorePasts.{dropped_past, left_past};
-    ghost use Rattle.pcache_request.specs.Requests.{HoldsNothing, settled, left_by, dropped_by};
+    ghost use Rattle.std.specs.Prelude.{◌≡◌, ◌↔◌, IsTrue};
+    ghost use Rattle.pcache_request.specs.Phases.{MayBypass};
+    ghost use Rattle.pcache_request.specs.Releasing.{MayRelease, MayDisable, status_for, bypassed};
+    ghost use Rattle.pcache_request.specs.Ending.{Disables};
+    ghost use Rattle.pcache_request.specs.Sides.{lock_side, store_side};
 
     /// `bypass` for requests that use no predictor: it asks none, and leaves the reason that is kept, which is none in a request
     /// that was not bypassed since it was enabled.
@@ -101,20 +99,10 @@ impl<S: Storage> HttpCache<S> {
         reason: NoCacheReason,
     ) -> Option<LockName>
         requires { MayDisable reason self.old }
-        ensures request { self.new ≡ disabled_for reason self.old }
-        ensures off { IsDisabled self.new.phase }
-        ensures held { HoldsNothing self.new }
-        ensures store { S.state storage.new
-            ≡ left_by self.old.reader (dropped_by self.old.write (S.state storage.old)) }
-        ensures past { S.past storage.new
-            ≡ left_past self.old.reader (dropped_past self.old.write (S.past storage.old)) }
-        ensures table { L.table lock.new
-            ≡ settled (status_for (L.custom_status lock.old) reason) self.old.held
-            (L.table lock.old) }
-        ensures deeds { L.past lock.new
-            ≡ settled_deeds (status_for (L.custom_status lock.old) reason) self.old.held
-            (L.past lock.old) }
-        ensures released { result ≡ option_map name_of self.old.held }
+        ensures disables { Disables result (status_for (L.custom_status lock.old) reason) reason
+            self.old self.new
+            (store_side S.state S.past storage.old) (store_side S.state S.past storage.new)
+            (lock_side L.table L.past lock.old) (lock_side L.table L.past lock.new) }
     {
         if matches!(
             self.phase,
@@ -130,6 +118,7 @@ impl<S: Storage> HttpCache<S> {
         if let Some(reader) = self.reader.take() {
             reader.let_go(storage);
         }
+        // What is left of variants and of a policy no call can see: `enable` begins anew.
         self.meta = None;
         self.uses = InUse {
             eviction: false,

@@ -180,6 +180,7 @@ fn finish_writer<S: Storage>(
     ensures kind { IfErr result (λ e.
         (e ≡ OutOfMemory) ⊎ MayFailFinish (S.state storage.old) (S.Miss.write writer) e) }
 {
+    // Before the finish: a body whose entry memory is refused for would be stored and not tracked.
     let (entry, compact) = match entry_and_key(key, writer.entry_id()) {
         Ok(made) => made,
         Err(refused) => {
@@ -196,6 +197,8 @@ fn weighed(kind: MissFinishType, weight: Option<usize>) -> MissFinishType
     ensures { result ≡ weighed weight kind }
 {
     match weight {
+        // A storage knows the length of what it stored, and nothing of what else its entry counts
+        // for.
         Some(weight) => MissFinishType::Created(weight),
         None => kind,
     }

@@ -22,6 +22,8 @@ pub struct FinishReport {
     pub failed_purges: usize,
 }
 
+// Apart from the plain result, for callers who keep a history: a body that was withdrawn was there
+// for a moment.
 /// The outcome of the end of a request's write.
 #[derive(Debug, Drop)]
 pub enum WriteEnd {
@@ -47,17 +49,18 @@ fn status_after(end: &WriteEnd) -> LockStatus
 }
 
 impl<S: Storage> HttpCache<S> {
-    ghost use Rattle.std.specs.Prelude.{◌≡◌, true, IfOk, IfErr, IfSome, OnErr, Ok, None, IsTrue, ◌↔◌, IsSome, is_some, cond, option_map};
+    ghost use Rattle.std.specs.Prelude.{◌≡◌, OnErr, Ok, None, IsTrue, is_some, cond, option_map};
     ghost use Rattle.pcache_lock.specs.Statuses.{IsReason};
     ghost use Rattle.pcache_request.specs.Phases.{IsFilling};
     ghost use Rattle.pcache_request.specs.Requests.{settled};
     ghost use Rattle.pcache_request.specs.Finishing.{after_finish};
     ghost use Rattle.pcache_request.specs.NoBody.{HasNoBodyFor, IfWithdrawn, LeavesNone};
-    ghost use Rattle.pcache_request.specs.WriteEnds.{Ends, EndsAs, finishes_of, evicted_after};
+    ghost use Rattle.pcache_request.specs.WriteEnds.{EndsAs, finishes_of};
     ghost use Rattle.pcache_request.specs.Replacing.{tracked_before_end, weighed};
     ghost use Rattle.pcache_request.specs.Reports.{name_of, entry_stored};
-    ghost use Rattle.pcache_request.specs.LockPasts.{end_deeds, settled_deeds};
-    ghost use Rattle.pcache_request.specs.StorePasts.{EndsRequestPast};
+    ghost use Rattle.pcache_request.specs.LockPasts.{settled_deeds};
+    ghost use Rattle.pcache_request.specs.Sides.{lock_side, manager_side, store_side};
+    ghost use Rattle.pcache_request.specs.Writing.{Finishes};
 
     // Releases the lock that the request holds, a permit with a status, and returns which lock it
     // was.
@@ -84,17 +87,12 @@ impl<S: Storage> HttpCache<S> {
     ) -> Result<Option<FinishReport>>
         requires { IsFilling self.old.phase }
         ensures request { self.new ≡ after_finish self.old }
-        ensures ended { EndsAs result (λ end. Ends S.guarantees self.old self.old.key self.old.write
-            (finishes_of (S.finishes storage.old) self.old.write) (E.limits eviction.old) end
-            (S.state storage.old) (S.state storage.new) (E.tracked eviction.old)
-            (E.tracked eviction.new) (L.table lock.old) (L.table lock.new)
-            × EndsRequestPast S.guarantees self.old.key self.old.write end (S.past storage.old)
-            (S.past storage.new)
-            × (L.past lock.new ≡ end_deeds self.old.write self.old.held end (L.past lock.old))
-            × (E.evicted eviction.new
-            ≡ evicted_after self.old self.old.key
-            (finishes_of (S.finishes storage.old) self.old.write) (E.tracked eviction.old)
-            (E.evicted eviction.old) end)) }
+        ensures ended { EndsAs result (λ end. Finishes S.guarantees self.old
+            (finishes_of (S.finishes storage.old) self.old.write) (E.tracked eviction.old) end
+            (store_side S.state S.past storage.old) (store_side S.state S.past storage.new)
+            (manager_side E.tracked E.limits E.evicted eviction.old)
+            (manager_side E.tracked E.limits E.evicted eviction.new)
+            (lock_side L.table L.past lock.old) (lock_side L.table L.past lock.new)) }
         ensures limits { E.limits eviction.new ≡ E.limits eviction.old }
 
         // If the admission failed, the key has no body in the store after the call.
@@ -127,22 +125,15 @@ impl<S: Storage> HttpCache<S> {
     ) -> Result<Option<FinishReport>>
         requires { IsFilling self.old.phase }
         ensures request { self.new ≡ after_finish self.old }
-        ensures ended { EndsAs result (λ end. Ends S.guarantees self.old self.old.key self.old.write
-            (weighed entering.weight (finishes_of (S.finishes storage.old) self.old.write))
-            (E.limits eviction.old) end
-            (S.state storage.old) (S.state storage.new)
-            (tracked_before_end self.old self.old.key entering.replaced end
-            (E.tracked eviction.old))
-            (E.tracked eviction.new) (L.table lock.old) (L.table lock.new)
-            × EndsRequestPast S.guarantees self.old.key self.old.write end (S.past storage.old)
-            (S.past storage.new)
-            × (L.past lock.new ≡ end_deeds self.old.write self.old.held end (L.past lock.old))
-            × (E.evicted eviction.new
-            ≡ evicted_after self.old self.old.key
+        ensures ended { EndsAs result (λ end. Finishes S.guarantees self.old
             (weighed entering.weight (finishes_of (S.finishes storage.old) self.old.write))
             (tracked_before_end self.old self.old.key entering.replaced end
             (E.tracked eviction.old))
-            (E.evicted eviction.old) end)) }
+            end
+            (store_side S.state S.past storage.old) (store_side S.state S.past storage.new)
+            (manager_side E.tracked E.limits E.evicted eviction.old)
+            (manager_side E.tracked E.limits E.evicted eviction.new)
+            (lock_side L.table L.past lock.old) (lock_side L.table L.past lock.new)) }
         ensures limits { E.limits eviction.new ≡ E.limits eviction.old }
         ensures withdrawn { IsTrue S.guarantees.purges
             → OnErr result (LeavesNone self.old.key self.old.write (S.state storage.old)
@@ -171,25 +162,22 @@ impl<S: Storage> HttpCache<S> {
     ) -> WriteReport
         requires { IsFilling self.old.phase }
         ensures request { self.new ≡ after_finish self.old }
-        ensures end { Ends S.guarantees self.old self.old.key self.old.write
-            (finishes_of (S.finishes storage.old) self.old.write) (E.limits eviction.old) result.end
-            (S.state storage.old) (S.state storage.new) (E.tracked eviction.old)
-            (E.tracked eviction.new) (L.table lock.old) (L.table lock.new) }
-        ensures past { EndsRequestPast S.guarantees self.old.key self.old.write result.end
-            (S.past storage.old) (S.past storage.new) }
-        ensures deeds { L.past lock.new
-            ≡ end_deeds self.old.write self.old.held result.end (L.past lock.old) }
+        ensures ends { Finishes S.guarantees self.old
+            (finishes_of (S.finishes storage.old) self.old.write) (E.tracked eviction.old)
+            result.end
+            (store_side S.state S.past storage.old) (store_side S.state S.past storage.new)
+            (manager_side E.tracked E.limits E.evicted eviction.old)
+            (manager_side E.tracked E.limits E.evicted eviction.new)
+            (lock_side L.table L.past lock.old) (lock_side L.table L.past lock.new) }
         ensures entry { result.entry ≡ entry_stored self.old.key self.old.entry result.end }
         ensures released { result.released
             ≡ cond (is_some self.old.write) (option_map name_of self.old.held) None }
-        ensures evicted { E.evicted eviction.new
-            ≡ evicted_after self.old self.old.key
-            (finishes_of (S.finishes storage.old) self.old.write) (E.tracked eviction.old)
-            (E.evicted eviction.old) result.end }
         ensures limits { E.limits eviction.new ≡ E.limits eviction.old }
         ensures withdrawn { IsTrue S.guarantees.purges
             → IfWithdrawn result.end (HasNoBodyFor (S.state storage.new) self.old.key) }
     {
+        // No manager of upstream's is asked which other entries a key has. So the entry of an old
+        // body stays, goes when its turn comes, and its purge finds nothing.
         let entering = Entering {
             replaced: None,
             weight: None,
@@ -208,26 +196,18 @@ impl<S: Storage> HttpCache<S> {
     ) -> WriteReport
         requires { IsFilling self.old.phase }
         ensures request { self.new ≡ after_finish self.old }
-        ensures end { Ends S.guarantees self.old self.old.key self.old.write
+        ensures ends { Finishes S.guarantees self.old
             (weighed entering.weight (finishes_of (S.finishes storage.old) self.old.write))
-            (E.limits eviction.old) result.end
-            (S.state storage.old) (S.state storage.new)
             (tracked_before_end self.old self.old.key entering.replaced result.end
             (E.tracked eviction.old))
-            (E.tracked eviction.new) (L.table lock.old) (L.table lock.new) }
-        ensures past { EndsRequestPast S.guarantees self.old.key self.old.write result.end
-            (S.past storage.old) (S.past storage.new) }
-        ensures deeds { L.past lock.new
-            ≡ end_deeds self.old.write self.old.held result.end (L.past lock.old) }
+            result.end
+            (store_side S.state S.past storage.old) (store_side S.state S.past storage.new)
+            (manager_side E.tracked E.limits E.evicted eviction.old)
+            (manager_side E.tracked E.limits E.evicted eviction.new)
+            (lock_side L.table L.past lock.old) (lock_side L.table L.past lock.new) }
         ensures entry { result.entry ≡ entry_stored self.old.key self.old.entry result.end }
         ensures released { result.released
             ≡ cond (is_some self.old.write) (option_map name_of self.old.held) None }
-        ensures evicted { E.evicted eviction.new
-            ≡ evicted_after self.old self.old.key
-            (weighed entering.weight (finishes_of (S.finishes storage.old) self.old.write))
-            (tracked_before_end self.old self.old.key entering.replaced result.end
-            (E.tracked eviction.old))
-            (E.evicted eviction.old) result.end }
         ensures limits { E.limits eviction.new ≡ E.limits eviction.old }
         ensures withdrawn { IsTrue S.guarantees.purges
             → IfWithdrawn result.end (HasNoBodyFor (S.state storage.new) self.old.key) }

@@ -63,15 +63,12 @@ fn phase_found(status: HitStatus, phase: CachePhase) -> CachePhase
 
 impl<S: Storage> HttpCache<S> {
     ghost use Rattle.std.specs.Prelude.{◌≡◌, ◌⊎◌, IfOk, IfErr, OnOk, OnErr, IsTrue, false};
-    ghost use Rattle.pcache_base.specs.declared.error.ErrorType.TheVariants.{OutOfMemory, NumbersExhausted};
-    ghost use Rattle.pcache_lock.specs.Locks.{MayFailLock};
-    ghost use Rattle.pcache_store.specs.Store.{left};
+    ghost use Rattle.pcache_base.specs.declared.error.ErrorType.TheVariants.{OutOfMemory};
+    ghost use Rattle.pcache_request.specs.Looking.{TakesFound, asked_in};
     ghost use Rattle.pcache_request.specs.Phases.{MayLookUp};
-    ghost use Rattle.pcache_request.specs.Requests.{found_row, asks_for_hit, counts_found, store_found, table_found, tracked_by_hit};
+    ghost use Rattle.pcache_request.specs.Sides.{lock_side, store_side};
+    ghost use Rattle.pcache_request.specs.Requests.{asks_for_hit, counts_found, tracked_by_hit};
     ghost use Rattle.pcache_request.specs.Reports.{IsNotedIn, asked_by_found, access_by_hit};
-    ghost use Rattle.pcache_store.specs.Notes.{leave_noted, noted};
-    ghost use Rattle.pcache_request.specs.LockPasts.{found_deeds};
-    ghost use Rattle.pcache_request.specs.StorePasts.{taken_past};
 
     // Records the use of the found entry with the manager, if one is in use and the hit counts and
     // is not treated as a miss. Returns the access.
@@ -119,27 +116,10 @@ impl<S: Storage> HttpCache<S> {
     ) -> Result<Option<AskedLock>>
         requires { MayLookUp self.old.phase }
         ensures asked { IfOk result (λ a. a ≡ asked_by_found status (L.table lock.old) self.old) }
-        ensures request { OnOk result (self.new
-            ≡ found_row status meta (S.Hit.reader hit) (L.table lock.old) self.old) }
-        ensures store { OnOk result (S.state storage.new
-            ≡ store_found status (S.Hit.reader hit) self.old (S.state storage.old)) }
-        ensures past { OnOk result (S.past storage.new
-            ≡ taken_past status (S.Hit.reader hit) self.old (S.past storage.old)) }
-        ensures table { OnOk result (L.table lock.new
-            ≡ table_found status now self.old (L.table lock.old)) }
-        ensures deeds { OnOk result (L.past lock.new
-            ≡ found_deeds status now (L.table lock.old) self.old (L.past lock.old)) }
-        ensures same_request { OnErr result (self.new ≡ self.old) }
-        ensures left_store { OnErr result (S.state storage.new
-            ≡ left (S.state storage.old) (S.Hit.reader hit)) }
-        ensures left_past { OnErr result (S.past storage.new
-            ≡ noted (leave_noted (S.Hit.reader hit)) (S.past storage.old)) }
-        ensures same_table { OnErr result (L.table lock.new ≡ L.table lock.old) }
-        ensures same_deeds { OnErr result (L.past lock.new ≡ L.past lock.old) }
+        ensures takes { TakesFound result status meta (S.Hit.reader hit) now self.old self.new
+            (store_side S.state S.past storage.old) (store_side S.state S.past storage.new)
+            (lock_side L.table L.past lock.old) (lock_side L.table L.past lock.new) }
         ensures asks { OnErr result (IsTrue (asks_for_hit status self.old)) }
-        ensures kind { IfErr result (λ e. MayFailLock (L.table lock.old) e) }
-        ensures numbers { IfErr result (λ e.
-            e ≡ NumbersExhausted → IsTrue (asks_for_hit status self.old)) }
     {
         let Some(key) = &self.key else { unreachable!() };
         let phase = phase_found(status, self.phase);
@@ -189,26 +169,12 @@ impl<S: Storage> HttpCache<S> {
         now: Moment,
     ) -> Result<()>
         requires { MayLookUp self.old.phase }
-        ensures request { OnOk result (self.new
-            ≡ found_row status meta (S.Hit.reader hit) (L.table lock.old) self.old) }
-        ensures store { OnOk result (S.state storage.new
-            ≡ store_found status (S.Hit.reader hit) self.old (S.state storage.old)) }
-        ensures past { OnOk result (S.past storage.new
-            ≡ taken_past status (S.Hit.reader hit) self.old (S.past storage.old)) }
-        ensures table { OnOk result (L.table lock.new
-            ≡ table_found status now self.old (L.table lock.old)) }
-        ensures deeds { OnOk result (L.past lock.new
-            ≡ found_deeds status now (L.table lock.old) self.old (L.past lock.old)) }
+        ensures takes { TakesFound result status meta (S.Hit.reader hit) now self.old self.new
+            (store_side S.state S.past storage.old) (store_side S.state S.past storage.new)
+            (lock_side L.table L.past lock.old) (lock_side L.table L.past lock.new) }
         ensures tracked { OnOk result (E.tracked eviction.new
             ≡ tracked_by_hit S.guarantees.numbers status (S.Hit.reader hit) self.old
             (E.tracked eviction.old)) }
-        ensures same_request { OnErr result (self.new ≡ self.old) }
-        ensures left_store { OnErr result (S.state storage.new
-            ≡ left (S.state storage.old) (S.Hit.reader hit)) }
-        ensures left_past { OnErr result (S.past storage.new
-            ≡ noted (leave_noted (S.Hit.reader hit)) (S.past storage.old)) }
-        ensures same_table { OnErr result (L.table lock.new ≡ L.table lock.old) }
-        ensures same_deeds { OnErr result (L.past lock.new ≡ L.past lock.old) }
         ensures noted { OnErr result ((E.tracked eviction.new ≡ E.tracked eviction.old)
             ⊎ (E.tracked eviction.new
             ≡ tracked_by_hit S.guarantees.numbers status (S.Hit.reader hit) self.old
@@ -224,9 +190,6 @@ impl<S: Storage> HttpCache<S> {
             ⊎ IsTrue (asks_for_hit status self.old)) }
         ensures limits { E.limits eviction.new ≡ E.limits eviction.old }
         ensures evicted { E.evicted eviction.new ≡ E.evicted eviction.old }
-        ensures kind { IfErr result (λ e. MayFailLock (L.table lock.old) e) }
-        ensures numbers { IfErr result (λ e.
-            e ≡ NumbersExhausted → IsTrue (asks_for_hit status self.old)) }
     {
         let FoundReport { access: _, asked } = self.take_found(
             storage, eviction, lock, meta, hit, status, now,
@@ -258,41 +221,12 @@ impl<S: Storage> HttpCache<S> {
             (E.tracked eviction.old)) }
         ensures asked { IfOk result (λ f.
             IfOk f.asked (λ a. a ≡ asked_by_found status (L.table lock.old) self.old)) }
-        ensures request { IfOk result (λ f. OnOk f.asked (self.new
-            ≡ found_row status meta (S.Hit.reader hit) (L.table lock.old) self.old)) }
-        ensures store { IfOk result (λ f. OnOk f.asked (S.state storage.new
-            ≡ store_found status (S.Hit.reader hit) self.old (S.state storage.old))) }
-        ensures past { IfOk result (λ f. OnOk f.asked (S.past storage.new
-            ≡ taken_past status (S.Hit.reader hit) self.old (S.past storage.old))) }
-        ensures table { IfOk result (λ f.
-            OnOk f.asked (L.table lock.new ≡ table_found status now self.old (L.table lock.old))) }
-        ensures deeds { IfOk result (λ f. OnOk f.asked (L.past lock.new
-            ≡ found_deeds status now (L.table lock.old) self.old (L.past lock.old))) }
-
-        // The lock failed.
-        ensures unlocked_request { IfOk result (λ f. OnErr f.asked (self.new ≡ self.old)) }
-        ensures unlocked_store { IfOk result (λ f.
-            OnErr f.asked (S.state storage.new ≡ left (S.state storage.old) (S.Hit.reader hit))) }
-        ensures unlocked_past { IfOk result (λ f. OnErr f.asked (S.past storage.new
-            ≡ noted (leave_noted (S.Hit.reader hit)) (S.past storage.old))) }
-        ensures unlocked_table { IfOk result (λ f.
-            OnErr f.asked (L.table lock.new ≡ L.table lock.old)) }
-        ensures unlocked_deeds { IfOk result (λ f.
-            OnErr f.asked (L.past lock.new ≡ L.past lock.old)) }
+        ensures takes { TakesFound (asked_in result) status meta (S.Hit.reader hit) now
+            self.old self.new
+            (store_side S.state S.past storage.old) (store_side S.state S.past storage.new)
+            (lock_side L.table L.past lock.old) (lock_side L.table L.past lock.new) }
         ensures unlocked_asks { IfOk result (λ f.
             OnErr f.asked (IsTrue (asks_for_hit status self.old))) }
-        ensures unlocked_kind { IfOk result (λ f.
-            IfErr f.asked (λ e. MayFailLock (L.table lock.old) e)) }
-        ensures unlocked_numbers { IfOk result (λ f.
-            IfErr f.asked (λ e. e ≡ NumbersExhausted → IsTrue (asks_for_hit status self.old))) }
-
-        ensures same_request { OnErr result (self.new ≡ self.old) }
-        ensures left_store { OnErr result (S.state storage.new
-            ≡ left (S.state storage.old) (S.Hit.reader hit)) }
-        ensures left_past { OnErr result (S.past storage.new
-            ≡ noted (leave_noted (S.Hit.reader hit)) (S.past storage.old)) }
-        ensures same_table { OnErr result (L.table lock.new ≡ L.table lock.old) }
-        ensures same_deeds { OnErr result (L.past lock.new ≡ L.past lock.old) }
         ensures same_tracked { OnErr result (E.tracked eviction.new ≡ E.tracked eviction.old) }
         ensures unused { counts_found status (S.Hit.reader hit) self.old ≡ false
             → eviction.new ≡ eviction.old }

@@ -72,15 +72,12 @@ fn note_use<S: Storage, E: EvictionManager>(
 
 impl<S: Storage> HttpCache<S> {
     ghost use Rattle.std.specs.Prelude.{◌≡◌, ◌⊎◌, IfErr, OnOk, OnErr, IsTrue, false};
-    ghost use Rattle.pcache_base.specs.declared.error.ErrorType.TheVariants.{OutOfMemory, NumbersExhausted};
-    ghost use Rattle.pcache_lock.specs.Locks.{MayFailLock};
-    ghost use Rattle.pcache_store.specs.Store.{left};
+    ghost use Rattle.pcache_base.specs.declared.error.ErrorType.TheVariants.{OutOfMemory};
+    ghost use Rattle.pcache_request.specs.Looking.{TakesFound};
     ghost use Rattle.pcache_request.specs.Phases.{MayLookUp};
+    ghost use Rattle.pcache_request.specs.Sides.{lock_side, store_side};
     ghost use Rattle.pcache_request.specs.Reports.{IsKeptIn, access_by_hit};
-    ghost use Rattle.pcache_request.specs.Requests.{found_row, asks_for_hit, counts_found, store_found, table_found};
-    ghost use Rattle.pcache_store.specs.Notes.{leave_noted, noted};
-    ghost use Rattle.pcache_request.specs.LockPasts.{found_deeds};
-    ghost use Rattle.pcache_request.specs.StorePasts.{taken_past};
+    ghost use Rattle.pcache_request.specs.Requests.{asks_for_hit, counts_found};
 
     // Records the use of the found entry, if a manager is in use and the hit counts and is not treated as a miss.
     fn use_found<E: EvictionManager>(
@@ -125,23 +122,9 @@ impl<S: Storage> HttpCache<S> {
         now: Moment,
     ) -> Result<()>
         requires { MayLookUp self.old.phase }
-        ensures request { OnOk result (self.new
-            ≡ found_row status meta (S.Hit.reader hit) (L.table lock.old) self.old) }
-        ensures store { OnOk result (S.state storage.new
-            ≡ store_found status (S.Hit.reader hit) self.old (S.state storage.old)) }
-        ensures past { OnOk result (S.past storage.new
-            ≡ taken_past status (S.Hit.reader hit) self.old (S.past storage.old)) }
-        ensures table { OnOk result (L.table lock.new
-            ≡ table_found status now self.old (L.table lock.old)) }
-        ensures deeds { OnOk result (L.past lock.new
-            ≡ found_deeds status now (L.table lock.old) self.old (L.past lock.old)) }
-        ensures same_request { OnErr result (self.new ≡ self.old) }
-        ensures left_store { OnErr result (S.state storage.new
-            ≡ left (S.state storage.old) (S.Hit.reader hit)) }
-        ensures left_past { OnErr result (S.past storage.new
-            ≡ noted (leave_noted (S.Hit.reader hit)) (S.past storage.old)) }
-        ensures same_table { OnErr result (L.table lock.new ≡ L.table lock.old) }
-        ensures same_deeds { OnErr result (L.past lock.new ≡ L.past lock.old) }
+        ensures takes { TakesFound result status meta (S.Hit.reader hit) now self.old self.new
+            (store_side S.state S.past storage.old) (store_side S.state S.past storage.new)
+            (lock_side L.table L.past lock.old) (lock_side L.table L.past lock.new) }
         ensures tracked { E.tracked eviction.new ≡ E.tracked eviction.old }
         ensures unused { counts_found status (S.Hit.reader hit) self.old ≡ false
             → eviction.new ≡ eviction.old }
@@ -153,9 +136,6 @@ impl<S: Storage> HttpCache<S> {
             ⊎ IsTrue (asks_for_hit status self.old)) }
         ensures limits { E.limits eviction.new ≡ E.limits eviction.old }
         ensures evicted { E.evicted eviction.new ≡ E.evicted eviction.old }
-        ensures kind { IfErr result (λ e. MayFailLock (L.table lock.old) e) }
-        ensures numbers { IfErr result (λ e.
-            e ≡ NumbersExhausted → IsTrue (asks_for_hit status self.old)) }
     {
         if let Err(refused) = self.use_found(eviction, &meta, &hit, status) {
             hit.let_go(storage);

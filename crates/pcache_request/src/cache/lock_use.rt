@@ -61,16 +61,15 @@ impl LockCtx {
 }
 
 impl<S: Storage> HttpCache<S> {
-    ghost use Rattle.std.specs.Prelude.{◌≡◌, ◌↔◌, [], IfOk, IfErr, OnOk, OnErr, IsOk, IsSome, IsTrue, Some, None, cond, option_map};
+    ghost use Rattle.std.specs.Prelude.{◌≡◌, ◌↔◌, IsSome, IsTrue, Some, None, cond, option_map};
     ghost use Rattle.std.specs.Duration.{as_nanos};
-    ghost use Rattle.pcache_base.specs.declared.error.ErrorType.TheVariants.{OutOfMemory};
     ghost use Rattle.pcache_lock.specs.declared.lock.permit.Locked.TheVariants.{Write};
-    ghost use Rattle.pcache_request.specs.LockUse.{MaySetLock, gone_for, handed, permit_in, published_by, read_in, table_handed, unheld, with_cache_lock};
-    ghost use Rattle.pcache_request.specs.Phases.{IsDisabled, IsOn};
+    ghost use Rattle.pcache_request.specs.LockUse.{MaySetLock, permit_in, read_in, unheld, with_cache_lock};
+    ghost use Rattle.pcache_request.specs.Phases.{IsOn};
+    ghost use Rattle.pcache_request.specs.Locking.{Publishes, Releases, TakesPermit};
+    ghost use Rattle.pcache_request.specs.Sides.{lock_side};
     ghost use Rattle.pcache_request.specs.Releasing.{MayRelease, status_for};
-    ghost use Rattle.pcache_request.specs.Reports.{name_of, released_as};
-    ghost use Rattle.pcache_request.specs.Requests.{HoldsNothing, settled};
-    ghost use Rattle.pcache_request.specs.LockPasts.{handed_deeds, published_deeds, settled_deeds};
+    ghost use Rattle.pcache_request.specs.Reports.{name_of};
 
     /// Whether `set_cache_lock` may be called: the phase is CacheKey, Stale or Hit, and no lock is
     /// held.
@@ -153,10 +152,8 @@ impl<S: Storage> HttpCache<S> {
         permit: WritePermit,
     ) -> Option<LockName>
         requires { IsOn self.old.phase }
-        ensures request { self.new ≡ handed permit self.old }
-        ensures table { L.table lock.new ≡ table_handed permit self.old (L.table lock.old) }
-        ensures deeds { L.past lock.new ≡ handed_deeds permit self.old (L.past lock.old) }
-        ensures let_go { result ≡ option_map name_of (gone_for permit self.old) }
+        ensures takes { TakesPermit result permit self.old self.new
+            (lock_side L.table L.past lock.old) (lock_side L.table L.past lock.new) }
     {
         let new = Locked::Write(permit);
         let gone = if self.uses.lock {
@@ -181,18 +178,12 @@ impl<S: Storage> HttpCache<S> {
         reason: NoCacheReason,
     ) -> Option<ReleasedLock>
         requires { MayRelease reason self.old.held }
-        ensures request { self.new ≡ unheld self.old }
-        ensures table { L.table lock.new
-            ≡ settled (status_for (L.custom_status lock.old) reason) self.old.held
-            (L.table lock.old) }
-        ensures deeds { L.past lock.new
-            ≡ settled_deeds (status_for (L.custom_status lock.old) reason) self.old.held
-            (L.past lock.old) }
-        ensures released { result
-            ≡ option_map (released_as (status_for (L.custom_status lock.old) reason))
-            self.old.held }
+        ensures releases { Releases result (status_for (L.custom_status lock.old) reason)
+            self.old self.new
+            (lock_side L.table L.past lock.old) (lock_side L.table L.past lock.new) }
     {
         let status = status_for(lock, reason);
+        // A read lock is let go for any reason, since nobody waits for it and is told one.
         let lock = settle(self.alloc, &self.key, &mut self.held, lock, status)?;
         Some(ReleasedLock { lock, status })
     }
@@ -206,17 +197,8 @@ impl<S: Storage> HttpCache<S> {
         lock: &mut L,
         tokens: &[u64],
     ) -> Result<Option<LockName>>
-        ensures published { IfOk result (λ p.
-            p ≡ option_map (λ w. name_of (Write w)) (permit_in self.now.held)) }
-        ensures table { OnOk result (L.table lock.new
-            ≡ published_by tokens.now self.now.held (L.table lock.old)) }
-        ensures deeds { OnOk result (L.past lock.new
-            ≡ published_deeds tokens.now self.now.held (L.past lock.old)) }
-        ensures same_table { OnErr result (L.table lock.new ≡ L.table lock.old) }
-        ensures same_deeds { OnErr result (L.past lock.new ≡ L.past lock.old) }
-        ensures kind { IfErr result (λ e. e ≡ OutOfMemory) }
-        ensures clears { tokens.now ≡ [] → IsOk result }
-        ensures none { permit_in self.now.held ≡ None → IsOk result }
+        ensures publishes { Publishes result tokens.now self.now
+            (lock_side L.table L.past lock.old) (lock_side L.table L.past lock.new) }
     {
         let Some(Locked::Write(permit)) = &self.held else {
             return Ok(None);
@@ -234,6 +216,7 @@ impl<S: Storage> HttpCache<S> {
         requires { IsOn self.old.phase }
         ensures { self.new ≡ self.old }
     {
-        let _tagged = self.phase; // for the prover: once a field is used, the invariant is known
+        // For the prover: a use of a field brings in the invariant, which the request has to keep.
+        let _tagged = self.phase;
     }
 }

@@ -248,14 +248,15 @@ fn wait_on<L: CacheKeyLock>(
 }
 
 impl<S: Storage> HttpCache<S> {
-    ghost use Rattle.std.specs.Prelude.{◌≡◌, ◌-◌, IfOk, IfErr, IfSome, OnOk, OnErr, IsOk, IsSome, None, Some, option_copied, option_map};
+    ghost use Rattle.std.specs.Prelude.{◌≡◌, ◌-◌, IfOk, IfErr, OnOk, OnErr, IsOk, IsSome, None, Some, option_copied, option_map};
     ghost use Rattle.std.specs.Duration.{as_nanos};
     ghost use Rattle.pcache_base.specs.declared.error.ErrorType.TheVariants.{OutOfMemory};
     ghost use Rattle.pcache_lock.specs.declared.lock.permit.Locked.TheVariants.{Read};
     ghost use Rattle.pcache_request.specs.LockUse.{read_in};
-    ghost use Rattle.pcache_request.specs.LockWaits.{table_waited, too_old_for, unusable_in, wait_result, waited};
+    ghost use Rattle.pcache_request.specs.Locking.{Waits};
+    ghost use Rattle.pcache_request.specs.Sides.{lock_side};
+    ghost use Rattle.pcache_request.specs.LockWaits.{too_old_for, unusable_in, wait_result, waited};
     ghost use Rattle.pcache_request.specs.Reports.{name_of};
-    ghost use Rattle.pcache_request.specs.LockPasts.{waited_deeds};
 
     /// The fills that the request cannot use, for which it does not wait.
     pub fn unusable_fills(&self) -> Option<&UnusableFills>
@@ -281,18 +282,8 @@ impl<S: Storage> HttpCache<S> {
         requires { IsSome (read_in self.old.held) }
         ensures answer { IfOk result (λ p.
             p ≡ wait_result (L.table lock.old) now self.old.held self.old) }
-        ensures request { OnOk result (self.new
-            ≡ waited (L.table lock.old) now self.old.held self.old) }
-        ensures table { OnOk result (L.table lock.new
-            ≡ table_waited (L.table lock.old) now self.old.held self.old) }
-        ensures deeds { OnOk result (L.past lock.new
-            ≡ waited_deeds (L.table lock.old) now self.old.held self.old (L.past lock.old)) }
-        ensures same_request { OnErr result (self.new ≡ self.old) }
-        ensures same_table { OnErr result (L.table lock.new ≡ L.table lock.old) }
-        ensures same_deeds { OnErr result (L.past lock.new ≡ L.past lock.old) }
-        ensures kind { IfErr result (λ e. e ≡ OutOfMemory) }
-        ensures later { IfSome (read_in self.old.held) (λ rd. IsSome rd.watch → IsOk result) }
-        ensures unnamed { unusable_in self.old.key ≡ None → IsOk result }
+        ensures waits { Waits result now self.old self.new
+            (lock_side L.table L.past lock.old) (lock_side L.table L.past lock.new) }
     {
         Ok(self.wait(lock, now)?.answer)
     }
@@ -307,18 +298,8 @@ impl<S: Storage> HttpCache<S> {
         ensures lock { IfOk result (λ w. Some w.lock ≡ option_map name_of self.old.held) }
         ensures too_old { IfOk result (λ w. w.is_too_old
             ≡ too_old_for (L.table lock.old) now self.old.held (unusable_in self.old.key)) }
-        ensures request { OnOk result (self.new
-            ≡ waited (L.table lock.old) now self.old.held self.old) }
-        ensures table { OnOk result (L.table lock.new
-            ≡ table_waited (L.table lock.old) now self.old.held self.old) }
-        ensures deeds { OnOk result (L.past lock.new
-            ≡ waited_deeds (L.table lock.old) now self.old.held self.old (L.past lock.old)) }
-        ensures same_request { OnErr result (self.new ≡ self.old) }
-        ensures same_table { OnErr result (L.table lock.new ≡ L.table lock.old) }
-        ensures same_deeds { OnErr result (L.past lock.new ≡ L.past lock.old) }
-        ensures kind { IfErr result (λ e. e ≡ OutOfMemory) }
-        ensures later { IfSome (read_in self.old.held) (λ rd. IsSome rd.watch → IsOk result) }
-        ensures unnamed { unusable_in self.old.key ≡ None → IsOk result }
+        ensures waits { Waits result now self.old self.new
+            (lock_side L.table L.past lock.old) (lock_side L.table L.past lock.new) }
     {
         let Some(held) = self.held.take() else {
             unreachable!()
@@ -326,6 +307,8 @@ impl<S: Storage> HttpCache<S> {
         let Locked::Read(mut read) = held else {
             unreachable!()
         };
+        // Those of the key count as they are at the first poll. No report copies them: they are
+        // there.
         let fills = unusable_in(&self.key);
         wait_on(
             self.alloc,

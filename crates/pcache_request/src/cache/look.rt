@@ -12,19 +12,19 @@ use pcache_predict::admission::{AdmissionPolicy, Decision};
 use pcache_store::storage::{HandleHit, Storage};
 
 impl<S: Storage> HttpCache<S> {
-    ghost use Rattle.std.specs.Prelude.{◌≡◌, ◌⊎◌, IfOk, IfErr, OnOk, OnErr, IsTrue, IsSome, Some, None, false, option_map, cond};
-    ghost use Rattle.pcache_base.specs.declared.error.ErrorType.TheVariants.{OutOfMemory, NumbersExhausted};
+    ghost use Rattle.std.specs.Prelude.{◌≡◌, ◌⊎◌, IfOk, IfErr, OnOk, OnErr, IsTrue, IsSome, Some, None, false, option_map};
+    ghost use Rattle.pcache_base.specs.declared.error.ErrorType.TheVariants.{OutOfMemory};
     ghost use Rattle.pcache_lock.specs.Locks.{MayFailLock};
-    ghost use Rattle.pcache_store.specs.Store.{followed, left};
-    ghost use Rattle.pcache_request.specs.Admissions.{Decides, asks_any, asks_policy, decision_of_any, decision_taken, looked_with, store_looked_with, table_looked_with, with_decision};
-    ghost use Rattle.pcache_request.specs.LookUps.{OnLooked, OnUnlocked, Tells, handed_on};
+    ghost use Rattle.pcache_store.specs.Store.{followed};
+    ghost use Rattle.pcache_request.specs.Admissions.{Decides, asks_any, asks_policy, decision_of_any, decision_taken};
+    ghost use Rattle.pcache_request.specs.Looking.{LooksUp, TellsLookUp};
     ghost use Rattle.pcache_request.specs.Phases.{MayLookUp};
+    ghost use Rattle.pcache_request.specs.Sides.{lock_side, store_side};
     ghost use Rattle.pcache_request.specs.Requests.{found_for};
-    ghost use Rattle.pcache_request.specs.Variants.{is_hidden, visible, seen_for, hides_for, searched, with_key_lock, table_key_locked, asked_for_key, asks_unseen, looked_for, table_looked_for};
+    ghost use Rattle.pcache_request.specs.Variants.{is_hidden, with_key_lock, table_key_locked, asked_for_key};
     ghost use Rattle.pcache_request.specs.Witnesses.{HasHeard, passed_over};
-    ghost use Rattle.pcache_request.specs.Failures.{FailsToLook};
-    ghost use Rattle.pcache_request.specs.LockPasts.{key_locked_deeds, looked_deeds, looked_with_deeds};
-    ghost use Rattle.pcache_request.specs.StorePasts.{found_past, looked_past, passed_past, searched_past};
+    ghost use Rattle.pcache_request.specs.LockPasts.{key_locked_deeds};
+    ghost use Rattle.pcache_request.specs.StorePasts.{found_past, passed_past};
 
     /// What the store has for the key, even if it is hidden: the meta, and a reader that has to be
     /// taken or let go. Fails only when memory runs out, and then changes nothing.
@@ -138,11 +138,11 @@ impl<S: Storage> HttpCache<S> {
         now: Moment,
     ) -> Result<LookUp<S::Hit>>
         requires { MayLookUp self.old.phase }
-        ensures found { IfOk result (λ l. option_map (λ p. (p.0, S.Hit.reader p.1)) (handed_on l)
-            ≡ seen_for (S.state storage.old) self.old) }
-        ensures told { IfOk result (λ l. Tells
-            (decision_of_any has_policy (S.state storage.old) self.old self.new)
-            (S.state storage.old) (L.table lock.old) self.old l) }
+        ensures looks { TellsLookUp S.Hit.reader result
+            (decision_of_any has_policy (S.state storage.old) self.old self.new) now
+            self.old self.new
+            (store_side S.state S.past storage.old) (store_side S.state S.past storage.new)
+            (lock_side L.table L.past lock.old) (lock_side L.table L.past lock.new) }
         ensures heard { OnOk result (HasHeard W.hears witness.old
             (found_for (S.state storage.old) self.old.key) witness.new) }
         ensures decides { IsTrue (asks_any has_policy (S.state storage.old) self.old)
@@ -150,39 +150,6 @@ impl<S: Storage> HttpCache<S> {
             self.new.digest.admission }
         ensures same_policy { asks_any has_policy (S.state storage.old) self.old ≡ false
             → policy.new ≡ policy.old }
-        ensures request { IfOk result (λ l. OnLooked l (self.new
-            ≡ looked_with (decision_of_any has_policy (S.state storage.old) self.old self.new)
-            (S.state storage.old) (L.table lock.old) self.old)) }
-        ensures table { IfOk result (λ l. OnLooked l (L.table lock.new
-            ≡ table_looked_with (decision_of_any has_policy (S.state storage.old) self.old self.new)
-            (S.state storage.old) now self.old (L.table lock.old))) }
-        ensures deeds { IfOk result (λ l. OnLooked l (L.past lock.new
-            ≡ looked_with_deeds (decision_of_any has_policy (S.state storage.old) self.old self.new)
-            (S.state storage.old) now (L.table lock.old) self.old (L.past lock.old))) }
-        ensures store { OnOk result (S.state storage.new
-            ≡ store_looked_with (decision_of_any has_policy (S.state storage.old) self.old self.new)
-            self.old (S.state storage.old)) }
-        ensures past { OnOk result (S.past storage.new
-            ≡ looked_past (decision_of_any has_policy (S.state storage.old) self.old self.new)
-            (S.state storage.old) self.old (S.past storage.old)) }
-
-        // The lock failed.
-        ensures unlocked_request { IfOk result (λ l. OnUnlocked l (self.new
-            ≡ with_decision (decision_of_any has_policy (S.state storage.old) self.old self.new)
-            self.old)) }
-        ensures unlocked_table { IfOk result (λ l.
-            OnUnlocked l (L.table lock.new ≡ L.table lock.old)) }
-        ensures unlocked_deeds { IfOk result (λ l.
-            OnUnlocked l (L.past lock.new ≡ L.past lock.old)) }
-        ensures unlocked_store { IfOk result (λ l. OnUnlocked l (hides_for (S.state storage.old)
-            self.old
-            ≡ false
-            → S.state storage.new ≡ S.state storage.old)) }
-
-        ensures same_request { OnErr result (self.new ≡ self.old) }
-        ensures same_table { OnErr result (L.table lock.new ≡ L.table lock.old) }
-        ensures same_deeds { OnErr result (L.past lock.new ≡ L.past lock.old) }
-        ensures something { OnErr result (IsSome (found_for (S.state storage.old) self.old.key)) }
         ensures refused { IfErr result (λ e. ((e ≡ OutOfMemory)
             × (S.state storage.new ≡ S.state storage.old)
             × (S.past storage.new ≡ S.past storage.old))
@@ -215,32 +182,11 @@ impl<S: Storage> HttpCache<S> {
         now: Moment,
     ) -> Result<Option<(CacheMeta, S::Hit)>>
         requires { MayLookUp self.old.phase }
-        ensures found { IfOk result (λ r.
-            option_map (λ p. (p.0, S.Hit.reader p.1)) r ≡ seen_for (S.state storage.old) self.old) }
-        ensures request { OnOk result (self.new
-            ≡ looked_for (S.state storage.old) (L.table lock.old) self.old) }
-        ensures store { OnOk result (S.state storage.new
-            ≡ searched (S.state storage.old) self.old) }
-        ensures past { OnOk result (S.past storage.new
-            ≡ searched_past (S.state storage.old) self.old (S.past storage.old)) }
-        ensures table { OnOk result (L.table lock.new
-            ≡ table_looked_for (S.state storage.old) now self.old (L.table lock.old)) }
-        ensures deeds { OnOk result (L.past lock.new
-            ≡ looked_deeds (S.state storage.old) now (L.table lock.old) self.old
-            (L.past lock.old)) }
-        ensures same_request { OnErr result (self.new ≡ self.old) }
-        ensures left { OnErr result (FailsToLook (S.state storage.old) self.old (S.past storage.old)
-            (S.state storage.new) (S.past storage.new)) }
-        ensures same_store { OnErr result (hides_for (S.state storage.old) self.old ≡ false
-            → S.state storage.new ≡ S.state storage.old) }
-        ensures same_table { OnErr result (L.table lock.new ≡ L.table lock.old) }
-        ensures same_deeds { OnErr result (L.past lock.new ≡ L.past lock.old) }
-        ensures kind { IfErr result (λ e. MayFailLock (L.table lock.old) e) }
-        ensures numbers { IfErr result (λ e.
-            e ≡ NumbersExhausted → IsTrue (asks_unseen (S.state storage.old) self.old)) }
-        ensures something { OnErr result (IsSome (found_for (S.state storage.old) self.old.key)
-            ⊎ IsTrue self.old.uses.lock) }
+        ensures looks { LooksUp S.Hit.reader result None now self.old self.new
+            (store_side S.state S.past storage.old) (store_side S.state S.past storage.new)
+            (lock_side L.table L.past lock.old) (lock_side L.table L.past lock.new) }
     {
+        // A decision is itself a policy. This one is lent and not in use, so it is never asked.
         let mut unasked = Decision::Ready { observed: 0 };
         match self.search(storage, lock, &mut unasked, false, &mut NoWitness, now)? {
             LookUp::Found(meta, hit) => Ok(Some((meta, hit))),
@@ -265,41 +211,15 @@ impl<S: Storage> HttpCache<S> {
         now: Moment,
     ) -> Result<Option<(CacheMeta, S::Hit)>>
         requires { MayLookUp self.old.phase }
-        ensures found { IfOk result (λ r.
-            option_map (λ p. (p.0, S.Hit.reader p.1)) r ≡ seen_for (S.state storage.old) self.old) }
+        ensures looks { LooksUp S.Hit.reader result
+            (decision_taken (S.state storage.old) self.old self.new) now self.old self.new
+            (store_side S.state S.past storage.old) (store_side S.state S.past storage.new)
+            (lock_side L.table L.past lock.old) (lock_side L.table L.past lock.new) }
         ensures decides { IsTrue (asks_policy (S.state storage.old) self.old)
             → Decides (λ k d. A.decides policy.old k d policy.new) self.old.key
             self.new.digest.admission }
         ensures same_policy { asks_policy (S.state storage.old) self.old ≡ false
             → policy.new ≡ policy.old }
-        ensures request { OnOk result (self.new
-            ≡ looked_with (decision_taken (S.state storage.old) self.old self.new)
-            (S.state storage.old) (L.table lock.old) self.old) }
-        ensures store { OnOk result (S.state storage.new
-            ≡ store_looked_with (decision_taken (S.state storage.old) self.old self.new) self.old
-            (S.state storage.old)) }
-        ensures past { OnOk result (S.past storage.new
-            ≡ looked_past (decision_taken (S.state storage.old) self.old self.new)
-            (S.state storage.old) self.old (S.past storage.old)) }
-        ensures table { OnOk result (L.table lock.new
-            ≡ table_looked_with (decision_taken (S.state storage.old) self.old self.new)
-            (S.state storage.old) now self.old (L.table lock.old)) }
-        ensures deeds { OnOk result (L.past lock.new
-            ≡ looked_with_deeds (decision_taken (S.state storage.old) self.old self.new)
-            (S.state storage.old) now (L.table lock.old) self.old (L.past lock.old)) }
-        ensures decided { OnErr result (self.new
-            ≡ with_decision (decision_taken (S.state storage.old) self.old self.new) self.old) }
-        ensures left { OnErr result (FailsToLook (S.state storage.old) self.old (S.past storage.old)
-            (S.state storage.new) (S.past storage.new)) }
-        ensures same_store { OnErr result (hides_for (S.state storage.old) self.old ≡ false
-            → S.state storage.new ≡ S.state storage.old) }
-        ensures same_table { OnErr result (L.table lock.new ≡ L.table lock.old) }
-        ensures same_deeds { OnErr result (L.past lock.new ≡ L.past lock.old) }
-        ensures kind { IfErr result (λ e. MayFailLock (L.table lock.old) e) }
-        ensures numbers { IfErr result (λ e.
-            e ≡ NumbersExhausted → IsTrue (asks_unseen (S.state storage.old) self.old)) }
-        ensures something { OnErr result (IsSome (found_for (S.state storage.old) self.old.key)
-            ⊎ IsTrue self.old.uses.lock) }
     {
         match self.look_up(storage, lock, policy, &mut NoWitness, now)? {
             LookUp::Found(meta, hit) => Ok(Some((meta, hit))),
@@ -323,11 +243,10 @@ impl<S: Storage> HttpCache<S> {
         now: Moment,
     ) -> Result<LookUp<S::Hit>>
         requires { MayLookUp self.old.phase }
-        ensures found { IfOk result (λ l. option_map (λ p. (p.0, S.Hit.reader p.1)) (handed_on l)
-            ≡ seen_for (S.state storage.old) self.old) }
-        ensures told { IfOk result (λ l. Tells
-            (decision_taken (S.state storage.old) self.old self.new) (S.state storage.old)
-            (L.table lock.old) self.old l) }
+        ensures looks { TellsLookUp S.Hit.reader result
+            (decision_taken (S.state storage.old) self.old self.new) now self.old self.new
+            (store_side S.state S.past storage.old) (store_side S.state S.past storage.new)
+            (lock_side L.table L.past lock.old) (lock_side L.table L.past lock.new) }
         ensures heard { OnOk result (HasHeard W.hears witness.old
             (found_for (S.state storage.old) self.old.key) witness.new) }
         ensures decides { IsTrue (asks_policy (S.state storage.old) self.old)
@@ -335,38 +254,6 @@ impl<S: Storage> HttpCache<S> {
             self.new.digest.admission }
         ensures same_policy { asks_policy (S.state storage.old) self.old ≡ false
             → policy.new ≡ policy.old }
-        ensures request { IfOk result (λ l. OnLooked l (self.new
-            ≡ looked_with (decision_taken (S.state storage.old) self.old self.new)
-            (S.state storage.old) (L.table lock.old) self.old)) }
-        ensures table { IfOk result (λ l. OnLooked l (L.table lock.new
-            ≡ table_looked_with (decision_taken (S.state storage.old) self.old self.new)
-            (S.state storage.old) now self.old (L.table lock.old))) }
-        ensures deeds { IfOk result (λ l. OnLooked l (L.past lock.new
-            ≡ looked_with_deeds (decision_taken (S.state storage.old) self.old self.new)
-            (S.state storage.old) now (L.table lock.old) self.old (L.past lock.old))) }
-        ensures store { OnOk result (S.state storage.new
-            ≡ store_looked_with (decision_taken (S.state storage.old) self.old self.new) self.old
-            (S.state storage.old)) }
-        ensures past { OnOk result (S.past storage.new
-            ≡ looked_past (decision_taken (S.state storage.old) self.old self.new)
-            (S.state storage.old) self.old (S.past storage.old)) }
-
-        // The lock failed.
-        ensures unlocked_request { IfOk result (λ l. OnUnlocked l (self.new
-            ≡ with_decision (decision_taken (S.state storage.old) self.old self.new) self.old)) }
-        ensures unlocked_table { IfOk result (λ l.
-            OnUnlocked l (L.table lock.new ≡ L.table lock.old)) }
-        ensures unlocked_deeds { IfOk result (λ l.
-            OnUnlocked l (L.past lock.new ≡ L.past lock.old)) }
-        ensures unlocked_store { IfOk result (λ l. OnUnlocked l (hides_for (S.state storage.old)
-            self.old
-            ≡ false
-            → S.state storage.new ≡ S.state storage.old)) }
-
-        ensures same_request { OnErr result (self.new ≡ self.old) }
-        ensures same_table { OnErr result (L.table lock.new ≡ L.table lock.old) }
-        ensures same_deeds { OnErr result (L.past lock.new ≡ L.past lock.old) }
-        ensures something { OnErr result (IsSome (found_for (S.state storage.old) self.old.key)) }
         ensures refused { IfErr result (λ e. ((e ≡ OutOfMemory)
             × (S.state storage.new ≡ S.state storage.old)
             × (S.past storage.new ≡ S.past storage.old))
@@ -375,6 +262,8 @@ impl<S: Storage> HttpCache<S> {
             × (S.past storage.new
             ≡ passed_past (S.state storage.old) self.old.key (S.past storage.old)))) }
     {
+        // A world makes this call, so what is promised of its history holds of the look-ups of its
+        // users.
         self.search(storage, lock, policy, true, witness, now)
     }
 }

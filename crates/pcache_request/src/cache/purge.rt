@@ -1,12 +1,12 @@
 //! Removing and expiring what is stored for a request's key.
-ghost use Rattle.std.specs.Prelude.{◌≡◌, IfErr, IfOk, OnErr, OnOk, Some};
+ghost use Rattle.std.specs.Prelude.{◌≡◌, IfOk, Some};
 ghost use Rattle.pcache_base.specs.CompactKey.{compact_of};
 ghost use Rattle.pcache_base.specs.Key.{slot};
-ghost use Rattle.pcache_base.specs.declared.error.ErrorType.TheVariants.{OutOfMemory};
-ghost use Rattle.pcache_store.specs.Purge.{purge_outcome, purged_at};
+ghost use Rattle.pcache_store.specs.Purge.{purge_outcome};
+ghost use Rattle.pcache_request.specs.Removals.{Purges};
 ghost use Rattle.pcache_request.specs.Reports.{untracked};
 ghost use Rattle.pcache_request.specs.Requests.{tracked_gone};
-ghost use Rattle.pcache_request.specs.StorePasts.{purged_past};
+ghost use Rattle.pcache_request.specs.Sides.{manager_side, store_side};
 
 use super::{HttpCache, Removal};
 use pcache_base::error::Result;
@@ -53,20 +53,10 @@ fn remove_key<S: Storage, E: EvictionManager>(
         ≡ purge_outcome S.guarantees.numbers (S.state storage.old) (Some (slot key.now))) }
     ensures untracked { IfOk result (λ r.
         r.untracked ≡ untracked is_used (compact_of key.now) r.outcome) }
-    ensures store { OnOk result (S.state storage.new
-        ≡ purged_at (S.state storage.old) (Some (slot key.now))) }
-    ensures past { OnOk result (S.past storage.new
-        ≡ purged_past (Some key.now) (S.past storage.old)) }
-    ensures tracked { OnOk result (E.tracked eviction.new
-        ≡ tracked_gone is_used (compact_of key.now)
-        (purge_outcome S.guarantees.numbers (S.state storage.old) (Some (slot key.now)))
-        (E.tracked eviction.old)) }
-    ensures same_store { OnErr result (S.state storage.new ≡ S.state storage.old) }
-    ensures same_past { OnErr result (S.past storage.new ≡ S.past storage.old) }
-    ensures same_tracked { OnErr result (E.tracked eviction.new ≡ E.tracked eviction.old) }
-    ensures limits { E.limits eviction.new ≡ E.limits eviction.old }
-    ensures evicted { E.evicted eviction.new ≡ E.evicted eviction.old }
-    ensures kind { IfErr result (λ e. e ≡ OutOfMemory) }
+    ensures purges { Purges result S.guarantees.numbers is_used (Some key.now)
+        (store_side S.state S.past storage.old) (store_side S.state S.past storage.new)
+        (manager_side E.tracked E.limits E.evicted eviction.old)
+        (manager_side E.tracked E.limits E.evicted eviction.new) }
 {
     let compact = key.to_compact()?;
     let outcome = storage.purge(PurgeTarget::Active(&compact), PurgeType::Invalidation)?;
@@ -75,14 +65,14 @@ fn remove_key<S: Storage, E: EvictionManager>(
 }
 
 impl<S: Storage> HttpCache<S> {
-    ghost use Rattle.std.specs.Prelude.{◌≡◌, IfOk, IfErr, OnOk, OnErr, option_map};
+    ghost use Rattle.std.specs.Prelude.{◌≡◌, IfOk, option_map};
     ghost use Rattle.pcache_base.specs.Key.{slot};
-    ghost use Rattle.pcache_base.specs.declared.error.ErrorType.TheVariants.{OutOfMemory};
-    ghost use Rattle.pcache_store.specs.Purge.{purge_outcome, purged_at, expire_outcome, expired_at};
+    ghost use Rattle.pcache_store.specs.Purge.{purge_outcome, expire_outcome};
     ghost use Rattle.pcache_request.specs.Phases.{MayPurge, MaySpawnPurge};
+    ghost use Rattle.pcache_request.specs.Removals.{Expires, Purges};
     ghost use Rattle.pcache_request.specs.Reports.{untracked_for};
-    ghost use Rattle.pcache_request.specs.Requests.{is_removed_by, tracked_expired, tracked_purged};
-    ghost use Rattle.pcache_request.specs.StorePasts.{expired_past, purged_past};
+    ghost use Rattle.pcache_request.specs.Requests.{is_removed_by};
+    ghost use Rattle.pcache_request.specs.Sides.{manager_side, store_side};
 
     /// Removes what is stored for the key, and its entry from the manager. Returns whether anything
     /// was stored.
@@ -93,19 +83,10 @@ impl<S: Storage> HttpCache<S> {
         ensures there { IfOk result (λ there. there
             ≡ is_removed_by (purge_outcome S.guarantees.numbers (S.state storage.old)
             (option_map slot self.old.key))) }
-        ensures store { OnOk result (S.state storage.new
-            ≡ purged_at (S.state storage.old) (option_map slot self.old.key)) }
-        ensures past { OnOk result (S.past storage.new
-            ≡ purged_past self.old.key (S.past storage.old)) }
-        ensures tracked { OnOk result (E.tracked eviction.new
-            ≡ tracked_purged S.guarantees.numbers self.old (S.state storage.old)
-            (E.tracked eviction.old)) }
-        ensures same_store { OnErr result (S.state storage.new ≡ S.state storage.old) }
-        ensures same_past { OnErr result (S.past storage.new ≡ S.past storage.old) }
-        ensures same_tracked { OnErr result (E.tracked eviction.new ≡ E.tracked eviction.old) }
-        ensures limits { E.limits eviction.new ≡ E.limits eviction.old }
-        ensures evicted { E.evicted eviction.new ≡ E.evicted eviction.old }
-        ensures kind { IfErr result (λ e. e ≡ OutOfMemory) }
+        ensures purges { Purges result S.guarantees.numbers self.old.uses.eviction self.old.key
+            (store_side S.state S.past storage.old) (store_side S.state S.past storage.new)
+            (manager_side E.tracked E.limits E.evicted eviction.old)
+            (manager_side E.tracked E.limits E.evicted eviction.new) }
     {
         Ok(self.purge_key(storage, eviction)?.was_there())
     }
@@ -125,19 +106,10 @@ impl<S: Storage> HttpCache<S> {
             (option_map slot self.old.key)) }
         ensures untracked { IfOk result (λ r.
             r.untracked ≡ untracked_for self.old.uses.eviction self.old.key r.outcome) }
-        ensures store { OnOk result (S.state storage.new
-            ≡ purged_at (S.state storage.old) (option_map slot self.old.key)) }
-        ensures past { OnOk result (S.past storage.new
-            ≡ purged_past self.old.key (S.past storage.old)) }
-        ensures tracked { OnOk result (E.tracked eviction.new
-            ≡ tracked_purged S.guarantees.numbers self.old (S.state storage.old)
-            (E.tracked eviction.old)) }
-        ensures same_store { OnErr result (S.state storage.new ≡ S.state storage.old) }
-        ensures same_past { OnErr result (S.past storage.new ≡ S.past storage.old) }
-        ensures same_tracked { OnErr result (E.tracked eviction.new ≡ E.tracked eviction.old) }
-        ensures limits { E.limits eviction.new ≡ E.limits eviction.old }
-        ensures evicted { E.evicted eviction.new ≡ E.evicted eviction.old }
-        ensures kind { IfErr result (λ e. e ≡ OutOfMemory) }
+        ensures purges { Purges result S.guarantees.numbers self.old.uses.eviction self.old.key
+            (store_side S.state S.past storage.old) (store_side S.state S.past storage.new)
+            (manager_side E.tracked E.limits E.evicted eviction.old)
+            (manager_side E.tracked E.limits E.evicted eviction.new) }
     {
         let Some(key) = &self.key else { unreachable!() };
         remove_key(storage, eviction, self.uses.eviction, key)
@@ -157,19 +129,10 @@ impl<S: Storage> HttpCache<S> {
         ensures there { IfOk result (λ there. there
             ≡ is_removed_by (purge_outcome S.guarantees.numbers (S.state storage.old)
             (option_map slot self.old.key))) }
-        ensures store { OnOk result (S.state storage.new
-            ≡ purged_at (S.state storage.old) (option_map slot self.old.key)) }
-        ensures past { OnOk result (S.past storage.new
-            ≡ purged_past self.old.key (S.past storage.old)) }
-        ensures tracked { OnOk result (E.tracked eviction.new
-            ≡ tracked_purged S.guarantees.numbers self.old (S.state storage.old)
-            (E.tracked eviction.old)) }
-        ensures same_store { OnErr result (S.state storage.new ≡ S.state storage.old) }
-        ensures same_past { OnErr result (S.past storage.new ≡ S.past storage.old) }
-        ensures same_tracked { OnErr result (E.tracked eviction.new ≡ E.tracked eviction.old) }
-        ensures limits { E.limits eviction.new ≡ E.limits eviction.old }
-        ensures evicted { E.evicted eviction.new ≡ E.evicted eviction.old }
-        ensures kind { IfErr result (λ e. e ≡ OutOfMemory) }
+        ensures purges { Purges result S.guarantees.numbers self.old.uses.eviction self.old.key
+            (store_side S.state S.past storage.old) (store_side S.state S.past storage.new)
+            (manager_side E.tracked E.limits E.evicted eviction.old)
+            (manager_side E.tracked E.limits E.evicted eviction.new) }
     {
         Ok(self.spawn_purge(storage, eviction)?.was_there())
     }
@@ -189,19 +152,10 @@ impl<S: Storage> HttpCache<S> {
             (option_map slot self.old.key)) }
         ensures untracked { IfOk result (λ r.
             r.untracked ≡ untracked_for self.old.uses.eviction self.old.key r.outcome) }
-        ensures store { OnOk result (S.state storage.new
-            ≡ purged_at (S.state storage.old) (option_map slot self.old.key)) }
-        ensures past { OnOk result (S.past storage.new
-            ≡ purged_past self.old.key (S.past storage.old)) }
-        ensures tracked { OnOk result (E.tracked eviction.new
-            ≡ tracked_purged S.guarantees.numbers self.old (S.state storage.old)
-            (E.tracked eviction.old)) }
-        ensures same_store { OnErr result (S.state storage.new ≡ S.state storage.old) }
-        ensures same_past { OnErr result (S.past storage.new ≡ S.past storage.old) }
-        ensures same_tracked { OnErr result (E.tracked eviction.new ≡ E.tracked eviction.old) }
-        ensures limits { E.limits eviction.new ≡ E.limits eviction.old }
-        ensures evicted { E.evicted eviction.new ≡ E.evicted eviction.old }
-        ensures kind { IfErr result (λ e. e ≡ OutOfMemory) }
+        ensures purges { Purges result S.guarantees.numbers self.old.uses.eviction self.old.key
+            (store_side S.state S.past storage.old) (store_side S.state S.past storage.new)
+            (manager_side E.tracked E.limits E.evicted eviction.old)
+            (manager_side E.tracked E.limits E.evicted eviction.new) }
     {
         let Some(key) = &self.key else { unreachable!() };
         remove_key(storage, eviction, self.uses.eviction, key)
@@ -219,18 +173,10 @@ impl<S: Storage> HttpCache<S> {
         ensures same { self.new ≡ self.old }
         ensures there { IfOk result (λ there. there
             ≡ is_removed_by (expire_outcome (S.state storage.old) (option_map slot self.old.key))) }
-        ensures store { OnOk result (S.state storage.new
-            ≡ expired_at now (S.state storage.old) (option_map slot self.old.key)) }
-        ensures past { OnOk result (S.past storage.new
-            ≡ expired_past now self.old.key (S.past storage.old)) }
-        ensures tracked { OnOk result (E.tracked eviction.new
-            ≡ tracked_expired self.old (S.state storage.old) (E.tracked eviction.old)) }
-        ensures same_store { OnErr result (S.state storage.new ≡ S.state storage.old) }
-        ensures same_past { OnErr result (S.past storage.new ≡ S.past storage.old) }
-        ensures same_tracked { OnErr result (E.tracked eviction.new ≡ E.tracked eviction.old) }
-        ensures limits { E.limits eviction.new ≡ E.limits eviction.old }
-        ensures evicted { E.evicted eviction.new ≡ E.evicted eviction.old }
-        ensures kind { IfErr result (λ e. e ≡ OutOfMemory) }
+        ensures expires { Expires result now self.old.uses.eviction self.old.key
+            (store_side S.state S.past storage.old) (store_side S.state S.past storage.new)
+            (manager_side E.tracked E.limits E.evicted eviction.old)
+            (manager_side E.tracked E.limits E.evicted eviction.new) }
     {
         Ok(self.expire_key(storage, eviction, now)?.was_there())
     }
@@ -250,18 +196,10 @@ impl<S: Storage> HttpCache<S> {
             r.outcome ≡ expire_outcome (S.state storage.old) (option_map slot self.old.key)) }
         ensures untracked { IfOk result (λ r.
             r.untracked ≡ untracked_for self.old.uses.eviction self.old.key r.outcome) }
-        ensures store { OnOk result (S.state storage.new
-            ≡ expired_at now (S.state storage.old) (option_map slot self.old.key)) }
-        ensures past { OnOk result (S.past storage.new
-            ≡ expired_past now self.old.key (S.past storage.old)) }
-        ensures tracked { OnOk result (E.tracked eviction.new
-            ≡ tracked_expired self.old (S.state storage.old) (E.tracked eviction.old)) }
-        ensures same_store { OnErr result (S.state storage.new ≡ S.state storage.old) }
-        ensures same_past { OnErr result (S.past storage.new ≡ S.past storage.old) }
-        ensures same_tracked { OnErr result (E.tracked eviction.new ≡ E.tracked eviction.old) }
-        ensures limits { E.limits eviction.new ≡ E.limits eviction.old }
-        ensures evicted { E.evicted eviction.new ≡ E.evicted eviction.old }
-        ensures kind { IfErr result (λ e. e ≡ OutOfMemory) }
+        ensures expires { Expires result now self.old.uses.eviction self.old.key
+            (store_side S.state S.past storage.old) (store_side S.state S.past storage.new)
+            (manager_side E.tracked E.limits E.evicted eviction.old)
+            (manager_side E.tracked E.limits E.evicted eviction.new) }
     {
         let Some(key) = &self.key else { unreachable!() };
         let compact = key.to_compact()?;

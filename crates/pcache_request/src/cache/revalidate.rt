@@ -31,6 +31,7 @@ fn refusal(error: HeaderMapError) -> Error
     ensures full { result ≡ InternalError → error ≡ MaxSizeReached }
 {
     match error {
+        // The map has no room for a further name, whatever memory is free (`LacksRoom`).
         HeaderMapError::MaxSizeReached => Error::new(ErrorType::InternalError),
         HeaderMapError::OutOfMemory => Error::new(ErrorType::OutOfMemory),
     }
@@ -121,16 +122,16 @@ fn renew_fields(headers: &mut HeaderMap, answer: &HeaderMap) -> Result<()>
 }
 
 impl<S: Storage> HttpCache<S> {
-    ghost use Rattle.std.specs.Prelude.{◌≡◌, ◌⊎◌, IfOk, IfErr, OnOk, OnErr, IsTrue, IfSome, option_map};
+    ghost use Rattle.std.specs.Prelude.{◌≡◌, ◌⊎◌, IfOk, IfErr, OnOk, IsTrue, IfSome, option_map};
     ghost use Rattle.pcache_base.specs.declared.error.ErrorType.TheVariants.{OutOfMemory, InternalError};
     ghost use Rattle.pcache_lock.specs.declared.lock.status.LockStatus.TheVariants.{Done};
     ghost use Rattle.pcache_meta.specs.Header.{shown, shown_fields};
-    ghost use Rattle.pcache_request.specs.Renewals.{LacksRoom, renewed, renewed_by, renewed_names, has_body, with_meta_of, header_renewed};
+    ghost use Rattle.pcache_request.specs.Renewals.{LacksRoom, renewed, renewed_by, renewed_names, header_renewed};
+    ghost use Rattle.pcache_request.specs.Locking.{Settles};
+    ghost use Rattle.pcache_request.specs.Renewing.{Renews};
     ghost use Rattle.pcache_request.specs.Reports.{name_of};
-    ghost use Rattle.pcache_request.specs.Requests.{settled};
+    ghost use Rattle.pcache_request.specs.Sides.{lock_side, store_side};
     ghost use Rattle.pcache_request.specs.Stale.{MayRevalidate};
-    ghost use Rattle.pcache_request.specs.LockPasts.{settled_deeds};
-    ghost use Rattle.pcache_request.specs.StorePasts.{renewed_past};
 
     /// Takes the meta of a response that says that the stale body is still valid. The meta gets the
     /// creation of the old meta, and the moment from which its body came. The store sets it for the
@@ -146,17 +147,10 @@ impl<S: Storage> HttpCache<S> {
     ) -> Result<bool>
         requires { MayRevalidate self.old }
         ensures request { self.new ≡ renewed meta self.old }
-        ensures there { IfOk result (λ b. b ≡ has_body (S.state storage.old) self.old.key) }
-        ensures store { OnOk result (S.state storage.new
-            ≡ with_meta_of (renewed_by meta self.old.meta) self.old.key (S.state storage.old)) }
-        ensures past { OnOk result (S.past storage.new
-            ≡ renewed_past meta self.old (S.past storage.old)) }
-        ensures same_store { OnErr result (S.state storage.new ≡ S.state storage.old) }
-        ensures same_past { OnErr result (S.past storage.new ≡ S.past storage.old) }
-        ensures something { OnErr result (IsTrue (has_body (S.state storage.old) self.old.key)) }
-        ensures kind { IfErr result (λ e. e ≡ OutOfMemory) }
-        ensures table { L.table lock.new ≡ settled Done self.old.held (L.table lock.old) }
-        ensures deeds { L.past lock.new ≡ settled_deeds Done self.old.held (L.past lock.old) }
+        ensures renews { Renews result meta self.old
+            (store_side S.state S.past storage.old) (store_side S.state S.past storage.new) }
+        ensures settles { Settles Done self.old
+            (lock_side L.table L.past lock.old) (lock_side L.table L.past lock.new) }
     {
         let Renewal {
             updated,
@@ -175,18 +169,10 @@ impl<S: Storage> HttpCache<S> {
     ) -> Renewal
         requires { MayRevalidate self.old }
         ensures request { self.new ≡ renewed meta self.old }
-        ensures there { IfOk result.updated (λ b. b ≡ has_body (S.state storage.old) self.old.key) }
-        ensures store { OnOk result.updated (S.state storage.new
-            ≡ with_meta_of (renewed_by meta self.old.meta) self.old.key (S.state storage.old)) }
-        ensures past { OnOk result.updated (S.past storage.new
-            ≡ renewed_past meta self.old (S.past storage.old)) }
-        ensures same_store { OnErr result.updated (S.state storage.new ≡ S.state storage.old) }
-        ensures same_past { OnErr result.updated (S.past storage.new ≡ S.past storage.old) }
-        ensures something { OnErr result.updated
-            (IsTrue (has_body (S.state storage.old) self.old.key)) }
-        ensures kind { IfErr result.updated (λ e. e ≡ OutOfMemory) }
-        ensures table { L.table lock.new ≡ settled Done self.old.held (L.table lock.old) }
-        ensures deeds { L.past lock.new ≡ settled_deeds Done self.old.held (L.past lock.old) }
+        ensures renews { Renews result.updated meta self.old
+            (store_side S.state S.past storage.old) (store_side S.state S.past storage.new) }
+        ensures settles { Settles Done self.old
+            (lock_side L.table L.past lock.old) (lock_side L.table L.past lock.new) }
         ensures released { result.released ≡ option_map name_of self.old.held }
     {
         let Some(key) = &self.key else { unreachable!() };
@@ -219,8 +205,8 @@ impl<S: Storage> HttpCache<S> {
     ) -> Option<LockName>
         requires { MayRevalidate self.old }
         ensures request { self.new ≡ renewed meta self.old }
-        ensures table { L.table lock.new ≡ settled Done self.old.held (L.table lock.old) }
-        ensures deeds { L.past lock.new ≡ settled_deeds Done self.old.held (L.past lock.old) }
+        ensures settles { Settles Done self.old
+            (lock_side L.table L.past lock.old) (lock_side L.table L.past lock.new) }
         ensures released { result ≡ option_map name_of self.old.held }
     {
         let Some(old) = &self.meta else {
@@ -256,6 +242,8 @@ impl<S: Storage> HttpCache<S> {
         let Some(meta) = &self.meta else {
             unreachable!()
         };
+        // A copy, so that the stored head is whole if a field is refused. It takes memory even
+        // where no field is set.
         let mut header = meta.response_header_copy()?;
         renew_fields(&mut header.headers, &resp.headers)?;
         Ok(header)

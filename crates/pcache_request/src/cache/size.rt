@@ -75,6 +75,7 @@ impl<S: Storage> HttpCache<S> {
     pub fn is_head_within(&self, head_length: usize) -> bool
         ensures { result ≡ is_head_within self.now.head_limit head_length }
     {
+        // It ends nothing by itself: who does not store a head may still serve it.
         let is_longer = matches!(self.head_limit, Some(most) if head_length > most);
         !is_longer
     }

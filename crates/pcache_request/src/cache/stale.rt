@@ -12,10 +12,10 @@ impl<S: Storage> HttpCache<S> {
     ghost use Rattle.pcache_request.specs.Phases.{IsStale};
     ghost use Rattle.pcache_request.specs.Releasing.{MayRelease, status_for};
     ghost use Rattle.pcache_request.specs.Reports.{name_of};
-    ghost use Rattle.pcache_request.specs.Requests.{settled};
+    ghost use Rattle.pcache_request.specs.Locking.{Settles};
+    ghost use Rattle.pcache_request.specs.Sides.{lock_side};
     ghost use Rattle.pcache_meta.specs.Header.{shown};
     ghost use Rattle.pcache_request.specs.Stale.{MayRevalidate, updating, uncacheable};
-    ghost use Rattle.pcache_request.specs.LockPasts.{settled_deeds};
 
     /// Serves the stale body while another request renews it.
     /// Requires the phase Stale; ask `phase().is_stale()`.
@@ -47,12 +47,8 @@ impl<S: Storage> HttpCache<S> {
         requires stale { MayRevalidate self.old }
         requires reason { MayRelease reason self.old.held }
         ensures request { self.new ≡ uncacheable (shown header) reason self.old }
-        ensures table { L.table lock.new
-            ≡ settled (status_for (L.custom_status lock.old) reason) self.old.held
-            (L.table lock.old) }
-        ensures deeds { L.past lock.new
-            ≡ settled_deeds (status_for (L.custom_status lock.old) reason) self.old.held
-            (L.past lock.old) }
+        ensures settles { Settles (status_for (L.custom_status lock.old) reason) self.old
+            (lock_side L.table L.past lock.old) (lock_side L.table L.past lock.new) }
         ensures released { result ≡ option_map name_of self.old.held }
     {
         let Some(meta) = &mut self.meta else {

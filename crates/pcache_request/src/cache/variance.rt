@@ -54,11 +54,12 @@ fn vary(meta: &mut CacheMeta, variance: Option<HashBinary>, begins_variants: boo
 }
 
 impl<S: Storage> HttpCache<S> {
-    ghost use Rattle.std.specs.Prelude.{◌≡◌, ◌↔◌, IsTrue, Some};
+    ghost use Rattle.std.specs.Prelude.{◌≡◌, Some};
     ghost use Rattle.pcache_request.specs.Phases.{MayLookUp};
     ghost use Rattle.pcache_request.specs.Requests.{MayWrite};
-    ghost use Rattle.pcache_request.specs.LockPasts.{varied_deeds};
-    ghost use Rattle.pcache_request.specs.Variants.{same_variance, looks_for_variance, varied, table_varied, released_by_variance};
+    ghost use Rattle.pcache_request.specs.Locking.{Varies};
+    ghost use Rattle.pcache_request.specs.Sides.{lock_side};
+    ghost use Rattle.pcache_request.specs.Variants.{same_variance, looks_for_variance};
 
     /// Sets the variance that the next look-up uses, given the meta that was found for the key. That
     /// look-up hides what was created before the meta's body came. Returns whether the meta has this
@@ -91,10 +92,8 @@ impl<S: Storage> HttpCache<S> {
         variance: Option<HashBinary>,
     ) -> Option<LockName>
         requires { MayWrite self.old }
-        ensures request { self.new ≡ varied variance self.old }
-        ensures table { L.table lock.new ≡ table_varied variance self.old (L.table lock.old) }
-        ensures deeds { L.past lock.new ≡ varied_deeds variance self.old (L.past lock.old) }
-        ensures released { result ≡ released_by_variance variance self.old }
+        ensures varies { Varies result variance self.old self.new
+            (lock_side L.table L.past lock.old) (lock_side L.table L.past lock.new) }
     {
         let Some(key) = &self.key else { unreachable!() };
         let of_key = key.get_variance_key().copied();

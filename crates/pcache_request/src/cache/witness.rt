@@ -37,6 +37,7 @@ impl<S: Storage> Witness<S> for NoWitness {
     ghost may_refuse = { λ _. ⊥ };
 
     fn found(&mut self, _meta: &CacheMeta, _hit: &S::Hit) -> Result<()> {
+        // A copy of what is found is dear, so who keeps no history takes none.
         Ok(())
     }
 }

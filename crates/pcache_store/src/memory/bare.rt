@@ -31,9 +31,11 @@ use pcache_base::seed::Seed;
 use pcache_evict::eviction::{CacheEntryId, CacheEntryKey};
 use pcache_meta::meta::CacheMeta;
 use pcache_meta::meta::spelled::SpelledMeta;
-use std::alloc::Global;
+use std::alloc::{AllocError, Global};
 use std::marker::Model;
 
+// No `Storage` itself: its readers and handlers are those of `MemCache`, and of a type that handles
+// two storages each call would be ambiguous.
 /// The data of a store in memory: the slots by key, and the records of writes. A contract sees them as
 /// the record `Store`.
 #[derive(Drop)]
@@ -252,9 +254,14 @@ impl BareStore {
         self.drafts.leave(slot, number);
     }
 
-    pub(super) fn write(&mut self, slot: u128, number: u64, bytes: Bytes, eof: bool) -> Result<()>
+    pub(super) fn write(
+        &mut self,
+        slot: u128,
+        number: u64,
+        bytes: Bytes,
+        eof: bool,
+    ) -> Result<(), AllocError>
         ensures ok { OnOk result (self.new ≡ wrote self.old number bytes eof) }
-        ensures kind { IfErr result (λ e. e ≡ OutOfMemory) }
         ensures err { OnErr result (self.new ≡ self.old) }
     {
         let alloc = self.alloc;
@@ -284,6 +291,7 @@ impl BareStore {
         };
         let slot = draft.slot();
         if !self.slots.is_untouched(slot, number) {
+            // So its readers are cut off, and are not told that the body is whole.
             self.drop_write(slot, number);
             return Err(Error::new(ErrorType::WriteRemoved));
         }
@@ -317,6 +325,8 @@ impl BareStore {
                 None => PurgeOutcome::NotFound,
             };
         };
+        // Of one write, in flight or complete: an eviction must leave a newer body of the key where
+        // it is.
         if self.slots.remove_write(slot, id) {
             PurgeOutcome::Purged(Some(id))
         } else {
@@ -435,12 +445,13 @@ impl BareStore {
             return Err(Error::new(ErrorType::NumbersExhausted));
         };
         let slot = key.slot();
+        // With the number of this write, whatever number the meta has that was handed in.
         let meta = SpelledMeta::with_entry_id(alloc, meta, Some(CacheEntryId::new(number)))?;
         let draft = Draft::new(alloc, slot, meta);
         self.drafts.begin(draft)?;
         if let Err(refused) = self.slots.open(alloc, slot, number) {
             self.drafts.take_back(slot, number);
-            return Err(refused);
+            return Err(Error::from(refused));
         }
         Ok(MemMissHandler::new(slot, number))
     }
@@ -492,6 +503,7 @@ impl BareStore {
         let Some(body) = self.slots.body(slot) else {
             return Ok(false);
         };
+        // The body stays that of the write which stored it, and so does the number in its meta.
         let meta = SpelledMeta::with_entry_id(alloc, meta, body.entry_id())?;
         Ok(self.slots.set_meta(slot, meta))
     }

@@ -14,7 +14,7 @@ use pcache_base::entry_id::CacheEntryId;
 use pcache_base::error::Result;
 use pcache_base::moment::Moment;
 use pcache_meta::meta::spelled::SpelledMeta;
-use std::alloc::Global;
+use std::alloc::{AllocError, Global};
 use std::marker::Model;
 
 /// A complete body and its meta, which is kept as the bytes that spell it.
@@ -162,9 +162,8 @@ impl KeySlot {
         self.body.is_none() && self.untouched.is_empty()
     }
 
-    pub(crate) fn open(&mut self, number: u64) -> Result<()>
+    pub(crate) fn open(&mut self, number: u64) -> Result<(), AllocError>
         ensures ok { OnOk result (self.new ≡ opened_in self.old number) }
-        ensures kind { IfErr result (λ e. e ≡ OutOfMemory) }
         ensures err { OnErr result (self.new ≡ self.old) }
     {
         self.untouched.insert(number)

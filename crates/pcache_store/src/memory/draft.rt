@@ -11,7 +11,7 @@ use pcache_base::entry_id::CacheEntryId;
 use pcache_base::error::{Error, ErrorType, Result};
 use pcache_meta::meta::CacheMeta;
 use pcache_meta::meta::spelled::SpelledMeta;
-use std::alloc::Global;
+use std::alloc::{AllocError, Global};
 use std::marker::Model;
 
 /// The record of a write, kept while its handler or a reader names it. Its meta is kept as the bytes
@@ -111,18 +111,16 @@ impl Draft {
     }
 
     // The bytes from an index on.
-    pub(crate) fn rest(&self, alloc: Global, place: usize) -> Result<Bytes>
+    pub(crate) fn rest(&self, alloc: Global, place: usize) -> Result<Bytes, AllocError>
         requires { place ≤ length self.now.bytes }
         ensures ok { IfOk result (λ b. b ≡ drop place self.now.bytes) }
-        ensures kind { IfErr result (λ e. e ≡ OutOfMemory) }
     {
         self.text.rest(alloc, place)
     }
 
-    pub(crate) fn write(&mut self, alloc: Global, bytes: Bytes, eof: bool) -> Result<()>
+    pub(crate) fn write(&mut self, alloc: Global, bytes: Bytes, eof: bool) -> Result<(), AllocError>
         ensures ok { OnOk result (self.new
             ≡ record self.old { bytes = self.old.bytes ++ bytes; told = eof }) }
-        ensures kind { IfErr result (λ e. e ≡ OutOfMemory) }
         ensures err { OnErr result (self.new ≡ self.old) }
     {
         self.text.extend(alloc, bytes, self.readers > 0)?;

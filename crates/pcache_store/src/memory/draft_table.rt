@@ -10,11 +10,11 @@ use crate::memory::body::Body;
 use crate::memory::draft::Draft;
 use crate::memory::slot_table::{SHARDS, is_full, one_if};
 use bytes::Bytes;
-use pcache_base::error::{Error, ErrorType, Result};
+use pcache_base::error::Result;
 use pcache_base::seed::Seed;
 use pcache_meta::meta::CacheMeta;
 use pcache_table::hashtable::HashedTable;
-use std::alloc::Global;
+use std::alloc::{AllocError, Global};
 use std::marker::Model;
 
 /// The records of writes by number, each in the shard of its key, of which there are 16. A contract
@@ -91,14 +91,13 @@ impl DraftTable {
     }
 
     // Adds the record of a new write.
-    pub(crate) fn insert(&mut self, number: u64, draft: Draft) -> Result<()>
+    pub(crate) fn insert(&mut self, number: u64, draft: Draft) -> Result<(), AllocError>
         requires { map.get self.old number ≡ None }
         ensures ok { OnOk result (self.new ≡ map.insert self.old number draft) }
-        ensures kind { IfErr result (λ e. e ≡ OutOfMemory) }
         ensures err { OnErr result (self.new ≡ self.old) }
     {
         if is_full(self.count) {
-            return Err(Error::new(ErrorType::OutOfMemory));
+            return Err(AllocError);
         }
         let place = (draft.slot() % SHARDS) as usize;
         let table = &mut self.shards[place];
@@ -124,10 +123,9 @@ impl DraftTable {
         number: u64,
         bytes: Bytes,
         eof: bool,
-    ) -> Result<()>
+    ) -> Result<(), AllocError>
         ensures ok { OnOk result (self.new
             ≡ wrote_on self.old number bytes eof (map.get self.old number)) }
-        ensures kind { IfErr result (λ e. e ≡ OutOfMemory) }
         ensures err { OnErr result (self.new ≡ self.old) }
     {
         let number = number as u128;
@@ -236,10 +234,9 @@ fn write_in(
     number: u128,
     bytes: Bytes,
     eof: bool,
-) -> Result<()>
+) -> Result<(), AllocError>
     ensures ok { OnOk result (writes.new
         ≡ wrote_on writes.old number bytes eof (map.get writes.old number)) }
-    ensures kind { IfErr result (λ e. e ≡ OutOfMemory) }
     ensures err { OnErr result (writes.new ≡ writes.old) }
 {
     let Some(draft) = writes.get_mut(number) else {

@@ -1,11 +1,9 @@
 //! The bytes of a write, in pieces or gathered.
-ghost use Rattle.std.specs.Prelude.{◌≡◌, ◌<◌, ◌≤◌, ◌+◌, ◌++◌, IfErr, IfOk, OnErr, OnOk, [], drop, length, take};
+ghost use Rattle.std.specs.Prelude.{◌≡◌, ◌<◌, ◌≤◌, ◌+◌, ◌++◌, IfOk, OnErr, OnOk, [], drop, length, take};
 ghost use Rattle.std.specs.List.{concat};
-ghost use Rattle.pcache_base.specs.declared.error.ErrorType.TheVariants.{OutOfMemory};
 
 use bytes::Bytes;
-use pcache_base::error::{Error, ErrorType, Result};
-use std::alloc::Global;
+use std::alloc::{AllocError, Global};
 use std::marker::Model;
 use std::mem;
 
@@ -40,9 +38,8 @@ impl Model for DraftText {
 }
 
 // Appends the bytes of pieces to a text.
-fn append(text: &mut Vec<u8>, pieces: &[Bytes]) -> Result<()>
+fn append(text: &mut Vec<u8>, pieces: &[Bytes]) -> Result<(), AllocError>
     ensures ok { OnOk result (text.new.items ≡ text.old.items ++ concat pieces.now) }
-    ensures kind { IfErr result (λ e. e ≡ OutOfMemory) }
 {
     for piece in pieces {
         text.extend_from_slice(piece.as_slice())?;
@@ -51,11 +48,10 @@ fn append(text: &mut Vec<u8>, pieces: &[Bytes]) -> Result<()>
 }
 
 // Makes a piece of the gathered bytes. No byte is copied.
-fn settle(alloc: Global, pieces: &mut Vec<Bytes>, tail: &mut Vec<u8>) -> Result<()>
+fn settle(alloc: Global, pieces: &mut Vec<Bytes>, tail: &mut Vec<u8>) -> Result<(), AllocError>
     ensures same { concat pieces.new.items ++ tail.new.items
         ≡ concat pieces.old.items ++ tail.old.items }
     ensures ok { OnOk result (tail.new.items ≡ []) }
-    ensures kind { IfErr result (λ e. e ≡ OutOfMemory) }
 {
     if tail.is_empty() {
         return Ok(());
@@ -69,17 +65,16 @@ fn settle(alloc: Global, pieces: &mut Vec<Bytes>, tail: &mut Vec<u8>) -> Result<
         }
         Err(refused) => {
             *tail = refused.value;
-            Err(Error::new(ErrorType::OutOfMemory))
+            Err(AllocError)
         }
     }
 }
 
 // Moves the first piece to the gathered bytes, if it is the only one and nothing is gathered yet. Returns whether
 // no piece is left.
-fn gather(pieces: &mut Vec<Bytes>, tail: &mut Vec<u8>) -> Result<bool>
+fn gather(pieces: &mut Vec<Bytes>, tail: &mut Vec<u8>) -> Result<bool, AllocError>
     ensures same { concat pieces.new.items ++ tail.new.items
         ≡ concat pieces.old.items ++ tail.old.items }
-    ensures kind { IfErr result (λ e. e ≡ OutOfMemory) }
 {
     if pieces.len() == 1 && tail.is_empty() && pieces[0].len() < LARGE {
         tail.extend_from_slice(pieces[0].as_slice())?;
@@ -89,10 +84,9 @@ fn gather(pieces: &mut Vec<Bytes>, tail: &mut Vec<u8>) -> Result<bool>
 }
 
 // Makes one piece of several, which have `len` bytes together.
-fn join(alloc: Global, pieces: &mut Vec<Bytes>, len: usize) -> Result<()>
+fn join(alloc: Global, pieces: &mut Vec<Bytes>, len: usize) -> Result<(), AllocError>
     ensures same { concat pieces.new.items ≡ concat pieces.old.items }
     ensures ok { OnOk result (length pieces.new.items ≤ 1) }
-    ensures kind { IfErr result (λ e. e ≡ OutOfMemory) }
 {
     if pieces.len() <= 1 {
         return Ok(());
@@ -132,11 +126,10 @@ fn copied(
     skip: usize,
     tail: &[u8],
     capacity: usize,
-) -> Result<Bytes>
+) -> Result<Bytes, AllocError>
     requires some { 0 < length pieces.now }
     requires skip { skip ≤ length (concat (take 1 pieces.now)) }
     ensures ok { IfOk result (λ b. b ≡ drop skip (concat pieces.now ++ tail.now)) }
-    ensures kind { IfErr result (λ e. e ≡ OutOfMemory) }
 {
     let mut text = Vec::with_capacity(alloc, capacity)?;
     text.extend_from_slice(&pieces[0].as_slice()[skip..])?;
@@ -163,16 +156,20 @@ impl DraftText {
     }
 
     // Adds a piece, to a write that somebody reads or not.
-    pub(crate) fn extend(&mut self, alloc: Global, bytes: Bytes, is_read: bool) -> Result<()>
+    pub(crate) fn extend(
+        &mut self,
+        alloc: Global,
+        bytes: Bytes,
+        is_read: bool,
+    ) -> Result<(), AllocError>
         ensures ok { OnOk result (self.new ≡ self.old ++ bytes) }
-        ensures kind { IfErr result (λ e. e ≡ OutOfMemory) }
         ensures err { OnErr result (self.new ≡ self.old) }
     {
         if bytes.is_empty() {
             return Ok(());
         }
         let Some(len) = self.len.checked_add(bytes.len()) else {
-            return Err(Error::new(ErrorType::OutOfMemory));
+            return Err(AllocError);
         };
         if self.gathers(bytes.len(), is_read)? {
             self.tail.extend_from_slice(bytes.as_slice())?;
@@ -187,9 +184,8 @@ impl DraftText {
 
     // Whether a piece of so many bytes is to be gathered. Kept one by one, the pieces of a write that nobody reads would each take
     // a block, and be joined at the end all the same.
-    fn gathers(&mut self, count: usize, is_read: bool) -> Result<bool>
+    fn gathers(&mut self, count: usize, is_read: bool) -> Result<bool, AllocError>
         ensures same { self.new ≡ self.old }
-        ensures kind { IfErr result (λ e. e ≡ OutOfMemory) }
     {
         if self.len == 0 {
             return Ok(false);
@@ -201,43 +197,40 @@ impl DraftText {
     }
 
     // Makes a piece of the gathered bytes, which is shared with those who read it.
-    pub(crate) fn settle(&mut self, alloc: Global) -> Result<()>
+    pub(crate) fn settle(&mut self, alloc: Global) -> Result<(), AllocError>
         ensures same { self.new ≡ self.old }
-        ensures kind { IfErr result (λ e. e ≡ OutOfMemory) }
     {
         settle(alloc, &mut self.pieces, &mut self.tail)
     }
 
     // The bytes from an index on: shared if they are in one piece, else copied. So a reader that is behind by several pieces gets a
     // copy of just these.
-    pub(crate) fn rest(&self, alloc: Global, place: usize) -> Result<Bytes>
+    pub(crate) fn rest(&self, alloc: Global, place: usize) -> Result<Bytes, AllocError>
         requires { place ≤ length self.now }
         ensures ok { IfOk result (λ b. b ≡ drop place self.now) }
-        ensures kind { IfErr result (λ e. e ≡ OutOfMemory) }
     {
         let tail = self.tail.as_slice();
         let end = self.len - tail.len();
         if place >= end {
-            return Ok(Bytes::copy_from_slice(alloc, &tail[place - end..])?);
+            return Bytes::copy_from_slice(alloc, &tail[place - end..]);
         }
         let pieces = self.pieces.as_slice();
         let (at, start) = piece_at(pieces, end, place);
         if at + 1 == pieces.len() && tail.is_empty() {
-            return Ok(pieces[at].slice(place - start..)?);
+            return pieces[at].slice(place - start..);
         }
         copied(alloc, &pieces[at..], place - start, tail, self.len - place)
     }
 
     // All bytes in one piece, which is shared from now on.
-    pub(crate) fn share(&mut self, alloc: Global) -> Result<Bytes>
+    pub(crate) fn share(&mut self, alloc: Global) -> Result<Bytes, AllocError>
         ensures ok { IfOk result (λ b. b ≡ self.old) }
-        ensures kind { IfErr result (λ e. e ≡ OutOfMemory) }
         ensures same { self.new ≡ self.old }
     {
         settle(alloc, &mut self.pieces, &mut self.tail)?;
         join(alloc, &mut self.pieces, self.len)?;
         match self.pieces.as_slice().first() {
-            Some(whole) => Ok(whole.clone()?),
+            Some(whole) => whole.clone(),
             None => Ok(Bytes::new()),
         }
     }

@@ -13,13 +13,14 @@ use bytes::Bytes;
 use pcache_base::error::Result;
 use pcache_base::seed::Seed;
 use pcache_meta::meta::CacheMeta;
-use std::alloc::Global;
+use std::alloc::{AllocError, Global};
 use std::marker::Model;
 
 /// The writes that a handler or a reader names, by number. Each number is given once; after the last one there is no next.
 #[derive(Drop)]
 pub(crate) struct Drafts {
     writes: DraftTable,
+    // One counter for all shards, so that the earliest write of a key is that of the least number.
     next: Option<u64>,
 }
 
@@ -80,7 +81,7 @@ impl Drafts {
         Some(self.next?) // for the prover: a number that is named is known to have 64 bits
     }
 
-    pub(crate) fn begin(&mut self, draft: Draft) -> Result<()>
+    pub(crate) fn begin(&mut self, draft: Draft) -> Result<(), AllocError>
         requires { self.old.next < 2 ^ 64 }
         ensures unused { map.get self.old.writes self.old.next ≡ None }
         ensures ok { OnOk result (self.new
@@ -88,7 +89,6 @@ impl Drafts {
               writes = map.insert self.old.writes self.old.next draft;
               next = self.old.next + 1;
             }) }
-        ensures kind { IfErr result (λ e. e ≡ OutOfMemory) }
         ensures err { OnErr result (self.new ≡ self.old) }
     {
         let Some(number) = self.next else {
@@ -119,13 +119,12 @@ impl Drafts {
         number: u64,
         bytes: Bytes,
         eof: bool,
-    ) -> Result<()>
+    ) -> Result<(), AllocError>
         ensures ok { OnOk result (self.new
             ≡ record self.old {
               writes = wrote_on self.old.writes number bytes eof
                   (map.get self.old.writes number);
             }) }
-        ensures kind { IfErr result (λ e. e ≡ OutOfMemory) }
         ensures err { OnErr result (self.new ≡ self.old) }
     {
         self.writes.write(alloc, slot, number, bytes, eof)

@@ -9,7 +9,7 @@ use bytes::Bytes;
 use pcache_base::error::{Error, ErrorType, Result};
 use pcache_base::poll::Poll;
 use pcache_evict::eviction::CacheEntryId;
-use std::alloc::Global;
+use std::alloc::{AllocError, Global};
 
 /// A reader of a complete body: it gives a range of it in one piece, and then the end.
 pub struct CompleteHit {
@@ -47,7 +47,7 @@ impl CompleteHit {
         &self.body
     }
 
-    fn read(&mut self) -> Result<Option<Bytes>>
+    fn read(&mut self) -> Result<Option<Bytes>, AllocError>
         ensures read { IfOk result (λ r. r
             ≡ cond self.old.done None
             (Some (slice_range self.old.body self.old.start self.old.stop))) }
@@ -57,7 +57,6 @@ impl CompleteHit {
         ensures stop { self.new.stop ≡ self.old.stop }
         ensures ok { OnOk result (self.new.done ≡ true) }
         ensures something { OnErr result (self.old.done ≡ false) }
-        ensures kind { IfErr result (λ e. e ≡ OutOfMemory) }
         ensures err { OnErr result (self.new.done ≡ self.old.done) }
     {
         if self.done {
@@ -256,10 +255,7 @@ impl HandleHit<MemCache> for MemHitHandler {
 
     fn read_body(&mut self, alloc: Global, store: &mut MemCache) -> Result<Poll<Option<Bytes>>> {
         match self {
-            MemHitHandler::Complete(hit) => match hit.read() {
-                Ok(piece) => Ok(Poll::Ready(piece)),
-                Err(refused) => Err(refused),
-            },
+            MemHitHandler::Complete(hit) => Ok(Poll::Ready(hit.read()?)),
             MemHitHandler::Partial(part) => {
                 let Some(draft) = store.draft(part.slot, part.write) else {
                     return Ok(Poll::Ready(None));
@@ -282,6 +278,7 @@ impl HandleHit<MemCache> for MemHitHandler {
         match self {
             MemHitHandler::Complete(hit) => hit.done,
             MemHitHandler::Partial(part) => match store.draft(part.slot, part.write) {
+                // Also if the write was dropped once its end was announced: all its bytes had come.
                 Some(draft) => draft.is_told() && draft.len() <= part.place,
                 None => false,
             },
@@ -290,6 +287,7 @@ impl HandleHit<MemCache> for MemHitHandler {
 
     fn body_length(&self, store: &MemCache) -> Option<usize> {
         match self {
+            // Of the whole body and not of the range, since a `Content-Range` names both.
             MemHitHandler::Complete(hit) => Some(hit.body.len()),
             MemHitHandler::Partial(part) => match store.draft(part.slot, part.write) {
                 Some(draft) if draft.is_told() => Some(draft.len()),

@@ -52,7 +52,7 @@ impl HandleMiss<MemCache> for MemMissHandler {
     ghost entry_number = { λ h. Some h.number };
 
     fn write_body(&mut self, store: &mut MemCache, bytes: Bytes, eof: bool) -> Result<()> {
-        store.write(self.slot, self.number, bytes, eof)
+        Ok(store.write(self.slot, self.number, bytes, eof)?)
     }
 
     fn at_eof(&self, store: &MemCache) -> bool {

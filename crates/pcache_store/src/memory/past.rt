@@ -48,12 +48,15 @@ pub enum Step<'a> {
         slot: Option<u128>,
         now: Moment,
     },
+    // A step also if none was given, so that each call of a store is one line with no branch.
     /// A reader of this write was given, or none.
     Joined(Option<u64>),
     /// A reader of a write was let go.
     Left(u64),
 }
 
+// A type of its own, proved by hand: the borrow checker wants the types of a borrowed enum named in
+// each function that makes one.
 /// What a call that was passed a meta did with it.
 #[derive(Drop)]
 pub enum Given<'a> {

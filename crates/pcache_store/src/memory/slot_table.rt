@@ -9,12 +9,12 @@ ghost use Rattle.pcache_store.specs.Store.{opened, shut_on, stored_on, complete_
 
 use crate::memory::body::{Body, KeySlot};
 use pcache_base::entry_id::CacheEntryId;
-use pcache_base::error::{Error, ErrorType, Result};
+use pcache_base::error::Result;
 use pcache_base::moment::Moment;
 use pcache_base::seed::Seed;
 use pcache_meta::meta::spelled::SpelledMeta;
 use pcache_table::hashtable::HashedTable;
-use std::alloc::Global;
+use std::alloc::{AllocError, Global};
 use std::marker::Model;
 
 /// How many shards there are. The shard of a key is the key modulo their number.
@@ -28,6 +28,8 @@ const MOST_KEYS: usize = (1 << 63) - 1;
 pub(crate) fn is_full(count: usize) -> bool
     ensures { IsTrue result ↔ (2 ^ 63 - 1 ≤ count) }
 {
+    // Each key or record has a number of its own in memory, of at least 16 bytes, and 2^64
+    // addresses have room for fewer than 2^60 of these.
     count >= MOST_KEYS
 }
 
@@ -98,13 +100,12 @@ impl SlotTable {
     }
 
     // Records that a write of the key begins.
-    pub(crate) fn open(&mut self, alloc: Global, key: u128, number: u64) -> Result<()>
+    pub(crate) fn open(&mut self, alloc: Global, key: u128, number: u64) -> Result<(), AllocError>
         ensures ok { OnOk result (self.new ≡ opened self.old key number) }
-        ensures kind { IfErr result (λ e. e ≡ OutOfMemory) }
         ensures err { OnErr result (self.new ≡ self.old) }
     {
         if is_full(self.count) {
-            return Err(Error::new(ErrorType::OutOfMemory));
+            return Err(AllocError);
         }
         let place = (key % SHARDS) as usize;
         let table = &mut self.shards[place];
@@ -117,7 +118,7 @@ impl SlotTable {
     pub(crate) fn shut(&mut self, key: u128, number: u64)
         ensures { self.new ≡ shut_on self.old key number (map.get self.old key) }
     {
-        let _ = &self.shards; // for the prover: once a field is used, the invariant is known
+        let _ = &self.shards; // for the prover: each of the 16 tables has its own keys
         let place = (key % SHARDS) as usize;
         let table = &mut self.shards[place];
         self.count -= shut_in(table, key, number);
@@ -129,7 +130,7 @@ impl SlotTable {
         ensures older { result ≡ complete_body (map.get self.old key) }
         ensures slots { self.new ≡ stored_on self.old key number body (map.get self.old key) }
     {
-        let _ = &self.shards; // for the prover: once a field is used, the invariant is known
+        let _ = &self.shards; // for the prover: each of the 16 tables has its own keys
         let place = (key % SHARDS) as usize;
         let table = &mut self.shards[place];
         store_in(table, key, number, body)
@@ -140,7 +141,7 @@ impl SlotTable {
         ensures before { result ≡ map.get self.old key }
         ensures removed { self.new ≡ map.remove self.old key }
     {
-        let _ = &self.shards; // for the prover: once a field is used, the invariant is known
+        let _ = &self.shards; // for the prover: each of the 16 tables has its own keys
         let place = (key % SHARDS) as usize;
         let table = &mut self.shards[place];
         let slot = table.remove(key);
@@ -154,7 +155,7 @@ impl SlotTable {
         ensures body { result.1 ≡ body_with id (complete_body (map.get self.old key)) }
         ensures removed { self.new ≡ write_gone_on self.old key id (map.get self.old key) }
     {
-        let _ = &self.shards; // for the prover: once a field is used, the invariant is known
+        let _ = &self.shards; // for the prover: each of the 16 tables has its own keys
         let place = (key % SHARDS) as usize;
         let table = &mut self.shards[place];
         let (there, body, gone) = remove_write_in(table, key, id);
@@ -167,7 +168,7 @@ impl SlotTable {
         ensures there { result ≡ is_some (complete_body (map.get self.old key)) }
         ensures slots { self.new ≡ meta_changed_on (λ _. meta) self.old key (map.get self.old key) }
     {
-        let _ = &self.shards; // for the prover: once a field is used, the invariant is known
+        let _ = &self.shards; // for the prover: each of the 16 tables has its own keys
         let place = (key % SHARDS) as usize;
         let table = &mut self.shards[place];
         set_meta_in(table, key, meta)
@@ -182,7 +183,7 @@ impl SlotTable {
         ensures kind { IfErr result (λ e. e ≡ OutOfMemory) }
         ensures err { OnErr result (self.new ≡ self.old) }
     {
-        let _ = &self.shards; // for the prover: once a field is used, the invariant is known
+        let _ = &self.shards; // for the prover: each of the 16 tables has its own keys
         let place = (key % SHARDS) as usize;
         let table = &mut self.shards[place];
         expire_in(table, alloc, key, now)
@@ -200,10 +201,14 @@ pub(crate) fn one_if(is_so: bool) -> usize
 // change has one clause over one table, and one lemma says how all tables together change.
 //
 // Returns how many keys were added, which is one or zero.
-fn open_in(slots: &mut HashedTable<KeySlot>, alloc: Global, key: u128, number: u64) -> Result<usize>
+fn open_in(
+    slots: &mut HashedTable<KeySlot>,
+    alloc: Global,
+    key: u128,
+    number: u64,
+) -> Result<usize, AllocError>
     ensures ok { OnOk result (slots.new ≡ opened slots.old key number) }
     ensures more { IfOk result (λ n. one_if_some (map.get slots.old key) + n ≡ 1) }
-    ensures kind { IfErr result (λ e. e ≡ OutOfMemory) }
     ensures err { OnErr result (slots.new ≡ slots.old) }
 {
     if let Some(slot) = slots.get_mut(key) {

@@ -15,7 +15,7 @@ use pcache_base::error::Result;
 use pcache_base::moment::Moment;
 use pcache_base::seed::Seed;
 use pcache_meta::meta::spelled::SpelledMeta;
-use std::alloc::Global;
+use std::alloc::{AllocError, Global};
 use std::marker::Model;
 
 /// The slots by key, with the number and the total length of their complete bodies.
@@ -100,9 +100,8 @@ impl Slots {
     }
 
     // Records that a write of the key begins.
-    pub(crate) fn open(&mut self, alloc: Global, key: u128, number: u64) -> Result<()>
+    pub(crate) fn open(&mut self, alloc: Global, key: u128, number: u64) -> Result<(), AllocError>
         ensures ok { OnOk result (self.new ≡ opened self.old key number) }
-        ensures kind { IfErr result (λ e. e ≡ OutOfMemory) }
         ensures err { OnErr result (self.new ≡ self.old) }
     {
         self.slots.open(alloc, key, number)
@@ -133,6 +132,8 @@ impl Slots {
         ensures there { result ≡ option_map (λ x. number_of_body x.body) (map.get self.old key) }
         ensures removed { self.new ≡ map.remove self.old key }
     {
+        // With the slot go the numbers of the key's writes, and so all of them are marked as
+        // removed. The writes of other keys are not looked at.
         let Some(slot) = self.slots.remove(key) else {
             return None;
         };
@@ -148,7 +149,7 @@ impl Slots {
         ensures there { result ≡ has_write id (map.get self.old key) }
         ensures removed { self.new ≡ write_gone_on self.old key id (map.get self.old key) }
     {
-        // For the prover: once a field is used, the invariant is known.
+        // For the prover: with the invariant the two totals are those of the slots.
         let _ = &self.slots;
         let (there, body) = self.slots.remove_write(key, id);
         let (fewer, less) = count(body);

@@ -1,12 +1,10 @@
 //! The untouched writes in flight of a key.
-ghost use Rattle.std.specs.Prelude.{◌≡◌, ◌==◌, IfErr, OnErr, OnOk};
+ghost use Rattle.std.specs.Prelude.{◌≡◌, ◌==◌, OnErr, OnOk};
 ghost use Rattle.std.specs.FinMap as map;
-ghost use Rattle.pcache_base.specs.declared.error.ErrorType.TheVariants.{OutOfMemory};
 ghost use Rattle.pcache_table.specs.Numbers.{least};
 ghost use Rattle.pcache_store.specs.Untouched.{is_one, lesser, numbers_in};
 
-use pcache_base::error::Result;
-use std::alloc::Global;
+use std::alloc::{AllocError, Global};
 use std::collections::BTreeMap;
 use std::marker::Model;
 
@@ -60,10 +58,9 @@ fn least_of(numbers: &BTreeMap<u64, ()>) -> Option<u64>
 }
 
 // Adds a number.
-fn insert_in(numbers: &mut BTreeMap<u64, ()>, number: u64) -> Result<()>
+fn insert_in(numbers: &mut BTreeMap<u64, ()>, number: u64) -> Result<(), AllocError>
     ensures ok { OnOk result (numbers_in numbers.new.entries
         ≡ map.insert (numbers_in numbers.old.entries) number tt) }
-    ensures kind { IfErr result (λ e. e ≡ OutOfMemory) }
     ensures err { OnErr result (numbers_in numbers.new.entries
         ≡ numbers_in numbers.old.entries) }
 {
@@ -120,9 +117,8 @@ impl Untouched {
     }
 
     #[tactic(auto, using(crate::proofs::Untouched::insert_other, crate::proofs::Untouched::insert_again))]
-    pub(crate) fn insert(&mut self, number: u64) -> Result<()>
+    pub(crate) fn insert(&mut self, number: u64) -> Result<(), AllocError>
         ensures ok { OnOk result (self.new ≡ map.insert self.old number tt) }
-        ensures kind { IfErr result (λ e. e ≡ OutOfMemory) }
         ensures err { OnErr result (self.new ≡ self.old) }
     {
         match self.one {

@@ -94,6 +94,8 @@ impl<V, const N: usize> ConcurrentHashTable<V, N> {
     {
         let tables = &self.tables;
         for place in 0..N {
+            // Each lock once, by the form of this loop: no clause can name the maps that are under
+            // the locks.
             let shard = tables[place].read(rt);
             f = visit(&shard, f);
         }

@@ -1,13 +1,11 @@
 //! One LRU shard behind a lock.
-ghost use Rattle.std.specs.Prelude.{◌≡◌, ◌<◌, IfErr, IfOk, max};
+ghost use Rattle.std.specs.Prelude.{◌≡◌, ◌<◌, IfOk, max};
 ghost use Rattle.std.specs.Sync.RwLock.{read_guard_value};
-ghost use Rattle.pcache_base.specs.declared.error.ErrorType.TheVariants.{OutOfMemory};
 
 use crate::hashtable::lru_shard::LruShard;
 use crate::hashtable::write_guard::WriteGuard;
-use pcache_base::error::Result;
 use pcache_base::seed::Seed;
-use std::alloc::Global;
+use std::alloc::{AllocError, Global};
 use std::marker::Model;
 use std::sync::{RwLock, RwLockReadGuard, Wait};
 
@@ -44,10 +42,9 @@ impl<V: Drop, const N: usize> LruLock<V, N> {
         seed: Seed,
         place: usize,
         capacity: usize,
-    ) -> Result<LruLock<V, N>>
+    ) -> Result<LruLock<V, N>, AllocError>
         requires { place < N }
         ensures made { IfOk result (λ l. l ≡ record { place = place; cap = max capacity 1 }) }
-        ensures kind { IfErr result (λ e. e ≡ OutOfMemory) }
     {
         let shard = LruShard::at(alloc, seed, place, capacity)?;
         Ok(LruLock {

@@ -1,13 +1,11 @@
 //! One shard of a table that drops the least recently used keys.
 ghost use Rattle.std.specs.Prelude.{◌≡◌, ◌↔◌, ◌<◌, ◌%◌, IfErr, IfOk, IsTrue, OnErr, OnOk, [], is_some, length, max, nat_eq, option_copied};
 ghost use Rattle.std.specs.Map.{lookup};
-ghost use Rattle.pcache_base.specs.declared.error.ErrorType.TheVariants.{OutOfMemory};
 ghost use Rattle.pcache_table.specs.Sharding.{part_with, part_without};
 
 use lru::LruCache;
-use pcache_base::error::Result;
 use pcache_base::seed::Seed;
-use std::alloc::{AllocFailed, Global};
+use std::alloc::{AllocError, AllocFailed, Global};
 use std::hash::BuildHasher;
 use std::marker::{Model, PhantomData};
 use std::num::NonZeroUsize;
@@ -45,11 +43,10 @@ impl<V: Drop, const N: usize, H: BuildHasher + Copy + Drop> LruShard<V, N, H> {
         seed: H,
         place: usize,
         capacity: usize,
-    ) -> Result<LruShard<V, N, H>>
+    ) -> Result<LruShard<V, N, H>, AllocError>
         requires { place < N }
         ensures made { IfOk result (λ s.
             s ≡ record { place = place; cap = max capacity 1; entries = [] }) }
-        ensures kind { IfErr result (λ e. e ≡ OutOfMemory) }
     {
         let capacity = capacity.max(1);
         let Some(capacity) = NonZeroUsize::new(capacity) else {
@@ -108,11 +105,7 @@ impl<V: Drop, const N: usize, H: BuildHasher + Copy + Drop> LruShard<V, N, H> {
 
     // Sets the value at a key of its own and puts it in front; a full shard drops its last key.
     // Returns the old value.
-    pub(crate) fn put(
-        &mut self,
-        key: u128,
-        value: V,
-    ) -> std::result::Result<Option<V>, AllocFailed<(u128, V)>>
+    pub(crate) fn put(&mut self, key: u128, value: V) -> Result<Option<V>, AllocFailed<(u128, V)>>
         requires { key % N ≡ self.old.place }
         ensures before { IfOk result (λ old. old ≡ lookup (nat_eq key) self.old.entries) }
         ensures ok { OnOk result (self.new ≡ part_with key value self.old) }

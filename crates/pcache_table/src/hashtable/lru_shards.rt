@@ -73,7 +73,7 @@ impl<V: Drop, const N: usize> LruShards<V, N> {
         ensures err { OnErr result (self.new ≡ self.old) }
         ensures value_returned { IfErr result (λ y. y.value ≡ (key, value)) }
     {
-        let _ = &self.shards; // for the prover: once a field is used, the invariant is known
+        let _ = &self.shards; // for the prover: each of the `N` shards is at its place
         let place = (key % N as u128) as usize;
         let shard = &mut self.shards[place];
         shard.put(key, value)
@@ -85,7 +85,7 @@ impl<V: Drop, const N: usize> LruShards<V, N> {
         ensures gone { self.new
             ≡ slice_set self.old (key % N) (part_without key (list_at self.old (key % N))) }
     {
-        let _ = &self.shards; // for the prover: once a field is used, the invariant is known
+        let _ = &self.shards; // for the prover: each of the `N` shards is at its place
         let place = (key % N as u128) as usize;
         let shard = &mut self.shards[place];
         shard.pop(key)

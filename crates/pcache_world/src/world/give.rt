@@ -34,6 +34,7 @@ pub(crate) fn give<P: PutPolicy>(
         return Reply::WrongCall;
     };
     // They may be one request: the permit is out of its hands, so it lets nothing go.
+    // No event tells who holds the permit now: that is a deed (`Handed`), of which laws of locks speak.
     let let_go = hand(requests, lock, permit, to);
     if let Some(lock) = let_go {
         events.push_reserved(Event::LetGo { lock });

@@ -342,6 +342,7 @@ pub(crate) fn found<M: EvictionManager>(
     if !request.cache.phase().may_look_up() {
         return Reply::WrongCall;
     }
+    // Out of the request's hands: if the take fails, the pair is let go and not held on.
     let Some(pair) = request.pair.take() else {
         return Reply::WrongCall;
     };

@@ -59,11 +59,11 @@ impl<P: PutPolicy> Open<P> {
     {
         match &self.kind {
             Kind::Request(request) => {
-                request.is_plain(); // for the prover: its contract says what a plain request keeps
+                request.is_plain(); // for the prover: it is no put
                 false
             }
             Kind::Put(put) => {
-                put.is_held(); // for the prover: its contract says what a put that is held keeps
+                put.is_held(); // for the prover: it is a put, which only fills its key
                 true
             }
         }
@@ -75,11 +75,11 @@ impl<P: PutPolicy> Open<P> {
     {
         match &self.kind {
             Kind::Request(request) => {
-                request.is_plain(); // for the prover: its contract says what a plain request keeps
+                request.is_plain(); // for the prover: it is no put
                 request.cache.phase().is_on()
             }
             Kind::Put(put) => {
-                put.is_held(); // for the prover: its contract says what a put that is held keeps
+                put.is_held(); // for the prover: it is a put, which only fills its key
                 false
             }
         }
@@ -95,7 +95,7 @@ impl<P: PutPolicy> Open<P> {
         match &mut self.kind {
             Kind::Request(request) => request.take_permit(),
             Kind::Put(put) => {
-                put.is_held(); // for the prover: its contract says what a put that is held keeps
+                put.is_held(); // for the prover: it is a put, which only fills its key
                 None
             }
         }
@@ -110,8 +110,9 @@ impl<P: PutPolicy> Open<P> {
     {
         match &mut self.kind {
             Kind::Request(request) => request.put_permit(lock, permit),
+            // A put is handed no permit: it waits on nobody, and asks for no lock.
             Kind::Put(put) => {
-                put.is_held(); // for the prover: its contract says what a put that is held keeps
+                put.is_held(); // for the prover: it is a put, which only fills its key
                 unreachable!()
             }
         }
@@ -126,7 +127,7 @@ impl<P: PutPolicy> Open<P> {
         match kind {
             Kind::Request(request) => request,
             Kind::Put(put) => {
-                put.is_held(); // for the prover: its contract says what a put that is held keeps
+                put.is_held(); // for the prover: it is a put, which only fills its key
                 unreachable!()
             }
         }
@@ -140,7 +141,7 @@ impl<P: PutPolicy> Open<P> {
         let Open { kind } = self;
         match kind {
             Kind::Request(request) => {
-                request.is_plain(); // for the prover: its contract says what a plain request keeps
+                request.is_plain(); // for the prover: it is no put
                 unreachable!()
             }
             Kind::Put(put) => put,

@@ -16,6 +16,8 @@ use std::alloc::Global;
 use std::marker::PhantomData;
 use std::time::Duration;
 
+// A type and no value: no contract of a history may name a value that the world keeps to itself,
+// and a world whose contracts saw it could not be behind a lock.
 /// Decides whether a response that is pushed into a world is stored. All puts of a world follow one
 /// policy, which its type names.
 pub trait PutPolicy {

@@ -67,7 +67,8 @@ impl<P: PutPolicy> OpenPut<P> {
         ensures held { IsOngoingPut self.now }
         ensures some { IsSome self.now.put }
     {
-        let _ = &self.ctx; // for the prover: once a field is used, the invariant is known
+        // For the prover: a use of a field brings in the view, which is that of a put.
+        let _ = &self.ctx;
     }
 
     /// Drops the write, if one is in flight.

@@ -55,7 +55,8 @@ impl OpenRequest {
     pub(crate) fn is_plain(&self)
         ensures { self.now.put ≡ None }
     {
-        let _ = &self.carried; // for the prover: once a field is used, the invariant is known
+        // For the prover: a use of a field brings in the view, whose `put` is `None`.
+        let _ = &self.carried;
     }
 
     /// Takes the permit out, if one is held.

@@ -62,6 +62,7 @@ pub(crate) fn disable(
     if !request.cache.may_disable(reason) {
         return Reply::WrongCall;
     }
+    // Enabled again the request begins anew, and must not take a pair from before.
     hold(&mut request.pair, None, store);
     request.carried = None;
     let dropped = write_number(&request.cache);

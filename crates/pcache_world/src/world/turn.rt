@@ -103,13 +103,13 @@ fn on_request<M: EvictionManager, P: PutPolicy>(
     };
     match &mut open.kind {
         Kind::Request(request) => {
-            request.is_plain(); // for the prover: its contract says what a plain request keeps
+            request.is_plain(); // for the prover: it is no put
             let reply = turn(request, parts, events, act, spare);
-            request.is_plain(); // for the prover: its contract says what a plain request keeps
+            request.is_plain(); // for the prover: it is no put
             reply
         }
         Kind::Put(put) => {
-            put.is_held(); // for the prover: its contract says what a put that is held keeps
+            put.is_held(); // for the prover: it is a put, which only fills its key
             Reply::WrongCall
         }
     }
@@ -138,13 +138,13 @@ fn wait<M: EvictionManager, P: PutPolicy>(
     };
     match &mut open.kind {
         Kind::Request(request) => {
-            request.is_plain(); // for the prover: its contract says what a plain request keeps
+            request.is_plain(); // for the prover: it is no put
             let reply = locks::wait(request, &mut parts.lock, events, now);
-            request.is_plain(); // for the prover: its contract says what a plain request keeps
+            request.is_plain(); // for the prover: it is no put
             reply
         }
         Kind::Put(put) => {
-            put.is_held(); // for the prover: its contract says what a put that is held keeps
+            put.is_held(); // for the prover: it is a put, which only fills its key
             Reply::WrongCall
         }
     }
@@ -174,13 +174,13 @@ fn feed<M: EvictionManager, P: PutPolicy>(
     };
     match &mut open.kind {
         Kind::Request(request) => {
-            request.is_plain(); // for the prover: its contract says what a plain request keeps
+            request.is_plain(); // for the prover: it is no put
             Reply::WrongCall
         }
         Kind::Put(put) => {
-            put.is_held(); // for the prover: its contract says what a put that is held keeps
+            put.is_held(); // for the prover: it is a put, which only fills its key
             let reply = puts::feed(put, &mut parts.store, events, bytes, now);
-            put.is_held(); // for the prover: its contract says what a put that is held keeps
+            put.is_held(); // for the prover: it is a put, which only fills its key
             reply
         }
     }
@@ -320,6 +320,8 @@ fn set_key(request: &mut OpenRequest, key: &CacheKey) -> Reply
     }
     match key.copied() {
         Ok(copy) => {
+            // A held pair stays: it is then taken under the new key, and the use that is noted is
+            // that key's.
             request.cache.set_cache_key(copy);
             Reply::Done
         }

@@ -44,6 +44,7 @@ pub(crate) fn vary(request: &mut OpenRequest, variance: HashBinary) -> Reply
     let Some((meta, _hit)) = &request.pair else {
         return Reply::WrongCall;
     };
+    // The pair stays held: it may still be taken, under the key as it is then.
     if request.cache.cache_vary_lookup(variance, meta) {
         Reply::Same
     } else {
@@ -159,6 +160,7 @@ fn renew(
         unreachable!()
     };
     let slot = key.slot();
+    // The event has the meta that the body has from now on, and not quite that of the call.
     noted.set_provenance(old.provenance());
     noted.set_created(old.created());
     let Renewal { updated, released } = cache.renew_meta(store, lock, meta);

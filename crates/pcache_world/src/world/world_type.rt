@@ -148,7 +148,7 @@ impl<M: EvictionManager, P: PutPolicy> World<M, P> {
         ensures evicts { EvictsNothingWithin self.now }
         ensures locks { GivesWhereNoneWaits self.now }
     {
-        // For the prover: the contract of the call says what is promised of the history.
+        // For the prover: the history is legal, and legal histories have these laws.
         let _history = self.history();
     }
 
@@ -237,6 +237,7 @@ impl<M: EvictionManager, P: PutPolicy> World<M, P> {
         let mut events = Vec::with_capacity(self.alloc, MOST_EVENTS)?;
         let mut spare = spare_of(&call.act)?;
         make_ready(&mut self.history, &mut self.start, &self.parts)?;
+        // Of the parts alone: no reply is computed from the history, which is only written.
         let reply = act(
             self.alloc,
             &mut self.requests,

@@ -1,8 +1,4 @@
-use Rattle.std.proofs.Common.{◌≡◌, ◌∙◌, refl, subst, sym, true, Some}
-use Rattle.pcache_request.specs.Requests.{dropped_by}
-use Rattle.pcache_request.specs.StorePasts.{dropped_past}
-use Rattle.pcache_put.specs.State.{write_in}
-use Rattle.pcache_cache.specs.Parts.{is_own_write}
+use Rattle.pcache_cache.proofs.Words.{◌≡◌, ◌∙◌, refl, subst, sym, true, Some, dropped_by, dropped_past, write_in, is_own_write}
 use Rattle.pcache_cache.proofs.Fed.{own_goes_on, own_nothing}
 use Rattle.pcache_cache.proofs.feed.store_in.Goals as goal
 

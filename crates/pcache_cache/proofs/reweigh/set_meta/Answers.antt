@@ -1,5 +1,4 @@
-use Rattle.std.proofs.Common.{subst, sym}
-use Rattle.pcache_cache.specs.Parts.{IsKept}
+use Rattle.pcache_cache.proofs.Words.{subst, sym, IsKept}
 use Rattle.pcache_cache.proofs.Renewed.{kept_renewed}
 use Rattle.pcache_cache.proofs.reweigh.set_meta.Goals as goal
 

@@ -1,5 +1,4 @@
-use Rattle.std.proofs.Common.{ap, option_map, sym, ◌∙◌}
-use Rattle.pcache_cache.specs.Weighing.{ending_weight, weight_of}
+use Rattle.pcache_cache.proofs.Words.{ap, option_map, sym, ◌∙◌, ending_weight, weight_of}
 use Rattle.pcache_cache.proofs.weighing.ending_weight.Goals as goal
 
 pub returns-in-Some : goal.returns-in-Some

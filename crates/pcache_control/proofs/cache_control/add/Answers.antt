@@ -1,5 +1,4 @@
-use Rattle.std.proofs.Common.{ap, ◌∙◌}
-use Rattle.pcache_control.specs.Maps.{entries_of}
+use Rattle.pcache_control.proofs.Words.{ap, ◌∙◌, entries_of}
 use Rattle.pcache_control.proofs.Keys.{entries_of-insert, AreNamed-insert}
 use Rattle.pcache_control.proofs.cache_control.add.Goals as goal
 

@@ -1,5 +1,4 @@
-use Rattle.std.proofs.Common.{refl, ◌∙◌}
-use Rattle.pcache_control.specs.Maps.{entries_of}
+use Rattle.pcache_control.proofs.Words.{refl, ◌∙◌, entries_of}
 use Rattle.pcache_control.proofs.Lines.{next_line, lies_within, held_more, held_all, added_more, added_all}
 use Rattle.pcache_control.proofs.cache_control.add_line.Goals as goal
 

@@ -1,8 +1,5 @@
-use Rattle.std.proofs.Common.{◌≡◌, ◌++◌, List, bytes_eq}
-use Rattle.indexmap.specs.IndexMap.{insert_all}
-use Rattle.pcache_control.specs.declared.scan.Span.{Span}
-use Rattle.pcache_control.specs.Directives.{AreDirectivesFrom}
-use Rattle.pcache_control.specs.Maps.{entries_of, directives_at, AreNamed}
+use Rattle.pcache_control.specs.Maps.{AreNamed}
+use Rattle.pcache_control.proofs.Words.{◌≡◌, ◌++◌, List, bytes_eq, insert_all, Span, AreDirectivesFrom, entries_of, directives_at}
 use Rattle.pcache_control.proofs.cache_control.add_line.Given as goal
 
 abbrev pub invariant-spans : goal.invariant-spans

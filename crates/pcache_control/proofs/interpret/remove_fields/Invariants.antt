@@ -1,5 +1,5 @@
-use Rattle.std.proofs.Common.{◌≡◌, Some}
 use Rattle.pcache_control.specs.Control.{without_fields}
+use Rattle.pcache_control.proofs.Words.{◌≡◌, Some}
 use Rattle.pcache_control.proofs.interpret.remove_fields.Given as goal
 
 abbrev pub invariant-names : goal.invariant-names

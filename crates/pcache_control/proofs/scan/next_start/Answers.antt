@@ -1,5 +1,4 @@
-use Rattle.std.proofs.Common.{◌≡◌, arith, inl, inr}
-use Rattle.std.proofs.lemmas.Bool.{cases_lt}
+use Rattle.pcache_control.proofs.Words.{◌≡◌, arith, inl, inr, cases_lt}
 use Rattle.pcache_control.proofs.scan.next_start.Goals as goal
 
 pub places-preserved : goal.places-preserved

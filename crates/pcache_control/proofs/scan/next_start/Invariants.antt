@@ -1,5 +1,4 @@
-use Rattle.std.proofs.Common.{◌≤◌, ◌<◌, ℕ}
-use Rattle.pcache_control.specs.Directives.{Leads}
+use Rattle.pcache_control.proofs.Words.{◌≤◌, ◌<◌, ℕ, Leads}
 use Rattle.pcache_control.proofs.scan.next_start.Given as goal
 
 abbrev pub invariant-places : goal.invariant-places

@@ -1,4 +1,4 @@
-use Rattle.std.proofs.Common.{arith}
+use Rattle.pcache_control.proofs.Words.{arith}
 use Rattle.pcache_control.proofs.Quotes.{scan_stops, scan_finds, scan_ends}
 use Rattle.pcache_control.proofs.scan.quote_end.Goals as goal
 

@@ -1,4 +1,4 @@
-use Rattle.std.proofs.Common.{◌≡◌, false, drop}
+use Rattle.pcache_control.proofs.Words.{◌≡◌, false, drop}
 use Rattle.pcache_control.proofs.Quotes.{quote_end}
 use Rattle.pcache_control.proofs.scan.quote_end.Given as goal
 

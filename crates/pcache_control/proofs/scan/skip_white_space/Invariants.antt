@@ -1,5 +1,4 @@
-use Rattle.std.proofs.Common.{◌≡◌, ◌≤◌, ◌<◌, ◌-◌, ℕ, length, slice_index, true}
-use Rattle.pcache_control.specs.Bytes.{is_white_space}
+use Rattle.pcache_control.proofs.Words.{◌≡◌, ◌≤◌, ◌<◌, ◌-◌, ℕ, length, slice_index, true, is_white_space}
 use Rattle.pcache_control.proofs.scan.skip_white_space.Given as goal
 
 abbrev pub invariant-run : goal.invariant-run

@@ -1,4 +1,4 @@
-use Rattle.std.proofs.Common.{arith, sym, ◌∙◌}
+use Rattle.pcache_control.proofs.Words.{arith, sym, ◌∙◌}
 use Rattle.pcache_control.proofs.Starts.{Leads_none, clash}
 use Rattle.pcache_control.proofs.scan.start_behind.Goals as goal
 use Rattle.pcache_control.proofs.scan.start_behind.Goals.{else-start-line-via-then-start-line+else-is_token_byte, else-start-line-via-else-start-line}

@@ -1,5 +1,4 @@
-use Rattle.std.proofs.Common.{◌≡◌, ◌≤◌, ◌<◌, ◌-◌, ℕ, length, slice_index, true}
-use Rattle.pcache_control.specs.Bytes.{is_token_byte}
+use Rattle.pcache_control.proofs.Words.{◌≡◌, ◌≤◌, ◌<◌, ◌-◌, ℕ, length, slice_index, true, is_token_byte}
 use Rattle.pcache_control.proofs.scan.token_end.Given as goal
 
 abbrev pub invariant-run : goal.invariant-run

@@ -1,4 +1,4 @@
-use Rattle.std.proofs.Common.{arith}
+use Rattle.pcache_control.proofs.Words.{arith}
 use Rattle.pcache_control.proofs.Quotes.{no_value}
 use Rattle.pcache_control.proofs.scan.value_at.Goals as goal
 

@@ -1,5 +1,4 @@
-use Rattle.std.proofs.Common.{sym, ◌∙◌, true, ◌≡◌, get_or}
-use Rattle.std.specs.Char.{is_ascii_digit}
+use Rattle.pcache_control.proofs.Words.{sym, ◌∙◌, true, ◌≡◌, get_or, is_ascii_digit}
 use Rattle.pcache_control.proofs.Digits.{list_all_step, value_step}
 use Rattle.pcache_control.proofs.seconds.digits.Goals as goal
 

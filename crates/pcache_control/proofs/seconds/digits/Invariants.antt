@@ -1,7 +1,4 @@
-use Rattle.std.proofs.Common.{◌≡◌, take, min, true}
-use Rattle.std.specs.Char.{is_ascii_digit}
-use Rattle.std.specs.List.{list_all}
-use Rattle.std.specs.Str.Parse.{digits_value}
+use Rattle.pcache_control.proofs.Words.{◌≡◌, take, min, true, is_ascii_digit, list_all, digits_value}
 use Rattle.pcache_control.proofs.seconds.digits.Given as goal
 
 abbrev pub invariant-digits : goal.invariant-digits

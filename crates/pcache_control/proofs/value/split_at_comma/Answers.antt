@@ -1,5 +1,5 @@
-use Rattle.std.proofs.Common.{sym, ◌∙◌}
 use Rattle.std.proofs.lemmas.List.{take_rest}
+use Rattle.pcache_control.proofs.Words.{sym, ◌∙◌}
 use Rattle.pcache_control.proofs.Lists.{items_at, items_whole}
 use Rattle.pcache_control.proofs.value.split_at_comma.Goals as goal
 

@@ -1,6 +1,4 @@
-use Rattle.std.proofs.Common.{arith, ◌-◌, ◌∙◌, ap, sym, length, drop, ℕ}
-use Rattle.pcache_meta.specs.Reading.{array_at}
-use Rattle.pcache_meta.proofs.Exact.{array_takes}
+use Rattle.pcache_files.proofs.Words.{arith, ◌-◌, ◌∙◌, ap, sym, length, drop, ℕ, array_at, array_takes}
 use Rattle.pcache_files.proofs.Whole.{array_behind, dropped, not_longer}
 use Rattle.pcache_files.proofs.codec.first_count.Goals as goal
 

@@ -1,5 +1,5 @@
-use Rattle.std.proofs.Common.{arith, ◌-◌, ◌∙◌, ap, sym, length, drop, ℕ}
 use Rattle.pcache_files.specs.FileReading.{node_at}
+use Rattle.pcache_files.proofs.Words.{arith, ◌-◌, ◌∙◌, ap, sym, length, drop, ℕ}
 use Rattle.pcache_files.proofs.FileExact.{node_takes}
 use Rattle.pcache_files.proofs.Whole.{node_behind, dropped, not_longer}
 use Rattle.pcache_files.proofs.codec.first_node.Goals as goal

@@ -1,4 +1,4 @@
-use Rattle.std.proofs.Common.{arith}
+use Rattle.pcache_files.proofs.Words.{arith}
 use Rattle.pcache_files.proofs.FileExact.{read_found, read_same, read_refused, read_kinds}
 use Rattle.pcache_files.proofs.codec.read_file.Goals as goal
 

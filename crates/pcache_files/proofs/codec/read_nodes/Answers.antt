@@ -1,6 +1,5 @@
-use Rattle.std.proofs.Common.{◌+◌, ◌-◌, ◌∙◌, ap}
-use Rattle.std.proofs.lemmas.Result.{err_from_is_err_and}
 use Rattle.pcache_files.specs.FileReading.{nodes_at}
+use Rattle.pcache_files.proofs.Words.{◌+◌, ◌-◌, ◌∙◌, ap, err_from_is_err_and}
 use Rattle.pcache_files.proofs.NodeLoop.{with_front, goes_on, ends, is_done}
 use Rattle.pcache_files.proofs.codec.read_nodes.Goals as goal
 

@@ -1,5 +1,5 @@
-use Rattle.std.proofs.Common.{◌≡◌, ◌-◌}
 use Rattle.pcache_files.specs.FileReading.{nodes_at}
+use Rattle.pcache_files.proofs.Words.{◌≡◌, ◌-◌}
 use Rattle.pcache_files.proofs.NodeLoop.{with_front}
 use Rattle.pcache_files.proofs.codec.read_nodes.Given as goal
 

@@ -1,5 +1,5 @@
-use Rattle.std.proofs.Common.{arith, ◌-◌, ◌∙◌, ap, sym, length, drop}
 use Rattle.pcache_files.specs.FileReading.{tag_at}
+use Rattle.pcache_files.proofs.Words.{arith, ◌-◌, ◌∙◌, ap, sym, length, drop}
 use Rattle.pcache_files.proofs.Whole.{not_longer, dropped, tag_behind}
 use Rattle.pcache_files.proofs.codec.tag_on.Goals as goal
 

@@ -1,5 +1,4 @@
-use Rattle.std.proofs.Common.{ℕ, ◌<◌, ◌^◌, subst}
-use Rattle.std.proofs.lemmas.Result.{err_from_is_err_and}
+use Rattle.pcache_files.proofs.Words.{ℕ, ◌<◌, ◌^◌, subst, err_from_is_err_and}
 use Rattle.pcache_files.proofs.Written.{few, passed_on, too_long, writes-more, writes-all, writes-spelled}
 use Rattle.pcache_files.proofs.codec.write_file.Goals as goal
 

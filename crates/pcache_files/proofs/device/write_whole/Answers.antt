@@ -1,4 +1,4 @@
-use Rattle.std.proofs.Common.{◌∙◌}
+use Rattle.pcache_files.proofs.Words.{◌∙◌}
 use Rattle.pcache_files.proofs.Devices.{taken-more}
 use Rattle.pcache_files.proofs.device.write_whole.Goals as goal
 

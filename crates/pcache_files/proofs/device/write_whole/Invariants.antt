@@ -1,4 +1,4 @@
-use Rattle.std.proofs.Common.{◌≡◌, length}
+use Rattle.pcache_files.proofs.Words.{◌≡◌, length}
 use Rattle.pcache_files.proofs.Devices.{HasTaken}
 use Rattle.pcache_files.proofs.device.write_whole.Given as goal
 

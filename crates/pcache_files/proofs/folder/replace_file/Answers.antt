@@ -1,6 +1,4 @@
-use Rattle.std.proofs.Common.{arith}
-use Rattle.std.proofs.lemmas.Result.{err_from_is_err_and}
-use Rattle.pcache_base.specs.declared.error.ErrorType.TheVariants.{Io}
+use Rattle.pcache_files.proofs.Words.{arith, err_from_is_err_and, Io}
 use Rattle.pcache_files.specs.Folder as folder
 use Rattle.pcache_files.proofs.Written.{passed_as}
 use Rattle.pcache_files.proofs.folder.replace_file.Goals as goal

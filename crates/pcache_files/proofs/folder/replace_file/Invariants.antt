@@ -1,5 +1,5 @@
-use Rattle.std.proofs.Common.{ℕ, List, ◌<◌}
 use Rattle.pcache_files.specs.Folder.{IsRefused}
+use Rattle.pcache_files.proofs.Words.{ℕ, List, ◌<◌}
 use Rattle.pcache_files.proofs.folder.replace_file.Given as goal
 
 -- a name that was tried was refused

@@ -1,5 +1,4 @@
-use Rattle.std.proofs.Common.{◌≡◌, ◌-◌, ◌++◌, List, ℕ, false, length}
-use Rattle.std.specs.Io.KnownBytes.{Consumes}
+use Rattle.pcache_files.proofs.Words.{◌≡◌, ◌-◌, ◌++◌, List, ℕ, false, length, Consumes}
 use Rattle.pcache_files.proofs.pieces.fill.Given as goal
 
 abbrev pub invariant-pieces : goal.invariant-pieces

@@ -1,5 +1,4 @@
-use Rattle.std.proofs.Common.{◌∙◌, ap, sym}
-use Rattle.pcache_meta.specs.Reading.{array_at}
+use Rattle.pcache_files.proofs.Words.{◌∙◌, ap, sym, array_at}
 use Rattle.pcache_files.proofs.InPieces.{count_refused}
 use Rattle.pcache_files.proofs.pieces.read_count.Goals as goal
 

@@ -1,6 +1,4 @@
-use Rattle.std.proofs.Common.{ℕ, List, ◌++◌, arith, sym, subst, length}
-use Rattle.std.proofs.lemmas.Result.{err_from_is_err_and}
-use Rattle.pcache_meta.specs.Spelling.{ArrayThen}
+use Rattle.pcache_files.proofs.Words.{ℕ, List, ◌++◌, arith, sym, subst, length, err_from_is_err_and, ArrayThen}
 use Rattle.pcache_files.proofs.InPieces.{list_refused_behind, list_found}
 use Rattle.pcache_files.proofs.Written.{passed_on}
 use Rattle.pcache_files.proofs.pieces.read_list_from.Goals as goal

@@ -1,7 +1,5 @@
-use Rattle.std.proofs.Common.{ℕ, List, ◌-◌, ◌∙◌, ap, sym, subst, length, drop}
-use Rattle.std.proofs.lemmas.Result.{err_from_is_err_and}
 use Rattle.pcache_files.specs.FileReading.{node_at, tag_len_at}
-use Rattle.pcache_files.specs.FileSpelling.{NodeThen}
+use Rattle.pcache_files.proofs.Words.{ℕ, List, ◌-◌, ◌∙◌, ap, sym, subst, length, drop, err_from_is_err_and, NodeThen}
 use Rattle.pcache_files.proofs.InPieces.{fails_none, tag_refused, node_refused, node_found}
 use Rattle.pcache_files.proofs.Written.{passed_on}
 use Rattle.pcache_files.proofs.pieces.read_next.Goals as goal

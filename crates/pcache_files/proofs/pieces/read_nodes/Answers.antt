@@ -1,6 +1,5 @@
-use Rattle.std.proofs.Common.{[], ◌∷◌, ◌∙◌, ap, arith, sym, subst, length, length-append}
-use Rattle.std.proofs.lemmas.Result.{err_from_is_err_and}
-use Rattle.pcache_evict.specs.Recency.{Recency}
+use Rattle.std.proofs.Common.{length-append}
+use Rattle.pcache_files.proofs.Words.{[], ◌∷◌, ◌∙◌, ap, arith, sym, subst, length, err_from_is_err_and, Recency}
 use Rattle.pcache_files.proofs.InPieces.{Reading, reading_more, nodes_refused}
 use Rattle.pcache_files.proofs.Written.{passed_on}
 use Rattle.pcache_files.proofs.pieces.read_nodes.Goals as goal

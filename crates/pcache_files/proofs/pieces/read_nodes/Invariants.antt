@@ -1,5 +1,5 @@
-use Rattle.std.proofs.Common.{◌≡◌, IsTrue, length}
-use Rattle.std.specs.Io.KnownBytes.{IsAtEnd}
+use Rattle.std.proofs.Common.{IsTrue}
+use Rattle.pcache_files.proofs.Words.{◌≡◌, length, IsAtEnd}
 use Rattle.pcache_files.proofs.InPieces.{Reading}
 use Rattle.pcache_files.proofs.pieces.read_nodes.Given as goal
 

@@ -1,4 +1,4 @@
-use Rattle.std.proofs.Common.{arith}
+use Rattle.pcache_files.proofs.Words.{arith}
 use Rattle.pcache_files.proofs.PutIn.{loads_step, skips_few}
 use Rattle.pcache_files.proofs.sharded_lru.load.Goals as goal
 

@@ -1,4 +1,4 @@
-use Rattle.pcache_files.specs.Folder.{Loads, shard_names}
+use Rattle.pcache_files.proofs.Words.{Loads, shard_names}
 use Rattle.pcache_files.proofs.sharded_lru.load.Given as goal
 
 abbrev pub invariant-loop-shard : goal.invariant-loop-shard

@@ -1,5 +1,4 @@
-use Rattle.std.proofs.lemmas.Result.{err_from_is_err_and}
-use Rattle.pcache_base.specs.declared.error.ErrorType.TheVariants.{Io}
+use Rattle.pcache_files.proofs.Words.{err_from_is_err_and, Io}
 use Rattle.pcache_files.proofs.PutIn.{saved_step}
 use Rattle.pcache_files.proofs.Written.{passed_as}
 use Rattle.pcache_files.proofs.sharded_lru.save.Goals as goal

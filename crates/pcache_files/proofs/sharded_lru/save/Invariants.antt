@@ -1,4 +1,4 @@
-use Rattle.pcache_files.specs.Folder.{AreSaved, shard_files}
+use Rattle.pcache_files.proofs.Words.{AreSaved, shard_files}
 use Rattle.pcache_files.proofs.sharded_lru.save.Given as goal
 
 abbrev pub invariant-shards : goal.invariant-shards

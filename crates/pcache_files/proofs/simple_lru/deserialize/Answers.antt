@@ -1,4 +1,4 @@
-use Rattle.std.proofs.lemmas.Result.{err_from_is_err_and}
+use Rattle.pcache_files.proofs.Words.{err_from_is_err_and}
 use Rattle.pcache_files.proofs.Written.{passed_on}
 use Rattle.pcache_files.proofs.simple_lru.deserialize.Goals as goal
 

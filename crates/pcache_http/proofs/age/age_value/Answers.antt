@@ -1,8 +1,7 @@
-use Rattle.std.proofs.Common.{sym, ap, ◌∙◌}
 use Rattle.std.specs.Prelude.{unwrap_or}
-use Rattle.pcache_control.specs.Maps.{lines_of}
 use Rattle.pcache_http.specs.Age.{age_value, number_in}
 use Rattle.pcache_http.specs.Vary.{members_of}
+use Rattle.pcache_http.proofs.Words.{sym, ap, ◌∙◌, lines_of}
 use Rattle.pcache_http.proofs.age.age_value.Goals as goal
 
 pub returns-in_default : goal.returns-in_default

@@ -1,7 +1,4 @@
-use Rattle.std.proofs.Common.{sym, ap, ◌∙◌}
-use Rattle.std.specs.Option.{option_copied}
-use Rattle.http_header.specs.Token.{lowercase}
-use Rattle.pcache_http.specs.Seconds.{count_next}
+use Rattle.pcache_http.proofs.Words.{sym, ap, ◌∙◌, option_copied, lowercase, count_next}
 use Rattle.pcache_http.proofs.Heard.{counted-other, counted-one}
 use Rattle.pcache_http.proofs.control.counted.Goals as goal
 

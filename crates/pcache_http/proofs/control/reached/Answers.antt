@@ -1,7 +1,4 @@
-use Rattle.std.proofs.Common.{refl, sym, ◌∙◌}
-use Rattle.std.specs.Option.{option_copied}
-use Rattle.http_header.specs.Token.{lowercase}
-use Rattle.pcache_http.specs.declared.control.Reach.TheVariants.{Whole}
+use Rattle.pcache_http.proofs.Words.{refl, sym, ◌∙◌, option_copied, lowercase, Whole}
 use Rattle.pcache_http.proofs.Heard.{reach-other, reach-one}
 use Rattle.pcache_http.proofs.control.reached.Goals as goal
 

@@ -1,6 +1,6 @@
-use Rattle.std.proofs.Common.{sym, ◌∙◌}
 use Rattle.std.proofs.lemmas.List.{take_rest}
 use Rattle.pcache_control.proofs.Lists.{items_at, items_whole}
+use Rattle.pcache_http.proofs.Words.{sym, ◌∙◌}
 use Rattle.pcache_http.proofs.lists.split_at_comma.Goals as goal
 
 pub returns-in-Some : goal.returns-in-Some

@@ -1,5 +1,5 @@
-use Rattle.std.proofs.Common.{◌≡◌, length, reverse}
-use Rattle.pcache_control.specs.Values.{skip_ows}
+use Rattle.std.proofs.Common.{reverse}
+use Rattle.pcache_http.proofs.Words.{◌≡◌, length, skip_ows}
 use Rattle.pcache_http.proofs.lists.trim_end.Given as goal
 
 abbrev pub invariant-back : goal.invariant-back

@@ -1,5 +1,5 @@
-use Rattle.std.proofs.Common.{refl}
 use Rattle.pcache_control.specs.Values.{trim_ows}
+use Rattle.pcache_http.proofs.Words.{refl}
 use Rattle.pcache_http.proofs.lists.trim_ows.Goals as goal
 
 pub returns : goal.returns

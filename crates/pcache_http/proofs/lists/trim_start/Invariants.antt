@@ -1,5 +1,4 @@
-use Rattle.std.proofs.Common.{◌≡◌, length}
-use Rattle.pcache_control.specs.Values.{skip_ows}
+use Rattle.pcache_http.proofs.Words.{◌≡◌, length, skip_ows}
 use Rattle.pcache_http.proofs.lists.trim_start.Given as goal
 
 abbrev pub invariant-front : goal.invariant-front

@@ -1,7 +1,5 @@
-use Rattle.std.proofs.Common.{refl, sym, ap, ◌∙◌, subst, append_assoc, append-nil, ◌++◌, ◌∷◌, []}
 use Rattle.pcache_control.proofs.Lines.{next_line, lies_within, held_more, held_all}
-use Rattle.pcache_control.proofs.Only.{directives_only}
-use Rattle.pcache_http.specs.Said.{directives_in, directive_in}
+use Rattle.pcache_http.proofs.Words.{refl, sym, ap, ◌∙◌, subst, append_assoc, append-nil, ◌++◌, ◌∷◌, [], directives_only, directives_in, directive_in}
 use Rattle.pcache_http.proofs.HeardLines.{directives_in-more}
 use Rattle.pcache_http.proofs.said.hear_line.Goals as goal
 

@@ -1,7 +1,5 @@
-use Rattle.std.proofs.Common.{◌≡◌, ◌++◌, List}
-use Rattle.pcache_control.specs.declared.scan.Span.{Span}
 use Rattle.pcache_control.specs.Directives.{AreDirectivesFrom}
-use Rattle.pcache_http.specs.Said.{Directive, directives_in}
+use Rattle.pcache_http.proofs.Words.{◌≡◌, ◌++◌, List, Span, Directive, directives_in}
 use Rattle.pcache_http.proofs.said.hear_line.Given as goal
 
 abbrev pub invariant-spans : goal.invariant-spans

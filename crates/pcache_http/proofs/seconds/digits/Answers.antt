@@ -1,6 +1,6 @@
-use Rattle.std.proofs.Common.{sym, ◌∙◌, true, ◌≡◌, get_or}
-use Rattle.std.specs.Char.{is_ascii_digit}
+use Rattle.std.proofs.Common.{get_or}
 use Rattle.pcache_control.proofs.Digits.{list_all_step, value_step}
+use Rattle.pcache_http.proofs.Words.{sym, ◌∙◌, true, ◌≡◌, is_ascii_digit}
 use Rattle.pcache_http.proofs.seconds.digits.Goals as goal
 
 pub digits-preserved : goal.digits-preserved

@@ -1,7 +1,7 @@
-use Rattle.std.proofs.Common.{◌≡◌, take, min, true}
-use Rattle.std.specs.Char.{is_ascii_digit}
+use Rattle.std.proofs.Common.{take, min}
 use Rattle.std.specs.List.{list_all}
 use Rattle.std.specs.Str.Parse.{digits_value}
+use Rattle.pcache_http.proofs.Words.{◌≡◌, true, is_ascii_digit}
 use Rattle.pcache_http.proofs.seconds.digits.Given as goal
 
 abbrev pub invariant-digits : goal.invariant-digits

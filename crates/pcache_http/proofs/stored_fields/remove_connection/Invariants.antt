@@ -1,5 +1,4 @@
-use Rattle.std.proofs.Common.{◌≡◌}
-use Rattle.pcache_http.specs.StoredFields.{without_names, names_in_connection}
+use Rattle.pcache_http.proofs.Words.{◌≡◌, without_names, names_in_connection}
 use Rattle.pcache_http.proofs.stored_fields.remove_connection.Given as goal
 
 abbrev pub invariant-names : goal.invariant-names

@@ -1,6 +1,4 @@
-use Rattle.std.proofs.Common.{◌≡◌}
-use Rattle.std.specs.Option.{option_copied}
-use Rattle.pcache_http.specs.StoredFields.{without_names, names_listed}
+use Rattle.pcache_http.proofs.Words.{◌≡◌, option_copied, without_names, names_listed}
 use Rattle.pcache_http.proofs.stored_fields.remove_listed.Given as goal
 
 abbrev pub invariant-names : goal.invariant-names

@@ -1,4 +1,4 @@
-use Rattle.std.proofs.Common.{refl}
+use Rattle.pcache_http.proofs.Words.{refl}
 use Rattle.pcache_http.proofs.stored_fields.remove_of_the_way.Goals as goal
 
 pub returns : goal.returns

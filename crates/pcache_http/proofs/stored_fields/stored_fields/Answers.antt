@@ -1,5 +1,5 @@
-use Rattle.std.proofs.Common.{sym, ap, ◌∙◌, ◌++◌}
-use Rattle.pcache_http.specs.StoredFields.{without_names, names_of_the_way, names_in_connection, names_kept_out}
+use Rattle.pcache_http.specs.StoredFields.{names_of_the_way}
+use Rattle.pcache_http.proofs.Words.{sym, ap, ◌∙◌, ◌++◌, without_names, names_in_connection, names_kept_out}
 use Rattle.pcache_http.proofs.Removed.{without_names-append}
 use Rattle.pcache_http.proofs.stored_fields.stored_fields.Goals as goal
 

@@ -1,6 +1,4 @@
-use Rattle.std.proofs.Common.{sym, ap, ◌∙◌}
-use Rattle.std.specs.Prelude.{codes}
-use Rattle.pcache_http.specs.StoredFields.{without_names, names_under}
+use Rattle.pcache_http.proofs.Words.{sym, ap, ◌∙◌, codes, without_names, names_under}
 use Rattle.pcache_http.proofs.Removed.{without_names-append, kept_out-private, kept_out-shared}
 use Rattle.pcache_http.proofs.stored_fields.without_kept_out.Goals as goal
 

@@ -1,4 +1,4 @@
-use Rattle.std.proofs.Common.{sym, ◌∙◌}
+use Rattle.pcache_http.proofs.Words.{sym, ◌∙◌}
 use Rattle.pcache_http.proofs.AsGet.{as_asked}
 use Rattle.pcache_http.proofs.storing.may_store.Goals as goal
 

@@ -1,5 +1,4 @@
-use Rattle.std.proofs.Common.{refl}
-use Rattle.pcache_http.specs.Vary.{IsAnswered, Selects}
+use Rattle.pcache_http.proofs.Words.{refl, IsAnswered, Selects}
 use Rattle.pcache_http.proofs.Selected.{holds, fails, no_truth, next, stops, ends}
 use Rattle.pcache_http.proofs.vary.selects.Goals as goal
 

@@ -1,6 +1,4 @@
-use Rattle.std.proofs.Common.{◌↔◌}
-use Rattle.std.specs.Prelude.{All}
-use Rattle.pcache_http.specs.Vary.{IsAnswered, Selects}
+use Rattle.pcache_http.proofs.Words.{◌↔◌, All, IsAnswered, Selects}
 use Rattle.pcache_http.proofs.vary.selects.Given as goal
 
 abbrev pub invariant-names : goal.invariant-names

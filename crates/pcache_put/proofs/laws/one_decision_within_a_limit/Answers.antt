@@ -1,5 +1,5 @@
-use Rattle.std.proofs.Common.{ap, sym, ◌∙◌}
 use Rattle.pcache_put.specs.Policies.{with_short_head}
+use Rattle.pcache_put.proofs.Words.{ap, sym, ◌∙◌}
 use Rattle.pcache_put.proofs.laws.one_decision_within_a_limit.Goals as goal
 
 pub returns : goal.returns

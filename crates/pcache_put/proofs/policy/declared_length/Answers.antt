@@ -1,5 +1,5 @@
-use Rattle.std.proofs.Common.{sym, ap, ◌∙◌}
 use Rattle.std.specs.Option.{option_copied}
+use Rattle.pcache_put.proofs.Words.{sym, ap, ◌∙◌}
 use Rattle.pcache_put.proofs.Declared.{declares_shown, declares_none}
 use Rattle.pcache_put.proofs.policy.declared_length.Goals as goal
 

@@ -1,10 +1,6 @@
-use Rattle.std.proofs.Common.{◌<◌, ◌≤◌, length, map, take, All, get_or, ap, sym, ◌∙◌, subst, arith, length-take}
-use Rattle.std.proofs.lemmas.List.{length-map}
-use Rattle.std.proofs.lemmas.List.Elements.{All-push, All-get_or}
-use Rattle.std.proofs.lemmas.Result.{err_from_is_err_and}
-use Rattle.httparse.specs.Spans.{header_bytes, IsHeaderWithin}
+use Rattle.httparse.specs.Spans.{IsHeaderWithin}
 use Rattle.httparse.specs.declared.spans.HeaderSpan.{HeaderSpan}
-use Rattle.pcache_response.specs.Fields.{IsPair, IsShort, append_pair, fields_after}
+use Rattle.pcache_response.proofs.Words.{◌<◌, ◌≤◌, length, map, take, All, get_or, ap, sym, ◌∙◌, subst, arith, length-take, length-map, All-push, All-get_or, err_from_is_err_and, header_bytes, IsPair, IsShort, append_pair, fields_after}
 use Rattle.pcache_response.proofs.FieldLemmas.{mapped_more, All-map_at, fields_more, bounds}
 use Rattle.pcache_response.proofs.head.fields_of.Goals as goal
 

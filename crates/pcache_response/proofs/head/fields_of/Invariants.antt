@@ -1,6 +1,4 @@
-use Rattle.std.proofs.Common.{◌≡◌, map, take, All}
-use Rattle.httparse.specs.Spans.{header_bytes}
-use Rattle.pcache_response.specs.Fields.{IsShort, fields_after}
+use Rattle.pcache_response.proofs.Words.{◌≡◌, map, take, All, header_bytes, IsShort, fields_after}
 use Rattle.pcache_response.proofs.head.fields_of.Given as goal
 
 abbrev pub invariant-spans : goal.invariant-spans

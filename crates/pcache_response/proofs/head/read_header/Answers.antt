@@ -1,10 +1,5 @@
-use Rattle.std.proofs.Common.{◌≡◌, All, map, ap, sym, ◌∙◌, subst}
-use Rattle.std.proofs.lemmas.Result.{err_from_is_err_and}
 use Rattle.http.specs.StatusCode.{IsStatusCode}
-use Rattle.httparse.specs.Grammar.{ResponseHead, status_code}
-use Rattle.httparse.specs.Spans.{name_and_value}
-use Rattle.pcache_response.specs.Head.{version_of}
-use Rattle.pcache_response.specs.Fields.{IsPair, IsShort, fields_after}
+use Rattle.pcache_response.proofs.Words.{◌≡◌, All, map, ap, sym, ◌∙◌, subst, err_from_is_err_and, ResponseHead, status_code, name_and_value, version_of, IsPair, IsShort, fields_after}
 use Rattle.pcache_response.proofs.HeadLemmas.{one_head, fields_are_pairs, header_is}
 use Rattle.pcache_response.proofs.head.read_header.Goals as goal
 

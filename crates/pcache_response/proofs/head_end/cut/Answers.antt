@@ -1,7 +1,5 @@
-use Rattle.std.proofs.Common.{◌≡◌, ◌≢◌, ℕ, ◌+◌, ◌≤◌, ◌<◌, length, take, ap, sym, ◌∙◌, subst, arith}
-use Rattle.std.proofs.lemmas.List.{take_all, length-drop}
-use Rattle.pcache_response.specs.HeadStates.{state_after}
-use Rattle.pcache_response.specs.declared.head_end.HeadState.TheVariants.{Ended}
+use Rattle.std.proofs.lemmas.List.{length-drop}
+use Rattle.pcache_response.proofs.Words.{◌≡◌, ◌≢◌, ℕ, ◌+◌, ◌≤◌, ◌<◌, length, take, ap, sym, ◌∙◌, subst, arith, take_all, state_after, Ended}
 use Rattle.pcache_response.proofs.PartLemmas.{rest_is}
 use Rattle.pcache_response.proofs.Joins.{place_stays, run_goes_on, cuts_behind, goes_on_behind}
 use Rattle.pcache_response.proofs.head_end.cut.Goals as goal

@@ -1,6 +1,4 @@
-use Rattle.std.proofs.Common.{◌≡◌, ◌≤◌, ℕ, ◌-◌, length, take}
-use Rattle.pcache_response.specs.HeadStates.{state_after}
-use Rattle.pcache_response.specs.declared.head_end.HeadState.TheVariants.{Ended}
+use Rattle.pcache_response.proofs.Words.{◌≡◌, ◌≤◌, ℕ, ◌-◌, length, take, state_after, Ended}
 use Rattle.pcache_response.proofs.head_end.cut.Given as goal
 
 abbrev pub invariant-bytes : goal.invariant-bytes

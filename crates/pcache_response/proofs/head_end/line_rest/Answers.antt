@@ -1,4 +1,4 @@
-use Rattle.std.proofs.Common.{length, arith}
+use Rattle.pcache_response.proofs.Words.{length, arith}
 use Rattle.pcache_response.proofs.Joins.{inside_run}
 use Rattle.pcache_response.proofs.head_end.line_rest.Goals as goal
 

@@ -1,6 +1,4 @@
-use Rattle.std.proofs.Common.{sym, subst, ◌∙◌}
-use Rattle.pcache_response.specs.Progress.{TakenIn, parsed_of}
-use Rattle.pcache_response.specs.declared.response_parse.Progress.{Progress}
+use Rattle.pcache_response.proofs.Words.{sym, subst, ◌∙◌, TakenIn, parsed_of, Progress}
 use Rattle.pcache_response.proofs.Unique.{missing_early, unfinished_early}
 use Rattle.pcache_response.proofs.response_parse.missing.Goals as goal
 

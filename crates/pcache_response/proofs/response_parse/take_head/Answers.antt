@@ -1,7 +1,4 @@
-use Rattle.std.proofs.Common.{inr, drop, length, ap, ◌∙◌}
-use Rattle.std.proofs.lemmas.Result.{err_from_is_err_and}
-use Rattle.pcache_response.specs.Response.{Response}
-use Rattle.pcache_response.specs.Parts.{nothing, add_all, left_behind, body_parts}
+use Rattle.pcache_response.proofs.Words.{inr, drop, length, ap, ◌∙◌, err_from_is_err_and, Response, nothing, add_all, left_behind, body_parts}
 use Rattle.pcache_response.proofs.PartLemmas.{response_starts, unreadable_there, parts_there, whole_given, rest_is}
 use Rattle.pcache_response.proofs.response_parse.take_head.Goals as goal
 

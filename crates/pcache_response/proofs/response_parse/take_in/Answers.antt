@@ -1,7 +1,4 @@
-use Rattle.std.proofs.Common.{subst}
-use Rattle.pcache_response.specs.Parts.{body_of}
-use Rattle.pcache_response.specs.Progress.{TakenIn, parsed_of}
-use Rattle.pcache_response.specs.declared.response_parse.Progress.{Progress}
+use Rattle.pcache_response.proofs.Words.{subst, body_of, TakenIn, parsed_of, Progress}
 use Rattle.pcache_response.proofs.PartLemmas.{body_joined}
 use Rattle.pcache_response.proofs.response_parse.take_in.Goals as goal
 

@@ -1,7 +1,4 @@
-use Rattle.std.proofs.Common.{◌∙◌}
-use Rattle.std.specs.Prelude.{codes}
-use Rattle.std.specs.Option.{option_copied}
-use Rattle.pcache_validation.specs.Conditions.{lists_tag}
+use Rattle.pcache_validation.proofs.Words.{◌∙◌, codes, option_copied, lists_tag}
 use Rattle.pcache_validation.proofs.Shown.{any_shown}
 use Rattle.pcache_validation.proofs.conditions.a_line_lists.Goals as goal
 

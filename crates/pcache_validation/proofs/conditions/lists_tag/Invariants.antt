@@ -1,8 +1,6 @@
-use Rattle.std.proofs.Common.{◌≡◌}
-use Rattle.std.specs.List.{list_any}
-use Rattle.std.specs.Option.{option_copied}
 use Rattle.pcache_validation.specs.EntityTags.{tag_in}
-use Rattle.pcache_validation.specs.Conditions.{matches_weakly, lists_tag}
+use Rattle.pcache_validation.specs.Conditions.{matches_weakly}
+use Rattle.pcache_validation.proofs.Words.{◌≡◌, list_any, option_copied, lists_tag}
 use Rattle.pcache_validation.proofs.conditions.lists_tag.Given as goal
 
 abbrev pub invariant-loop-element : goal.invariant-loop-element

@@ -1,5 +1,4 @@
-use Rattle.std.proofs.Common.{ap, ◌∙◌}
-use Rattle.pcache_validation.specs.Fields.{bytes_of}
+use Rattle.pcache_validation.proofs.Words.{ap, ◌∙◌, bytes_of}
 use Rattle.pcache_validation.proofs.Shown.{first_shown}
 use Rattle.pcache_validation.proofs.fields.first.Goals as goal
 

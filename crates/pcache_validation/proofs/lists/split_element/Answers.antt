@@ -1,5 +1,5 @@
-use Rattle.std.proofs.Common.{◌∙◌}
 use Rattle.std.proofs.lemmas.List.{take_rest}
+use Rattle.pcache_validation.proofs.Words.{◌∙◌}
 use Rattle.pcache_validation.proofs.Elements.{elements_at, elements_whole}
 use Rattle.pcache_validation.proofs.lists.split_element.Goals as goal
 

@@ -1,5 +1,5 @@
-use Rattle.std.proofs.Common.{◌≡◌, length, reverse}
-use Rattle.pcache_validation.specs.Lists.{skip_ows}
+use Rattle.std.proofs.Common.{reverse}
+use Rattle.pcache_validation.proofs.Words.{◌≡◌, length, skip_ows}
 use Rattle.pcache_validation.proofs.lists.trim_end.Given as goal
 
 abbrev pub invariant-back : goal.invariant-back

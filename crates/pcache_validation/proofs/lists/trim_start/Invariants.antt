@@ -1,5 +1,4 @@
-use Rattle.std.proofs.Common.{◌≡◌, length}
-use Rattle.pcache_validation.specs.Lists.{skip_ows}
+use Rattle.pcache_validation.proofs.Words.{◌≡◌, length, skip_ows}
 use Rattle.pcache_validation.proofs.lists.trim_start.Given as goal
 
 abbrev pub invariant-front : goal.invariant-front

@@ -1,6 +1,4 @@
-use Rattle.std.proofs.Common.{◌≡◌}
-use Rattle.http_header.specs.HeaderMap.{get_all}
-use Rattle.pcache_validation.specs.Updating.{with_lines}
+use Rattle.pcache_validation.proofs.Words.{◌≡◌, get_all, with_lines}
 use Rattle.pcache_validation.proofs.updating.append_lines.Given as goal
 
 abbrev pub invariant-lines : goal.invariant-lines

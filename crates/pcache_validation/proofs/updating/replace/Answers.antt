@@ -1,4 +1,4 @@
-use Rattle.http_header.specs.HeaderMap.{get_all}
+use Rattle.pcache_validation.proofs.Words.{get_all}
 use Rattle.pcache_validation.proofs.Updates.{replaced_same, replaced_others}
 use Rattle.pcache_validation.proofs.updating.replace.Goals as goal
 

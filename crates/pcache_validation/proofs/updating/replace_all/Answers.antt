@@ -1,4 +1,4 @@
-use Rattle.std.proofs.Common.{subst}
+use Rattle.pcache_validation.proofs.Words.{subst}
 use Rattle.pcache_validation.proofs.Updates.{Replacing, all_replaced}
 use Rattle.pcache_validation.proofs.updating.replace_all.Goals as goal
 

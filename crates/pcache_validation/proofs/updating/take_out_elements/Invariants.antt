@@ -1,6 +1,5 @@
-use Rattle.std.proofs.Common.{◌≡◌}
 use Rattle.pcache_validation.specs.Lists.{elements}
-use Rattle.pcache_validation.specs.Updating.{without_names}
+use Rattle.pcache_validation.proofs.Words.{◌≡◌, without_names}
 use Rattle.pcache_validation.proofs.updating.take_out_elements.Given as goal
 
 abbrev pub invariant-elements : goal.invariant-elements

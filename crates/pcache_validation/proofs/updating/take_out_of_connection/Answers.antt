@@ -1,7 +1,4 @@
-use Rattle.std.proofs.Common.{ap, ◌∙◌}
-use Rattle.std.specs.Prelude.{codes}
-use Rattle.http_header.specs.FieldValue.{FieldValue}
-use Rattle.http_header.specs.HeaderMap.{Entries, remove}
+use Rattle.pcache_validation.proofs.Words.{ap, ◌∙◌, codes, FieldValue, Entries, remove}
 use Rattle.pcache_validation.proofs.updating.take_out_of_connection.Goals as goal
 
 pub returns : goal.returns

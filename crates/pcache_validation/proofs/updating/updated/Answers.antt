@@ -1,4 +1,4 @@
-use Rattle.std.proofs.Common.{refl}
+use Rattle.pcache_validation.proofs.Words.{refl}
 use Rattle.pcache_validation.proofs.Updates.{updates}
 use Rattle.pcache_validation.proofs.updating.updated.Goals as goal
 

@@ -1,8 +1,6 @@
-use Rattle.std.proofs.Common.{subst, sym, Some, refl, rules}
 use Rattle.pcache_store.specs.Readers.{reader_of}
-use Rattle.pcache_cache.specs.Parts.{IsKept}
+use Rattle.pcache_cache.proofs.Words.{subst, sym, Some, rules, IsKept, found_deeds}
 use Rattle.pcache_cache.proofs.Kept.{kept_found, slots_taken}
-use Rattle.pcache_request.specs.LockPasts.{found_deeds}
 use Rattle.pcache_cache.proofs.Adding.{found_keeps}
 use Rattle.pcache_cache.proofs.Unlocking.{if_done, none_kept}
 use Rattle.pcache_cache.proofs.Only.{only_slots}
@@ -13,8 +11,8 @@ invariant_of-self g c =
     let limits = g.M.EvictionManager.limits c.self.inside.manager in
     let tracked = g.M.EvictionManager.tracked c.self.inside.manager in (
       subst (λ l. IsKept c.self.inside.weighing l (g.M.EvictionManager.tracked c.cache_found_tracked.new.eviction) c.cache_found_tracked.new.storage.state) (sym c.cache_found_tracked.ensures.limits)
-          (kept_found c.self.inside.weighing limits tracked (g.M.EvictionManager.tracked c.cache_found_tracked.new.eviction) c.self.inside.store.state c.cache_found_tracked.new.storage.state (slots_taken c.self.inside.store.state c.cache_found_tracked.new.storage.state c.args.status (reader_of c.args.hit) c.args.request.now.cache c.cache_found_tracked.result c.cache_found_tracked.ensures.store c.cache_found_tracked.ensures.left_store) c.cache_found_tracked.ensures.tracked c.self.invariant.0),
-      if_done c.cache_found_tracked.result (found_deeds c.args.status c.args.now c.self.inside.lock.table c.args.request.now.cache) (Some c.self.inside.lock.past) (Some c.cache_found_tracked.new.lock.past) (found_keeps none_kept c.args.status c.args.now c.self.inside.lock.table c.args.request.now.cache) c.cache_found_tracked.ensures.deeds c.cache_found_tracked.ensures.same_deeds c.self.invariant.1,
+          (kept_found c.self.inside.weighing limits tracked (g.M.EvictionManager.tracked c.cache_found_tracked.new.eviction) c.self.inside.store.state c.cache_found_tracked.new.storage.state (slots_taken c.self.inside.store.state c.cache_found_tracked.new.storage.state c.args.status (reader_of c.args.hit) c.args.request.now.cache c.cache_found_tracked.result c.cache_found_tracked.ensures.takes.store c.cache_found_tracked.ensures.takes.left_store) c.cache_found_tracked.ensures.tracked c.self.invariant.0),
+      if_done c.cache_found_tracked.result (found_deeds c.args.status c.args.now c.self.inside.lock.table c.args.request.now.cache) (Some c.self.inside.lock.past) (Some c.cache_found_tracked.new.lock.past) (found_keeps none_kept c.args.status c.args.now c.self.inside.lock.table c.args.request.now.cache) c.cache_found_tracked.ensures.takes.deeds c.cache_found_tracked.ensures.takes.same_deeds c.self.invariant.1,
     )
 
 pub returns : goal.returns
@@ -25,23 +23,9 @@ returns g c =
     let e = call.ensures in
     rw (← c.self.view_is) (record {
       takes = record {
-        request = e.request;
-        store = e.store;
-        past = e.past;
-        table = e.table;
-        deeds = e.deeds;
-        tracked = e.tracked;
-        only = λ of its only. only_slots of inside.weighing (tracked inside.manager) (tracked call.new.eviction) inside.store.state call.new.storage.state (slots_taken inside.store.state call.new.storage.state c.args.status (reader_of c.args.hit) c.args.request.now.cache call.result e.store e.left_store) e.tracked only;
-        same_request = e.same_request;
-        left_store = e.left_store;
-        left_past = e.left_past;
-        same_table = e.same_table;
-        same_deeds = search rules;
-        kind = e.kind;
-        numbers = e.numbers;
+        takes = e.takes;
         something = e.something;
-        limits = e.limits;
-        weighing = refl;
-        evicted = e.evicted;
+        only = λ of its only. only_slots of inside.weighing (tracked inside.manager) (tracked call.new.eviction) inside.store.state call.new.storage.state (slots_taken inside.store.state call.new.storage.state c.args.status (reader_of c.args.hit) c.args.request.now.cache call.result e.takes.store e.takes.left_store) e.tracked only;
+        rest = search rules;
       };
     })

@@ -1,6 +1,5 @@
-use Rattle.std.proofs.Common.{◌∙◌, ap}
+use Rattle.pcache_cache.proofs.Words.{◌∙◌, ap, dropped_by}
 use Rattle.pcache_cache.proofs.Kept.{kept_dropped}
-use Rattle.pcache_request.specs.Requests.{dropped_by}
 use Rattle.pcache_cache.proofs.cache.Cache.drop_left.Goals as goal
 
 pub invariant_of-self : goal.invariant_of-self

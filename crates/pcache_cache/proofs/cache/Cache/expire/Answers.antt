@@ -1,5 +1,4 @@
-use Rattle.std.proofs.Common.{subst, sym, rules}
-use Rattle.pcache_cache.specs.Parts.{IsKept}
+use Rattle.pcache_cache.proofs.Words.{subst, sym, rules, IsKept}
 use Rattle.pcache_cache.proofs.Kept.{kept_expired}
 use Rattle.pcache_cache.proofs.Only.{only_expired}
 use Rattle.pcache_cache.proofs.cache.Cache.expire.Goals as goal
@@ -8,8 +7,8 @@ pub invariant_of-self : goal.invariant_of-self
 invariant_of-self g c =
     let limits = g.M.EvictionManager.limits c.self.inside.manager in
     let tracked = g.M.EvictionManager.tracked c.self.inside.manager in (
-      subst (λ l. IsKept c.self.inside.weighing l (g.M.EvictionManager.tracked c.expire.new.eviction) c.expire.new.storage.state) (sym c.expire.ensures.limits)
-          (kept_expired c.self.inside.weighing limits tracked (g.M.EvictionManager.tracked c.expire.new.eviction) c.self.inside.store.state c.expire.new.storage.state c.args.request.now.cache.uses.eviction c.args.request.now.cache.key c.args.now c.expire.result c.expire.ensures.store c.expire.ensures.tracked c.expire.ensures.same_store c.expire.ensures.same_tracked c.self.invariant.0),
+      subst (λ l. IsKept c.self.inside.weighing l (g.M.EvictionManager.tracked c.expire.new.eviction) c.expire.new.storage.state) (sym c.expire.ensures.expires.limits)
+          (kept_expired c.self.inside.weighing limits tracked (g.M.EvictionManager.tracked c.expire.new.eviction) c.self.inside.store.state c.expire.new.storage.state c.args.request.now.cache.uses.eviction c.args.request.now.cache.key c.args.now c.expire.result c.expire.ensures.expires.store c.expire.ensures.expires.tracked c.expire.ensures.expires.same_store c.expire.ensures.expires.same_tracked c.self.invariant.0),
       c.self.invariant.1,
     )
 
@@ -24,12 +23,9 @@ returns g c =
       takes = record {
         request = e.same;
         there = e.there;
-        store = e.store;
-        past = e.past;
-        tracked = e.tracked;
-        only = λ of its only. only_expired of inside.weighing (tracked inside.manager) (tracked call.new.eviction) inside.store.state call.new.storage.state r.uses.eviction r.key c.args.now call.result e.store e.tracked e.same_store e.same_tracked only;
+        takes = e.expires;
+        only = λ of its only. only_expired of inside.weighing (tracked inside.manager) (tracked call.new.eviction) inside.store.state call.new.storage.state r.uses.eviction r.key c.args.now call.result e.expires.store e.expires.tracked e.expires.same_store e.expires.same_tracked only;
         same = search rules;
-        kind = e.kind;
         rest = search rules;
       };
     })

@@ -1,10 +1,7 @@
-use Rattle.std.proofs.Common.{ap, subst, sym, ◌∙◌, Some, refl, rules}
-use Rattle.pcache_cache.specs.Weighing.{ending_weight}
-use Rattle.pcache_cache.specs.Parts.{IsKept, MayEnd, Parts}
+use Rattle.pcache_cache.proofs.Words.{ap, subst, sym, ◌∙◌, Some, refl, rules, ending_weight, IsKept, MayEnd, Parts, HasRoom, beside}
 use Rattle.pcache_cache.proofs.Ended.{kept_finished, same-number}
 use Rattle.pcache_cache.proofs.Unlocking.{if_ended}
 use Rattle.pcache_cache.proofs.Ways.{each_end}
-use Rattle.pcache_cache.specs.Room.{HasRoom, beside}
 use Rattle.pcache_cache.proofs.Only.{only_finished}
 use Rattle.pcache_cache.proofs.Room.{finish_calm}
 use Rattle.pcache_cache.proofs.cache.Cache.finish_miss_handler.Goals as goal
@@ -14,8 +11,8 @@ invariant_of-self g c =
     let tracked = g.M.EvictionManager.tracked in (
       subst (λ l. IsKept c.self.inside.weighing l (tracked c.finish_replacing.new.eviction) c.finish_replacing.new.storage.state) (sym c.finish_replacing.ensures.limits)
           (kept_finished c.self.inside.weighing (g.M.EvictionManager.limits c.self.inside.manager) c.args.request.now.cache c.replaced_by.result c.ending_weight.result c.self.inside.store.state c.finish_replacing.new.storage.state (tracked c.self.inside.manager) (tracked c.finish_replacing.new.eviction) c.self.inside.lock.table c.finish_replacing.new.lock.table c.finish_replacing.result
-          (subst (λ (p : Parts). MayEnd p.store c.args.request.now.cache) (sym c.self.view_is) c.requires.own) (sym c.writer-writer.ensures.entry ∙ same-number _ c.writer-writer.result ∙ c.writer-writer.ensures.write) (c.ending_weight.ensures ∙ ap (ending_weight c.self.inside.weighing c.self.inside.store.state) c.writer-writer.ensures.write) (each_end c.finish_replacing.result (λ how is. is.0) c.finish_replacing.ensures.ended) c.self.invariant.0),
-      if_ended c.finish_replacing.result c.args.request.now.cache.write c.args.request.now.cache.held (Some c.self.inside.lock.past) (Some c.finish_replacing.new.lock.past) (each_end c.finish_replacing.result (λ how is. is.2) c.finish_replacing.ensures.ended) c.self.invariant.1,
+          (subst (λ (p : Parts). MayEnd p.store c.args.request.now.cache) (sym c.self.view_is) c.requires.own) (sym c.writer-writer.ensures.entry ∙ same-number _ c.writer-writer.result ∙ c.writer-writer.ensures.write) (c.ending_weight.ensures ∙ ap (ending_weight c.self.inside.weighing c.self.inside.store.state) c.writer-writer.ensures.write) (each_end c.finish_replacing.result (λ how is. is.ends) c.finish_replacing.ensures.ended) c.self.invariant.0),
+      if_ended c.finish_replacing.result c.args.request.now.cache.write c.args.request.now.cache.held (Some c.self.inside.lock.past) (Some c.finish_replacing.new.lock.past) (each_end c.finish_replacing.result (λ how is. is.deeds) c.finish_replacing.ensures.ended) c.self.invariant.1,
     )
 
 pub returns : goal.returns
@@ -33,9 +30,9 @@ returns g c =
         request = e.request;
         ended = search rules;
         only = λ of its only. only_finished of inside.weighing limits r c.replaced_by.result c.ending_weight.result inside.store.state call.new.storage.state (tracked inside.manager) (tracked call.new.eviction) inside.lock.table call.new.lock.table call.result
-            may (sym c.writer-writer.ensures.entry ∙ same-number _ c.writer-writer.result ∙ c.writer-writer.ensures.write) weighs its c.replaced_by.ensures (each_end call.result (λ how is. is.0) e.ended) only;
+            may (sym c.writer-writer.ensures.entry ∙ same-number _ c.writer-writer.result ∙ c.writer-writer.ensures.write) weighs its c.replaced_by.ensures (each_end call.result (λ how is. is.ends) e.ended) only;
         room = λ of none its only room. finish_calm of none inside.weighing limits r c.replaced_by.result c.ending_weight.result inside.store.state call.new.storage.state (tracked inside.manager) (tracked call.new.eviction) inside.lock.table call.new.lock.table call.result
-            may.uses its c.replaced_by.ensures only (subst (HasRoom inside.weighing limits (beside r.key inside.store.state)) (sym weighs) room) (each_end call.result (λ how is. is.0) e.ended);
+            may.uses its c.replaced_by.ensures only (subst (HasRoom inside.weighing limits (beside r.key inside.store.state)) (sym weighs) room) (each_end call.result (λ how is. is.ends) e.ended);
         withdrawn = search rules;
         limits = e.limits;
         weighing = refl;

@@ -1,12 +1,7 @@
-use Rattle.std.proofs.Common.{ap, ◌≡◌, true, Some, rules, subst, sym, ◌∙◌}
-use Rattle.pcache_base.specs.Key.{slot}
-use Rattle.pcache_put.specs.State.{write_in}
-use Rattle.pcache_store.specs.Finishes.{body_number}
-use Rattle.pcache_cache.specs.Parts.{IsKept, Parts, is_own_write}
+use Rattle.pcache_cache.proofs.Words.{ap, ◌≡◌, true, Some, rules, subst, sym, ◌∙◌, slot, write_in, body_number, IsKept, Parts, is_own_write, HasRoom, beside}
 use Rattle.pcache_cache.proofs.Ended.{same-number}
 use Rattle.pcache_cache.proofs.Fed.{kept_put_ended}
 use Rattle.pcache_cache.proofs.Ways.{each_put_end}
-use Rattle.pcache_cache.specs.Room.{HasRoom, beside}
 use Rattle.pcache_cache.proofs.Only.{only_put_ended}
 use Rattle.pcache_cache.proofs.Room.{put_calm}
 use Rattle.pcache_cache.proofs.cache.Cache.finish_put.Goals as goal

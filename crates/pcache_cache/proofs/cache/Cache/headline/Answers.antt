@@ -1,6 +1,5 @@
-use Rattle.std.proofs.Common.{subst}
 use Rattle.pcache_store.specs.PastLaws.{PurgedIsGone}
-use Rattle.pcache_cache.specs.Parts.{Parts, TracksExactly}
+use Rattle.pcache_cache.proofs.Words.{subst, Parts, TracksExactly}
 use Rattle.pcache_cache.proofs.SumsToStored.{sums_to_stored}
 use Rattle.pcache_cache.proofs.cache.Cache.headline.Goals as goal
 

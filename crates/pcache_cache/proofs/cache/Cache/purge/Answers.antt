@@ -1,5 +1,4 @@
-use Rattle.std.proofs.Common.{subst, sym, rules}
-use Rattle.pcache_cache.specs.Parts.{IsKept}
+use Rattle.pcache_cache.proofs.Words.{subst, sym, rules, IsKept}
 use Rattle.pcache_cache.proofs.Kept.{kept_removed}
 use Rattle.pcache_cache.proofs.Only.{only_removed}
 use Rattle.pcache_cache.proofs.cache.Cache.purge.Goals as goal
@@ -8,8 +7,8 @@ pub invariant_of-self : goal.invariant_of-self
 invariant_of-self g c =
     let limits = g.M.EvictionManager.limits c.self.inside.manager in
     let tracked = g.M.EvictionManager.tracked c.self.inside.manager in (
-      subst (λ l. IsKept c.self.inside.weighing l (g.M.EvictionManager.tracked c.purge.new.eviction) c.purge.new.storage.state) (sym c.purge.ensures.limits)
-          (kept_removed c.self.inside.weighing limits tracked (g.M.EvictionManager.tracked c.purge.new.eviction) c.self.inside.store.state c.purge.new.storage.state c.args.request.now.cache.uses.eviction c.args.request.now.cache.key c.purge.result c.purge.ensures.store c.purge.ensures.tracked c.purge.ensures.same_store c.purge.ensures.same_tracked c.self.invariant.0),
+      subst (λ l. IsKept c.self.inside.weighing l (g.M.EvictionManager.tracked c.purge.new.eviction) c.purge.new.storage.state) (sym c.purge.ensures.purges.limits)
+          (kept_removed c.self.inside.weighing limits tracked (g.M.EvictionManager.tracked c.purge.new.eviction) c.self.inside.store.state c.purge.new.storage.state c.args.request.now.cache.uses.eviction c.args.request.now.cache.key c.purge.result c.purge.ensures.purges.store c.purge.ensures.purges.tracked c.purge.ensures.purges.same_store c.purge.ensures.purges.same_tracked c.self.invariant.0),
       c.self.invariant.1,
     )
 
@@ -24,12 +23,9 @@ returns g c =
       takes = record {
         request = e.same;
         there = e.there;
-        store = e.store;
-        past = e.past;
-        tracked = e.tracked;
-        only = λ uses of its only. only_removed of inside.weighing (tracked inside.manager) (tracked call.new.eviction) inside.store.state call.new.storage.state r.uses.eviction r.key call.result e.store e.tracked e.same_store e.same_tracked uses its only;
+        takes = e.purges;
+        only = λ uses of its only. only_removed of inside.weighing (tracked inside.manager) (tracked call.new.eviction) inside.store.state call.new.storage.state r.uses.eviction r.key call.result e.purges.store e.purges.tracked e.purges.same_store e.purges.same_tracked uses its only;
         same = search rules;
-        kind = e.kind;
         rest = search rules;
       };
     })

@@ -1,11 +1,5 @@
-use Rattle.std.proofs.Common.{◌≡◌, OnOk, Option, Some, ap, subst, sym, ◌∙◌, rules}
-use Rattle.pcache_base.specs.Key.{Key, slot}
-use Rattle.pcache_meta.specs.Meta.{Meta}
 use Rattle.pcache_request.specs.Renewals.{renewed_by}
-use Rattle.pcache_request.specs.Requests.{Request}
-use Rattle.pcache_cache.specs.Parts.{Parts}
-use Rattle.pcache_cache.specs.Strays.{IsItsKey}
-use Rattle.pcache_cache.specs.Room.{IfRoom, KeepsBodies, weight_with}
+use Rattle.pcache_cache.proofs.Words.{◌≡◌, OnOk, Option, Some, ap, subst, sym, ◌∙◌, rules, Key, slot, Meta, Request, Parts, IsItsKey, IfRoom, KeepsBodies, weight_with}
 use Rattle.pcache_cache.proofs.Only.{numbered, only_renewed}
 use Rattle.pcache_cache.proofs.Room.{renewed_room}
 use Rattle.pcache_cache.proofs.cache.Cache.revalidate_cache_meta.Goals as goal
@@ -32,8 +26,7 @@ returns g c =
         only = λ of its only. only_renewed of inside.weighing (g.M.EvictionManager.limits inside.manager) c.in-Some-Some.meta.now key c.set_meta.result _ _ c.set_meta.ensures.renews
             (λ b there. numbered inside.store.state inside.store.past c.headline.ensures.bodies c.headline.ensures.kept (slot key) b there) (subst (IsItsKey of) (sym keyed) its) only;
         room = with_key;
-        table = search rules;
-        deeds = search rules;
+        settles = search rules;
         rest = search rules;
       };
     })

@@ -1,6 +1,5 @@
 use Rattle.pcache_cache.proofs.Kept.{kept_none}
-use Rattle.std.proofs.Common.{subst, sym, refl}
-use Rattle.pcache_lock.specs.PastLaws.{UnlocksNone}
+use Rattle.pcache_cache.proofs.Words.{subst, sym, refl, UnlocksNone}
 use Rattle.pcache_cache.proofs.cache.Cache.with_weighing.Goals as goal
 
 pub invariant_of-result : goal.invariant_of-result

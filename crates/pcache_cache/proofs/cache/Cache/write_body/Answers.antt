@@ -1,4 +1,4 @@
-use Rattle.std.proofs.Common.{refl, rules}
+use Rattle.pcache_cache.proofs.Words.{refl, rules}
 use Rattle.pcache_cache.proofs.Own.{body_own}
 use Rattle.pcache_cache.proofs.cache.Cache.write_body.Goals as goal
 

@@ -1,7 +1,5 @@
-use Rattle.std.proofs.Common.{ap, ◌∙◌}
-use Rattle.std.specs.Option.{option_map}
 use Rattle.pcache_control.specs.Control.{directive_given}
-use Rattle.pcache_control.specs.Maps.{value_of}
+use Rattle.pcache_control.proofs.Words.{ap, ◌∙◌, option_map, value_of}
 use Rattle.pcache_control.proofs.Found.{lookup_is}
 use Rattle.pcache_control.proofs.cache_control.CacheControl.find.Goals as goal
 

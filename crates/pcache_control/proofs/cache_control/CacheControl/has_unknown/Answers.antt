@@ -1,4 +1,4 @@
-use Rattle.std.proofs.Common.{◌∙◌}
+use Rattle.pcache_control.proofs.Words.{◌∙◌}
 use Rattle.pcache_control.proofs.Found.{same_unknown, passes, has_hit, has_none}
 use Rattle.pcache_control.proofs.cache_control.CacheControl.has_unknown.Goals as goal
 

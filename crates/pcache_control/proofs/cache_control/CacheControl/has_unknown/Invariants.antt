@@ -1,8 +1,4 @@
-use Rattle.std.proofs.Common.{◌≡◌, false}
-use Rattle.std.specs.Map.{lookup}
-use Rattle.pcache_control.specs.declared.key.DirectiveKey.{DirectiveKey}
-use Rattle.pcache_control.specs.Maps.{same_key}
-use Rattle.pcache_control.specs.Names.{is_known, name_of}
+use Rattle.pcache_control.proofs.Words.{◌≡◌, false, lookup, DirectiveKey, same_key, is_known, name_of}
 use Rattle.pcache_control.proofs.cache_control.CacheControl.has_unknown.Given as goal
 
 abbrev pub invariant-names : goal.invariant-names

@@ -1,4 +1,4 @@
-use Rattle.std.specs.Prelude.{codes}
+use Rattle.pcache_control.proofs.Words.{codes}
 use Rattle.pcache_control.proofs.Stored.{asks_since, nothing_stored}
 use Rattle.pcache_control.proofs.filters.upstream.ask_since.Goals as goal
 

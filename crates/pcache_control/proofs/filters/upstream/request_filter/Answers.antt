@@ -1,5 +1,4 @@
-use Rattle.std.proofs.Common.{sym, subst}
-use Rattle.pcache_control.specs.Requests.{LacksRoom}
+use Rattle.pcache_control.proofs.Words.{sym, subst, LacksRoom}
 use Rattle.pcache_control.proofs.filters.upstream.request_filter.Goals as goal
 
 pub returns-in-Some-clause-no_room : goal.returns-in-Some-clause-no_room

@@ -1,6 +1,5 @@
-use Rattle.std.proofs.Common.{ap, ◌∙◌}
-use Rattle.http_header.specs.HeaderMap.{get_all}
 use Rattle.http_header.proofs.HeaderMapLemmas.{get_all-remove_other}
+use Rattle.pcache_control.proofs.Words.{ap, ◌∙◌, get_all}
 use Rattle.pcache_control.proofs.filters.upstream.take_out.Goals as goal
 
 pub returns-clause-others : goal.returns-clause-others

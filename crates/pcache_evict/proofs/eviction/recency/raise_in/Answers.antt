@@ -1,7 +1,4 @@
-use Rattle.std.proofs.Common.{◌≡◌, Some, ap, subst, sym, refl}
-use Rattle.std.specs.Prelude.{IsSome}
-use Rattle.lru.specs.LruCache.{lru_cache}
-use Rattle.pcache_evict.specs.Recency.{weight_of}
+use Rattle.pcache_evict.proofs.Words.{◌≡◌, Some, ap, subst, sym, refl, IsSome, lru_cache, weight_of}
 use Rattle.pcache_evict.proofs.Recency.{written-put}
 use Rattle.pcache_evict.proofs.eviction.recency.raise_in.Goals as goal
 

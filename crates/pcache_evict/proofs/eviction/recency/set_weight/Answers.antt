@@ -1,5 +1,4 @@
-use Rattle.std.proofs.Common.{ap}
-use Rattle.lru.specs.LruCache.{lru_cache}
+use Rattle.pcache_evict.proofs.Words.{ap, lru_cache}
 use Rattle.pcache_evict.proofs.Recency.{written-put}
 use Rattle.pcache_evict.proofs.eviction.recency.set_weight.Goals as goal
 

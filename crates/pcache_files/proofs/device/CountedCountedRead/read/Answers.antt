@@ -1,5 +1,4 @@
-use Rattle.std.proofs.Common.{◌∙◌, ◌+◌, ◌%◌, ◌^◌, ap, arith, refl, ℕ}
-use Rattle.std.specs.Prelude.{Ok}
+use Rattle.pcache_files.proofs.Words.{◌∙◌, ◌+◌, ◌%◌, ◌^◌, ap, arith, refl, ℕ, Ok}
 use Rattle.pcache_files.proofs.Devices.{counts, gave-up, gave-up-trying, lacked, keeps-read}
 use Rattle.pcache_files.proofs.device.CountedCountedRead.read.Goals as goal
 

@@ -1,4 +1,4 @@
-use Rattle.std.proofs.Common.{◌∙◌, ◌+◌, ◌%◌, ◌^◌, ap, arith, refl}
+use Rattle.pcache_files.proofs.Words.{◌∙◌, ◌+◌, ◌%◌, ◌^◌, ap, arith, refl}
 use Rattle.pcache_files.proofs.Devices.{counts, gave-up, gave-up-trying, lacked}
 use Rattle.pcache_files.proofs.device.CountedCountedWrite.flush.Goals as goal
 

@@ -1,6 +1,4 @@
-use Rattle.std.proofs.Common.{◌≡◌}
-use Rattle.std.specs.Io.KnownBytes.{Keeps}
-use Rattle.pcache_files.specs.Device.{Interrupted}
+use Rattle.pcache_files.proofs.Words.{◌≡◌, Keeps, Interrupted}
 use Rattle.pcache_files.proofs.device.CountedCountedWrite.flush.Given as goal
 
 abbrev pub invariant-tries : goal.invariant-tries

@@ -1,4 +1,4 @@
-use Rattle.std.proofs.Common.{◌∙◌, ◌+◌, ◌%◌, ◌^◌, ℕ, ap, arith, refl}
+use Rattle.pcache_files.proofs.Words.{◌∙◌, ◌+◌, ◌%◌, ◌^◌, ℕ, ap, arith, refl}
 use Rattle.pcache_files.proofs.Devices.{counts, gave-up, gave-up-trying, lacked}
 use Rattle.pcache_files.proofs.device.CountedCountedWrite.write.Goals as goal
 

@@ -1,6 +1,5 @@
-use Rattle.std.proofs.Common.{ap, ◌∙◌}
-use Rattle.pcache_evict.specs.Listed.{map_of}
-use Rattle.pcache_evict.specs.Shards.{Sharded, all}
+use Rattle.pcache_evict.specs.Shards.{Sharded}
+use Rattle.pcache_files.proofs.Words.{ap, ◌∙◌, map_of, all}
 use Rattle.pcache_files.proofs.PutIn.{map_joined_all}
 use Rattle.pcache_files.proofs.saved.Sharded_lruManagerSavedManager.load.Goals as goal
 

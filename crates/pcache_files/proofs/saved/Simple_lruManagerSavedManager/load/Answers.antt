@@ -1,6 +1,6 @@
-use Rattle.std.proofs.Common.{ap, ◌∙◌}
-use Rattle.pcache_evict.specs.Listed.{Listed, map_of}
+use Rattle.pcache_evict.specs.Listed.{Listed}
 use Rattle.pcache_files.specs.Folder.{list_name}
+use Rattle.pcache_files.proofs.Words.{ap, ◌∙◌, map_of}
 use Rattle.pcache_files.proofs.PutIn.{loads_one, map_loaded_all}
 use Rattle.pcache_files.proofs.saved.Simple_lruManagerSavedManager.load.Goals as goal
 

@@ -1,7 +1,5 @@
-use Rattle.std.proofs.Common.{refl, ap, ◌∙◌, false, Bool}
-use Rattle.pcache_http.specs.declared.control.RequestControl.{RequestControl}
 use Rattle.pcache_http.specs.Control.{request_control, pragma_control}
-use Rattle.std.proofs.Common.{[]}
+use Rattle.pcache_http.proofs.Words.{refl, ap, ◌∙◌, false, Bool, RequestControl, []}
 use Rattle.pcache_http.proofs.control.RequestControl.of_pragma.Goals as goal
 
 pub returns : goal.returns

@@ -1,6 +1,4 @@
-use Rattle.std.proofs.Common.{refl, sym, ap, ◌∙◌, bytes_eq}
-use Rattle.std.specs.Option.{option_copied}
-use Rattle.http_header.specs.Token.{lowercase}
+use Rattle.pcache_http.proofs.Words.{refl, sym, ap, ◌∙◌, bytes_eq, option_copied, lowercase}
 use Rattle.pcache_http.proofs.Removed.{listing_lower, removed-one, removed-other}
 use Rattle.pcache_http.proofs.stored_fields.RemovingListens.hear.Goals as goal
 

@@ -1,6 +1,5 @@
-use denote.RattleType.{RattleType}
-use denote.Param.Send.{IsSend}
 use Rattle.pcache_keeper.specs.contracts.tokens.Keeper.{the_row}
+use Rattle.pcache_keeper.proofs.Words.{RattleType, IsSend}
 use Rattle.pcache_keeper.proofs.Keyless.{top_keyless}
 
 pub send : (E : RattleType) → IsSend (the_row E)

@@ -1,34 +1,11 @@
 -- `add`: one more note. Assumes `Logic`.
-use Rattle.std.proofs.Common.{ℕ, List, [], ◌∷◌, ◌++◌, refl}
-use mir.Syntax.{a_type, dcons, dnil, named}
-use mir.Val.{Val, vunit, vptr}
-use mir.MapTy.{inst_fn}
-use base.Logic.{SProp, emp, via}
-use base.Fml.{Fml, ftrue, fsep, flft}
-use types.Kit.{‵, raw, ◌⊛◌, later, ◌$◌, ◌∵◌, !, qed, by, move, keep, split, fsplit, fsplit3, fjoin, fjoin3, use1, await, feq_i}
-use types.Run.{unit_lit, of_opd, returns, enter}
-use types.ByLocal.{alloc_all, pass_all, free_all, look_at, sets}
-use contract.Monad.{fact_i}
-use contract.Running.{tables}
-use denote.Exit.{yes}
-use denote.RattleType.{RattleType, owns}
-use denote.Signature.{types_at, plain}
-use denote.Builtin.{RefOf}
-use denote.Ref.{mut_vals, mut_Tells, shr_vals, shr_Tells}
-use denote.Steps.{nothing, opens, closes}
-use denote.Param.{param, bounded}
-use denote.Triple.Walked.{Stays, stay_dropped, stay_ref, walk_of, Goes-dropped, Goes-ref}
-use Rattle.atomic_table.proofs.Walks.{proved}
-use Rattle.logbook.proofs.Fields.{ends}
-use types.Owned.{basic}
+use mir.Syntax.{dcons}
 use types.Growing.{latest_grows}
-use Rattle.std.specs.Prelude.{map}
-use Rattle.logbook.specs.Kept.{logs}
 use Rattle.logbook.proofs.Roster.{prefix_in}
-use Rattle.pcache_keeper.specs.Kept.{top}
-use Rattle.pcache_keeper.specs.contracts.tokens.Keeper as Keeper
 use Rattle.pcache_keeper.specs.contracts.tokens.Keeper.add.{ended, clauses}
 use Rattle.pcache_keeper.specs.contracts.tokens.Keeper.add.Key.{name as #self}
+use Rattle.pcache_keeper.proofs.Words.{ℕ, List, [], ◌∷◌, ◌++◌, refl, a_type, dnil, named, Val, vunit, vptr, inst_fn, SProp, emp, via, Fml, ftrue, fsep, flft, ‵, raw, ◌⊛◌, later, ◌$◌, ◌∵◌, !, qed, by, move, keep, split, fsplit, fsplit3, fjoin, fjoin3, use1, await, feq_i, unit_lit, of_opd, returns, enter, alloc_all, pass_all, free_all, look_at, sets, fact_i, tables, yes, RattleType, owns, types_at, plain, RefOf, mut_vals, mut_Tells, shr_vals, shr_Tells, nothing, opens, closes, param, bounded, Stays, stay_dropped, stay_ref, walk_of, Goes-dropped, Goes-ref, proved, ends, basic, map, logs, top}
+use Rattle.pcache_keeper.specs.contracts.tokens.Keeper as Keeper
 use Rattle.pcache_keeper.proofs.tokens.Keeper.add.Statement.{statement}
 use Rattle.pcache_keeper.proofs.tokens.Keeper.add.Code as code
 

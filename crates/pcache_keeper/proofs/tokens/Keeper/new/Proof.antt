@@ -1,31 +1,11 @@
 -- `new`: nothing happened. Assumes `Logic`.
-use Rattle.std.proofs.Common.{ℕ, [], ◌∷◌, refl}
-use mir.Syntax.{a_type, dnil}
-use mir.Val.{Val}
-use mir.MapTy.{inst_fn}
-use base.Logic.{SProp, emp, via}
-use types.Kit.{‵, raw, ◌⊛◌, some, later, ◌$◌, ◌∵◌, !, qed, by, keep, split, fjoin, pick, use0, await}
-use types.Run.{no_more, and_then, returns, enter}
-use types.ByLocal.{alloc_all, pass_all, free_all, look_at, get, sets}
-use types.Part.{agg}
-use contract.Monad.{fact_i}
-use contract.Running.{tables}
-use denote.RattleType.{RattleType, owns}
-use denote.Signature.{types_at}
-use denote.Steps.{nothing}
-use denote.Param.{param, bounded}
-use denote.Triple.Walked.{Stays, walk_of}
-use Rattle.atomic_table.proofs.Walks.{proved}
-use Rattle.logbook.proofs.Fields.{token, Token, token_made, ends}
-use types.Owned.{basic}
 use types.Growing.{latest_new}
-use Rattle.logbook.specs.Kept.{logs}
-use Rattle.pcache_keeper.specs.Kept.{top}
 use Rattle.pcache_keeper.specs.contracts.tokens.Keeper.new.{ended, clauses}
 use Rattle.pcache_keeper.specs.contracts.tokens.Keeper.new.Key.{name as #self}
+use denote.Triple.Entry.{alive}
+use Rattle.pcache_keeper.proofs.Words.{ℕ, [], ◌∷◌, refl, a_type, dnil, Val, inst_fn, SProp, emp, via, ‵, raw, ◌⊛◌, some, later, ◌$◌, ◌∵◌, !, qed, by, keep, split, fjoin, pick, use0, await, no_more, and_then, returns, enter, alloc_all, pass_all, free_all, look_at, get, sets, agg, fact_i, tables, RattleType, owns, types_at, nothing, param, bounded, Stays, walk_of, proved, token, Token, token_made, ends, basic, logs, top}
 use Rattle.pcache_keeper.proofs.tokens.Keeper.new.Statement.{statement}
 use Rattle.pcache_keeper.proofs.tokens.Keeper.new.Code as code
-use denote.Triple.Entry.{alive}
 
 pub new_spec : {M : Type 1} → statement M
 new_spec 𝓤 𝓛 𝓜 𝓡 wired E _ =

@@ -1,33 +1,13 @@
 -- `see`: what was seen. Assumes `Logic`.
-use Rattle.std.proofs.Common.{◌≡◌, ℕ, List, [], ◌∷◌, refl}
-use mir.Syntax.{a_type, dnil, named}
-use mir.Val.{Val, vptr}
-use mir.MapTy.{inst_fn}
-use base.Logic.{SProp, emp}
-use base.Fml.{ftrue, fsep, flft}
-use types.Kit.{‵, raw, ◌⊛◌, ◌$◌, ◌∵◌, !, qed, by, move, keep, split, join, fsplit, fsplit3, fjoin, fjoin3, use0, use1, feq_i}
-use types.Run.{no_more, and_then, returns, enter}
-use types.ByLocal.{alloc_all, pass_all, free_all, look_at, get, sets}
-use types.Part.{agg}
-use contract.Monad.{fact, fact_i}
-use contract.Running.{tables}
-use denote.RattleType.{RattleType, owns}
-use denote.Signature.{types_at, plain}
-use denote.Ref.{mut_vals, mut_Tells}
-use denote.Steps.{nothing, opens, closes}
-use denote.Param.{param, bounded}
-use denote.Triple.Walked.{Stays, stay_ref, walk_of, Goes-ref}
-use Rattle.atomic_table.proofs.Walks.{proved, leaves}
-use Rattle.logbook.proofs.Fields.{token, Token, token_made}
-use base.Fraction.{full_share}
+use types.Kit.{join}
+use contract.Monad.{fact}
+use Rattle.atomic_table.proofs.Walks.{leaves}
 use types.Growing.{latest_shows}
-use Rattle.std.specs.Prelude.{map}
-use Rattle.logbook.specs.Kept.{logs}
-use Rattle.pcache_keeper.specs.Kept.{top, had}
-use Rattle.pcache_keeper.specs.contracts.tokens.Keeper as Keeper
-use Rattle.pcache_keeper.specs.contracts.tokens.Seen as Seen
 use Rattle.pcache_keeper.specs.contracts.tokens.Keeper.see.{ended, clauses}
 use Rattle.pcache_keeper.specs.contracts.tokens.Keeper.see.Key.{name as #self}
+use Rattle.pcache_keeper.proofs.Words.{◌≡◌, ℕ, List, [], ◌∷◌, refl, a_type, dnil, named, Val, vptr, inst_fn, SProp, emp, ftrue, fsep, flft, ‵, raw, ◌⊛◌, ◌$◌, ◌∵◌, !, qed, by, move, keep, split, fsplit, fsplit3, fjoin, fjoin3, use0, use1, feq_i, no_more, and_then, returns, enter, alloc_all, pass_all, free_all, look_at, get, sets, agg, fact_i, tables, RattleType, owns, types_at, plain, mut_vals, mut_Tells, nothing, opens, closes, param, bounded, Stays, stay_ref, walk_of, Goes-ref, proved, token, Token, token_made, full_share, map, logs, top, had}
+use Rattle.pcache_keeper.specs.contracts.tokens.Keeper as Keeper
+use Rattle.pcache_keeper.specs.contracts.tokens.Seen as Seen
 use Rattle.pcache_keeper.proofs.tokens.Keeper.see.Statement.{statement}
 use Rattle.pcache_keeper.proofs.tokens.Keeper.see.Code as code
 

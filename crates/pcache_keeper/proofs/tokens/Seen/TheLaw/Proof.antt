@@ -1,17 +1,15 @@
 -- A `&` to a `Seen` holds what it knows, which can be had twice. Assumes `Logic`.
 use base.Logic.{snd∗}
 use base.Before.{before}
-use types.Logic.{sem}
-use denote.RattleType.{RattleType}
 use denote.Param.Laws.{Laws}
 use denote.Param.Shared.{copy_shared}
 use denote.Struct.Laws.{field_copy}
 use denote.Struct.Lending.{of_Lends}
+use Rattle.logbook.proofs.Fields.{lends_twice}
+use Rattle.pcache_keeper.proofs.Words.{sem, RattleType, had}
 use Rattle.std.specs.contracts.marker.PhantomData as marker
-use Rattle.pcache_keeper.specs.Kept.{had}
 use Rattle.pcache_keeper.specs.contracts.tokens.Seen as C
 use Rattle.pcache_keeper.proofs.Twice.{had_twice}
-use Rattle.logbook.proofs.Fields.{lends_twice}
 use Rattle.pcache_keeper.proofs.tokens.Seen.TheLaw.Statement.{statement}
 
 pub shares : (E : RattleType) (L : Laws E) → statement E L

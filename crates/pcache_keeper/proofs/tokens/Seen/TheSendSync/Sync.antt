@@ -1,8 +1,8 @@
-use denote.RattleType.{RattleType}
 use denote.Param.Send.{IsSync, sendable}
 use denote.Struct.Struct.{Struct}
 use denote.Struct.Owning.{shape}
 use Rattle.pcache_keeper.specs.contracts.tokens.Seen.{the_row, the_type}
+use Rattle.pcache_keeper.proofs.Words.{RattleType}
 use Rattle.pcache_keeper.proofs.Keyless.{had_keyless}
 
 pub sync : (E : RattleType) → IsSync (the_row E)

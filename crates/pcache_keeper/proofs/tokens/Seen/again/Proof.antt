@@ -1,34 +1,9 @@
 -- `again` copies what is known. Assumes `Logic`.
-use Rattle.std.proofs.Common.{[], ◌∷◌, refl}
-use mir.Syntax.{a_type, dnil, named}
-use mir.Val.{Val, vptr}
-use mir.MapTy.{inst_fn}
-use base.Logic.{SProp, emp}
-use base.Fml.{Fml, ftrue, fsep, flft, fhide}
-use types.Kit.{‵, raw, ◌⊛◌, ◌$◌, ◌∵◌, !, qed, by, move, keep, drop, split, fsplit, fjoin, use0, use1}
-use types.Run.{no_more, and_then, returns, enter}
-use types.ByLocal.{alloc_all, pass_all, free_all, look_at, get, sets}
-use types.Part.{agg}
-use contract.Monad.{fact_i}
-use contract.Running.{tables}
-use denote.Exit.{yes}
-use denote.RattleType.{RattleType, owns}
-use denote.Signature.{types_at, plain}
-use denote.Builtin.{RefOf}
-use denote.Ref.{shr_vals, shr_Tells}
-use denote.Memory.{hidden_shr}
-use denote.Opens.{unhide}
-use denote.Steps.{nothing}
-use denote.Param.{param, bounded}
-use denote.Struct.Lending.{lent_out}
-use denote.Triple.Walked.{Stays, stay_dropped, walk_of, Goes-dropped}
-use Rattle.atomic_table.proofs.Walks.{proved}
-use Rattle.logbook.proofs.Fields.{token, Token, token_made, ends}
-use Rattle.std.specs.contracts.marker.PhantomData as marker
-use Rattle.pcache_keeper.specs.Kept.{had}
-use Rattle.pcache_keeper.specs.contracts.tokens.Seen as Seen
 use Rattle.pcache_keeper.specs.contracts.tokens.Seen.again.{ended, clauses}
 use Rattle.pcache_keeper.specs.contracts.tokens.Seen.again.Key.{name as #self}
+use Rattle.pcache_keeper.proofs.Words.{[], ◌∷◌, refl, a_type, dnil, named, Val, vptr, inst_fn, SProp, emp, Fml, ftrue, fsep, flft, fhide, ‵, raw, ◌⊛◌, ◌$◌, ◌∵◌, !, qed, by, move, keep, drop, split, fsplit, fjoin, use0, use1, no_more, and_then, returns, enter, alloc_all, pass_all, free_all, look_at, get, sets, agg, fact_i, tables, yes, RattleType, owns, types_at, plain, RefOf, shr_vals, shr_Tells, hidden_shr, unhide, nothing, param, bounded, lent_out, Stays, stay_dropped, walk_of, Goes-dropped, proved, token, Token, token_made, ends, had}
+use Rattle.std.specs.contracts.marker.PhantomData as marker
+use Rattle.pcache_keeper.specs.contracts.tokens.Seen as Seen
 use Rattle.pcache_keeper.proofs.tokens.Seen.again.Statement.{statement}
 use Rattle.pcache_keeper.proofs.tokens.Seen.again.Code as code
 

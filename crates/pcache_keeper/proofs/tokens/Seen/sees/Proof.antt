@@ -1,36 +1,11 @@
 -- `sees`: the longer log begins with both. Assumes `Logic`.
-use Rattle.std.proofs.Common.{◌≡◌, ◌⊎◌, ℕ, List, [], ◌∷◌, refl}
-use mir.Syntax.{a_type, dnil, named}
-use mir.Val.{Val, vunit, vptr}
-use mir.MapTy.{inst_fn}
-use base.Logic.{SProp, emp}
-use base.Fml.{Fml, ftrue, fsep, flft, fhide}
-use types.Kit.{‵, raw, ◌⊛◌, some, given, ◌$◌, ◌∵◌, !, qed, by, move, keep, drop, split, fsplit, fsplit3, fjoin, fjoin3, pick, learn, use1, use2, feq_i}
-use types.Run.{unit_lit, of_opd, returns, enter}
-use types.ByLocal.{alloc_all, pass_all, free_all, look_at, sets}
-use contract.Monad.{fact_i}
-use contract.Running.{tables}
-use denote.Exit.{yes}
-use denote.RattleType.{RattleType, owns}
-use denote.Signature.{types_at, plain}
-use denote.Builtin.{RefOf}
-use denote.Ref.{mut_vals, mut_Tells, shr_vals, shr_Tells}
-use denote.Memory.{hidden_shr}
-use denote.Opens.{unhide}
-use denote.Steps.{nothing, opens, closes}
-use denote.Param.{param, bounded}
-use denote.Struct.Lending.{lent_out}
-use denote.Triple.Walked.{Stays, stay_dropped, stay_ref, walk_of, Goes-dropped, Goes-ref}
-use Rattle.atomic_table.proofs.Walks.{proved}
-use Rattle.logbook.proofs.Fields.{Token, ends}
-use Rattle.pcache_keeper.proofs.Meets.{longer}
-use Rattle.pcache_keeper.specs.Kept.{had}
 use Rattle.pcache_keeper.specs.contracts.tokens.Seen.sees.{ended, clauses}
+use Rattle.pcache_keeper.specs.contracts.tokens.Seen.sees.Key.{name as #self}
+use Rattle.pcache_keeper.proofs.Words.{◌≡◌, ◌⊎◌, ℕ, List, [], ◌∷◌, refl, a_type, dnil, named, Val, vunit, vptr, inst_fn, SProp, emp, Fml, ftrue, fsep, flft, fhide, ‵, raw, ◌⊛◌, some, given, ◌$◌, ◌∵◌, !, qed, by, move, keep, drop, split, fsplit, fsplit3, fjoin, fjoin3, pick, learn, use1, use2, feq_i, unit_lit, of_opd, returns, enter, alloc_all, pass_all, free_all, look_at, sets, fact_i, tables, yes, RattleType, owns, types_at, plain, RefOf, mut_vals, mut_Tells, shr_vals, shr_Tells, hidden_shr, unhide, nothing, opens, closes, param, bounded, lent_out, Stays, stay_dropped, stay_ref, walk_of, Goes-dropped, Goes-ref, proved, Token, ends, had, IsPrefix}
+use Rattle.pcache_keeper.proofs.Meets.{longer}
 use Rattle.pcache_keeper.proofs.tokens.Seen.sees.Statement.{statement}
-use mathlib.Core.List.{IsPrefix}
 use Rattle.pcache_keeper.specs.contracts.tokens.Seen as Seen
 use Rattle.pcache_keeper.proofs.tokens.Seen.sees.Code as code
-use Rattle.pcache_keeper.specs.contracts.tokens.Seen.sees.Key.{name as #self}
 use Rattle.std.specs.contracts.marker.PhantomData as marker
 
 pub sees_spec : {M : Type 1} → statement M

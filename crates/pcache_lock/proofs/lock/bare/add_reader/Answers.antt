@@ -1,4 +1,4 @@
-use Rattle.pcache_lock.specs.Permits.{with_reader}
+use Rattle.pcache_lock.proofs.Words.{with_reader}
 use Rattle.pcache_lock.proofs.Changes.{changed_there}
 use Rattle.pcache_lock.proofs.lock.bare.add_reader.Goals as goal
 

@@ -1,4 +1,4 @@
-use Rattle.pcache_lock.specs.Waiting.{aged}
+use Rattle.pcache_lock.proofs.Words.{aged}
 use Rattle.pcache_lock.proofs.Changes.{changed_there}
 use Rattle.pcache_lock.proofs.lock.bare.age.Goals as goal
 

@@ -1,4 +1,4 @@
-use Rattle.pcache_lock.specs.Permits.{without_reader}
+use Rattle.pcache_lock.proofs.Words.{without_reader}
 use Rattle.pcache_lock.proofs.Changes.{changed_there}
 use Rattle.pcache_lock.proofs.lock.bare.forget_reader.Goals as goal
 

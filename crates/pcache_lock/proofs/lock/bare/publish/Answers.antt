@@ -1,5 +1,5 @@
 use Rattle.std.proofs.lemmas.Result.{on_ok_weaker, on_err_weaker}
-use Rattle.pcache_lock.specs.Waiting.{with_publication}
+use Rattle.pcache_lock.proofs.Words.{with_publication}
 use Rattle.pcache_lock.proofs.Changes.{changed_there, same_there}
 use Rattle.pcache_lock.proofs.lock.bare.publish.Goals as goal
 

@@ -1,4 +1,4 @@
-use Rattle.pcache_lock.specs.Permits.{spent}
+use Rattle.pcache_lock.proofs.Words.{spent}
 use Rattle.pcache_lock.proofs.Changes.{changed_there}
 use Rattle.pcache_lock.proofs.lock.bare.spend.Goals as goal
 

@@ -1,4 +1,4 @@
-use Rattle.pcache_lock.specs.Locks.{ended}
+use Rattle.pcache_lock.proofs.Words.{ended}
 use Rattle.pcache_lock.proofs.Changes.{changed_there}
 use Rattle.pcache_lock.proofs.lock.bare.unlock.Goals as goal
 

@@ -1,9 +1,4 @@
-use Rattle.std.proofs.Common.{◌≤◌, ◌∙◌, ◌||◌, ◌&&◌, not, ap, arith, length}
-use Rattle.std.specs.BTreeMap.{is_at}
-use Rattle.std.specs.BTreeSet.{contains}
-use Rattle.std.specs.List.{list_any}
-use Rattle.std.specs.Ordering.{nat_cmp}
-use Rattle.pcache_lock.specs.Published.{is_entry_for}
+use Rattle.pcache_lock.proofs.Words.{◌≤◌, ◌∙◌, ◌||◌, ◌&&◌, not, ap, arith, length, is_at, contains, list_any, nat_cmp, is_entry_for}
 use Rattle.pcache_lock.proofs.Published.{more_in, as_before, whole, none_yet}
 use Rattle.pcache_lock.proofs.lock.publications.mark.Goals as goal
 

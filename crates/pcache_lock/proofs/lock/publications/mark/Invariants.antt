@@ -1,7 +1,4 @@
-use Rattle.std.proofs.Common.{◌≡◌, ◌||◌, ℕ, take}
-use Rattle.std.specs.BTreeSet.{contains}
-use Rattle.std.specs.Ordering.{nat_cmp}
-use Rattle.pcache_lock.specs.Published.{is_entry_for}
+use Rattle.pcache_lock.proofs.Words.{◌≡◌, ◌||◌, ℕ, take, contains, nat_cmp, is_entry_for}
 use Rattle.pcache_lock.proofs.lock.publications.mark.Given as goal
 
 abbrev pub invariant-loop-token : goal.invariant-loop-token

@@ -1,6 +1,4 @@
-use Rattle.std.proofs.Common.{◌≤◌, ◌∙◌, ◌&&◌, not, ap, arith, length}
-use Rattle.std.specs.BTreeSet.{contains}
-use Rattle.std.specs.Ordering.{nat_cmp}
+use Rattle.pcache_lock.proofs.Words.{◌≤◌, ◌∙◌, ◌&&◌, not, ap, arith, length, contains, nat_cmp}
 use Rattle.pcache_lock.proofs.Published.{more_out, whole, all_yet}
 use Rattle.pcache_lock.proofs.lock.publications.unmark.Goals as goal
 

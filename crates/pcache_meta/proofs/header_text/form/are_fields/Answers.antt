@@ -1,5 +1,4 @@
-use Rattle.std.proofs.Common.{◌∙◌, ap, sym}
-use Rattle.std.specs.Prelude.{bytes_eq}
+use Rattle.pcache_meta.proofs.Words.{◌∙◌, ap, sym, bytes_eq}
 use Rattle.pcache_meta.proofs.HeaderForm.{first_line, no_lines, fields_on, fields_end}
 use Rattle.pcache_meta.proofs.Refusals.{Fails-none}
 use Rattle.pcache_meta.proofs.header_text.form.are_fields.Goals as goal

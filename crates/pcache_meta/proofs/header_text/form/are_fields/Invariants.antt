@@ -1,5 +1,5 @@
-use Rattle.std.proofs.Common.{◌≡◌, length}
 use Rattle.pcache_meta.specs.HeaderForm.{are_fields}
+use Rattle.pcache_meta.proofs.Words.{◌≡◌, length}
 use Rattle.pcache_meta.proofs.header_text.form.are_fields.Given as goal
 
 abbrev pub invariant-lines : goal.invariant-lines

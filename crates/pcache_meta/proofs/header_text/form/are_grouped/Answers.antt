@@ -1,5 +1,6 @@
-use Rattle.std.proofs.Common.{◌∙◌, ◌-◌, ℕ, List, Bor, ap, sym, refl, arith, map, take}
+use Rattle.std.proofs.Common.{Bor}
 use Rattle.pcache_meta.specs.HeaderForm.{lines_at}
+use Rattle.pcache_meta.proofs.Words.{◌∙◌, ◌-◌, ℕ, List, ap, sym, refl, arith, map, take}
 use Rattle.pcache_meta.proofs.HeaderForm.{first_line, no_lines, grouped_with, with_none, group_on, group_full, group_again, group_met, group_new, group_end, names_missed, taken_more}
 use Rattle.pcache_meta.proofs.Refusals.{Fails-none}
 use Rattle.pcache_meta.proofs.header_text.form.are_grouped.Goals as goal

@@ -1,5 +1,5 @@
-use Rattle.std.proofs.Common.{◌≡◌, ◌≤◌, length, map, take}
-use Rattle.pcache_meta.specs.HeaderForm.{are_grouped, lines_at}
+use Rattle.pcache_meta.specs.HeaderForm.{lines_at}
+use Rattle.pcache_meta.proofs.Words.{◌≡◌, ◌≤◌, length, map, take, are_grouped}
 use Rattle.pcache_meta.proofs.HeaderForm.{grouped_with}
 use Rattle.pcache_meta.proofs.header_text.form.are_grouped.Given as goal
 

@@ -1,4 +1,4 @@
-use Rattle.std.proofs.Common.{◌∙◌, sym, map}
+use Rattle.pcache_meta.proofs.Words.{◌∙◌, sym, map}
 use Rattle.pcache_meta.proofs.HeaderForm.{first_line, no_lines, any_found, any_on, any_none}
 use Rattle.pcache_meta.proofs.Refusals.{Fails-none}
 use Rattle.pcache_meta.proofs.header_text.form.has_any.Goals as goal

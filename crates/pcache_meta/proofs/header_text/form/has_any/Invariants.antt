@@ -1,5 +1,5 @@
-use Rattle.std.proofs.Common.{◌≡◌, length, map}
-use Rattle.pcache_meta.specs.HeaderForm.{has_any, lines_at}
+use Rattle.pcache_meta.specs.HeaderForm.{lines_at}
+use Rattle.pcache_meta.proofs.Words.{◌≡◌, length, map, has_any}
 use Rattle.pcache_meta.proofs.header_text.form.has_any.Given as goal
 
 abbrev pub invariant-lines : goal.invariant-lines

@@ -1,5 +1,4 @@
-use Rattle.std.proofs.Common.{◌≡◌, drop, map}
-use Rattle.pcache_meta.specs.HeaderForm.{is_among}
+use Rattle.pcache_meta.proofs.Words.{◌≡◌, drop, map, is_among}
 use Rattle.pcache_meta.proofs.header_text.form.is_among.Given as goal
 
 abbrev pub invariant-names : goal.invariant-names

@@ -1,4 +1,4 @@
-use Rattle.std.proofs.Common.{arith}
+use Rattle.pcache_meta.proofs.Words.{arith}
 use Rattle.pcache_meta.proofs.HeaderForm.{no_text, no_status, told_by_lines}
 use Rattle.pcache_meta.proofs.Refusals.{Fails-none}
 use Rattle.pcache_meta.proofs.header_text.form.is_header_text.Goals as goal

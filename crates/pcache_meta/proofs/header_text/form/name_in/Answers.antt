@@ -1,4 +1,4 @@
-use Rattle.std.proofs.Common.{refl}
+use Rattle.pcache_meta.proofs.Words.{refl}
 use Rattle.pcache_meta.proofs.HeaderNames.{name_at-some, name_at-none}
 use Rattle.pcache_meta.proofs.header_text.form.name_in.Goals as goal
 

@@ -1,5 +1,4 @@
-use Rattle.std.proofs.Common.{◌∙◌, ap, sym}
-use Rattle.pcache_meta.specs.HeaderForm.{starts_with_name}
+use Rattle.pcache_meta.proofs.Words.{◌∙◌, ap, sym, starts_with_name}
 use Rattle.pcache_meta.proofs.HeaderForm.{first_line, no_lines, first_has}
 use Rattle.pcache_meta.proofs.Refusals.{Fails-none}
 use Rattle.pcache_meta.proofs.header_text.form.starts_with_name.Goals as goal

@@ -1,4 +1,4 @@
-use Rattle.std.proofs.Common.{refl}
+use Rattle.pcache_meta.proofs.Words.{refl}
 use Rattle.pcache_meta.proofs.HeaderNames.{value_at-some, value_at-none}
 use Rattle.pcache_meta.proofs.header_text.form.value_in.Goals as goal
 

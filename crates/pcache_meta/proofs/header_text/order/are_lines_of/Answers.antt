@@ -1,6 +1,5 @@
-use Rattle.std.proofs.Common.{◌∙◌, ap, sym}
-use Rattle.std.specs.Prelude.{bytes_eq}
-use Rattle.pcache_meta.specs.HeaderText.{fields_text, shown_lines}
+use Rattle.pcache_meta.specs.HeaderText.{fields_text}
+use Rattle.pcache_meta.proofs.Words.{◌∙◌, ap, sym, bytes_eq, shown_lines}
 use Rattle.pcache_meta.proofs.HeaderSpelled.{pairs-shown}
 use Rattle.pcache_meta.proofs.HeaderOrder.{line_seen, line_unlike, lines_ended}
 use Rattle.pcache_meta.proofs.header_text.order.are_lines_of.Goals as goal

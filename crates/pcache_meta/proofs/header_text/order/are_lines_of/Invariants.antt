@@ -1,8 +1,5 @@
-use Rattle.std.proofs.Common.{◌≡◌}
-use Rattle.std.specs.Prelude.{bytes_eq}
-use Rattle.http_header.specs.HeaderMap.{pairs}
-use Rattle.pcache_meta.specs.Header.{shown_fields}
-use Rattle.pcache_meta.specs.HeaderText.{fields_text, shown_lines}
+use Rattle.pcache_meta.specs.HeaderText.{fields_text}
+use Rattle.pcache_meta.proofs.Words.{◌≡◌, bytes_eq, pairs, shown_fields, shown_lines}
 use Rattle.pcache_meta.proofs.header_text.order.are_lines_of.Given as goal
 
 abbrev pub invariant-fields : goal.invariant-fields

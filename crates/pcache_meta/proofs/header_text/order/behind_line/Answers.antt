@@ -1,4 +1,4 @@
-use Rattle.std.proofs.Common.{◌++◌, ◌∙◌, ap, sym}
+use Rattle.pcache_meta.proofs.Words.{◌++◌, ◌∙◌, ap, sym}
 use Rattle.pcache_meta.proofs.HeaderOrder.{line_there, no_name, no_colon, no_value, no_end}
 use Rattle.pcache_meta.proofs.header_text.order.behind_line.Goals as goal
 

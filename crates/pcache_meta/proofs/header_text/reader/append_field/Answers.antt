@@ -1,4 +1,4 @@
-use Rattle.std.proofs.Common.{refl}
+use Rattle.pcache_meta.proofs.Words.{refl}
 use Rattle.pcache_meta.proofs.HeaderMaps.{append_at-some, append_at-none}
 use Rattle.pcache_meta.proofs.header_text.reader.append_field.Goals as goal
 

@@ -1,4 +1,4 @@
-use Rattle.std.proofs.Common.{length}
+use Rattle.pcache_meta.proofs.Words.{length}
 use Rattle.pcache_meta.proofs.HeaderScan.{stays}
 use Rattle.pcache_meta.proofs.header_text.reader.before_return.Goals as goal
 

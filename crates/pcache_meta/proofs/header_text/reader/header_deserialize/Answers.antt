@@ -1,5 +1,4 @@
-use Rattle.std.proofs.Common.{◌∙◌}
-use Rattle.pcache_meta.specs.Header.{shown}
+use Rattle.pcache_meta.proofs.Words.{◌∙◌, shown}
 use Rattle.pcache_meta.proofs.HeaderResults.{read_found, read_same, refused_for_form}
 use Rattle.pcache_meta.proofs.header_text.reader.header_deserialize.Goals as goal
 use Rattle.pcache_meta.proofs.header_text.reader.header_deserialize.Goals.{else-eq-via-then-eq+else-is_header_text, else-eq-via-else-eq}

@@ -1,4 +1,4 @@
-use Rattle.pcache_meta.specs.Header.{shown}
+use Rattle.pcache_meta.proofs.Words.{shown}
 use Rattle.pcache_meta.proofs.HeaderResults.{kept_ok, kept_kind}
 use Rattle.pcache_meta.proofs.header_text.reader.header_kept.Goals as goal
 

@@ -1,4 +1,4 @@
-use Rattle.std.proofs.Common.{refl, sym, ◌∙◌}
+use Rattle.pcache_meta.proofs.Words.{refl, sym, ◌∙◌}
 use Rattle.pcache_meta.proofs.HeaderNames.{name_at-none, name_at-some}
 use Rattle.pcache_meta.proofs.header_text.reader.name_of.Goals as goal
 

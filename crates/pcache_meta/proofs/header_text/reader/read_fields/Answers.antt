@@ -1,7 +1,5 @@
-use Rattle.std.proofs.Common.{ℕ, ◌+◌, List, [], length, sym, ap, ◌∙◌, arith, length-drop}
-use Rattle.std.proofs.lemmas.Result.{err_from_is_err_and}
-use Rattle.pcache_meta.specs.Header.{shown_fields}
 use Rattle.pcache_meta.specs.HeaderReading.{fields_at}
+use Rattle.pcache_meta.proofs.Words.{ℕ, ◌+◌, List, [], length, sym, ap, ◌∙◌, arith, length-drop, err_from_is_err_and, shown_fields}
 use Rattle.pcache_meta.proofs.HeaderLines.{no_line, no_field, no_room, goes_on, done, trailing}
 use Rattle.pcache_meta.proofs.HeaderCuts.{line_end_within, behind_line}
 use Rattle.pcache_meta.proofs.header_text.reader.read_fields.Goals as goal

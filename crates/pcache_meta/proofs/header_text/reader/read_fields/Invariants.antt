@@ -1,6 +1,5 @@
-use Rattle.std.proofs.Common.{◌≡◌, [], length}
-use Rattle.pcache_meta.specs.Header.{shown_fields}
 use Rattle.pcache_meta.specs.HeaderReading.{fields_at}
+use Rattle.pcache_meta.proofs.Words.{◌≡◌, [], length, shown_fields}
 use Rattle.pcache_meta.proofs.header_text.reader.read_fields.Given as goal
 
 abbrev pub invariant-lines : goal.invariant-lines

@@ -1,5 +1,5 @@
-use Rattle.std.proofs.Common.{◌∙◌, ◌+◌, sym, drop, take, length-drop, arith}
 use Rattle.std.proofs.lemmas.List.{take_rest}
+use Rattle.pcache_meta.proofs.Words.{◌∙◌, ◌+◌, sym, drop, take, length-drop, arith}
 use Rattle.pcache_meta.proofs.HeaderLines.{line_from_short}
 use Rattle.pcache_meta.proofs.HeaderScan.{stays_on, past}
 use Rattle.pcache_meta.proofs.header_text.reader.split_line.Goals as goal

@@ -1,5 +1,4 @@
-use Rattle.std.proofs.Common.{◌≡◌, ◌≤◌, ◌-◌, [], drop, take, length}
-use Rattle.pcache_meta.specs.HeaderReading.{line_from}
+use Rattle.pcache_meta.proofs.Words.{◌≡◌, ◌≤◌, ◌-◌, [], drop, take, length, line_from}
 use Rattle.pcache_meta.proofs.header_text.reader.split_line.Given as goal
 
 abbrev pub invariant-bytes : goal.invariant-bytes

@@ -1,5 +1,4 @@
-use Rattle.std.proofs.Common.{◌≡◌, [], drop, take}
-use Rattle.pcache_meta.specs.HeaderReading.{name_from}
+use Rattle.pcache_meta.proofs.Words.{◌≡◌, [], drop, take, name_from}
 use Rattle.pcache_meta.proofs.header_text.reader.split_name.Given as goal
 
 abbrev pub invariant-bytes : goal.invariant-bytes

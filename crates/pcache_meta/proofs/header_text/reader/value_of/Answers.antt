@@ -1,5 +1,4 @@
-use Rattle.std.proofs.Common.{ap}
-use Rattle.http_header.specs.FieldValue.{FieldValue}
+use Rattle.pcache_meta.proofs.Words.{ap, FieldValue}
 use Rattle.pcache_meta.proofs.HeaderNames.{value_at-some, value_at-none}
 use Rattle.pcache_meta.proofs.header_text.reader.value_of.Goals as goal
 

@@ -1,7 +1,5 @@
-use Rattle.std.specs.List.{flat_map}
-use Rattle.http_header.specs.HeaderMap.{pairs}
-use Rattle.std.proofs.Common.{◌++◌}
-use Rattle.pcache_meta.specs.HeaderText.{field_line, shown_lines}
+use Rattle.pcache_meta.specs.HeaderText.{field_line}
+use Rattle.pcache_meta.proofs.Words.{flat_map, pairs, ◌++◌, shown_lines}
 use Rattle.pcache_meta.proofs.HeaderSpelled.{line_more, valid_more}
 use Rattle.pcache_meta.proofs.header_text.writer.put_fields.Goals as goal
 

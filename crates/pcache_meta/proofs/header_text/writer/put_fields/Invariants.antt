@@ -1,8 +1,5 @@
-use Rattle.std.proofs.Common.{◌≡◌, ◌++◌}
-use Rattle.std.specs.Prelude.{All}
-use Rattle.std.specs.List.{flat_map}
-use Rattle.http_header.specs.HeaderMap.{pairs}
-use Rattle.pcache_meta.specs.HeaderText.{IsField, field_line, shown_lines}
+use Rattle.pcache_meta.specs.HeaderText.{field_line}
+use Rattle.pcache_meta.proofs.Words.{◌≡◌, ◌++◌, All, flat_map, pairs, IsField, shown_lines}
 use Rattle.pcache_meta.proofs.header_text.writer.put_fields.Given as goal
 
 abbrev pub invariant-fields : goal.invariant-fields

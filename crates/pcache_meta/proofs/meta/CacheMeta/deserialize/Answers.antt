@@ -1,6 +1,4 @@
-use Rattle.std.proofs.lemmas.Result.{err_from_is_err_and}
-use Rattle.pcache_meta.specs.Header.{shown}
-use Rattle.pcache_base.specs.declared.error.ErrorType.TheVariants.{InternalError}
+use Rattle.pcache_meta.proofs.Words.{err_from_is_err_and, shown, InternalError}
 use Rattle.pcache_meta.proofs.MetaMade.{meta_made}
 use Rattle.pcache_meta.proofs.Refusals.{same_error}
 use Rattle.pcache_meta.proofs.meta.CacheMeta.deserialize.Goals as goal

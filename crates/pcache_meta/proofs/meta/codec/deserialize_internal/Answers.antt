@@ -1,4 +1,4 @@
-use Rattle.std.proofs.Common.{arith}
+use Rattle.pcache_meta.proofs.Words.{arith}
 use Rattle.pcache_meta.proofs.MetaExact.{read_found, read_same, read_refused, read_kind}
 use Rattle.pcache_meta.proofs.meta.codec.deserialize_internal.Goals as goal
 

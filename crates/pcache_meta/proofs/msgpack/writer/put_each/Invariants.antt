@@ -1,6 +1,5 @@
-use Rattle.std.proofs.Common.{◌≡◌, ◌++◌, take}
-use Rattle.std.specs.List.{flat_map}
 use Rattle.pcache_meta.specs.Writing.{array_written, number_written}
+use Rattle.pcache_meta.proofs.Words.{◌≡◌, ◌++◌, take, flat_map}
 use Rattle.pcache_meta.proofs.msgpack.writer.put_each.Given as goal
 
 abbrev pub invariant-each : goal.invariant-each

@@ -1,5 +1,5 @@
-use Rattle.std.proofs.Common.{◌<◌, ◌≡◌, refl, arith}
 use Rattle.pcache_policies.specs.Fifos.{ends, returns, goes}
+use Rattle.pcache_policies.proofs.Words.{◌<◌, ◌≡◌, refl, arith}
 use Rattle.pcache_policies.proofs.Queues.{last_none}
 use Rattle.pcache_policies.proofs.Rings.{none_of}
 use Rattle.pcache_policies.proofs.fifos.Fifos.look_at_main.Goals as goal

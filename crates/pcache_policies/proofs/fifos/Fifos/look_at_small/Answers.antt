@@ -1,6 +1,5 @@
-use Rattle.std.proofs.Common.{◌≡◌, ◌≤◌, ◌<◌, ◌∙◌, refl, ap, arith}
-use Rattle.pcache_policies.specs.S3Fifo.{ghosted}
 use Rattle.pcache_policies.specs.Fifos.{moves, leaves}
+use Rattle.pcache_policies.proofs.Words.{◌≡◌, ◌≤◌, ◌<◌, ◌∙◌, refl, ap, arith, ghosted}
 use Rattle.pcache_policies.proofs.Queues.{last_none}
 use Rattle.pcache_policies.proofs.Rings.{none_of}
 use Rattle.pcache_policies.proofs.fifos.Fifos.look_at_small.Goals as goal

@@ -1,7 +1,5 @@
-use Rattle.std.proofs.Common.{◌≡◌, true, false, refl, subst}
-use Rattle.pcache_evict.specs.declared.eviction.policy.EvictionPolicy.TheVariants.{S3Fifo}
-use Rattle.pcache_evict.specs.Tracked.{limits_of}
 use Rattle.pcache_policies.specs.Fifos.{Steps}
+use Rattle.pcache_policies.proofs.Words.{◌≡◌, true, false, refl, subst, S3Fifo, limits_of}
 use Rattle.pcache_policies.proofs.FifoSteps.{far-none, far-more, far-done, far-ends, smaller}
 use Rattle.pcache_policies.proofs.fifos.Fifos.make_room.Goals as goal
 

@@ -1,6 +1,5 @@
-use Rattle.pcache_evict.specs.declared.eviction.policy.EvictionPolicy.TheVariants.{S3Fifo}
-use Rattle.pcache_evict.specs.Tracked.{limits_of}
 use Rattle.pcache_policies.specs.Fifos.{steps_of}
+use Rattle.pcache_policies.proofs.Words.{S3Fifo, limits_of}
 use Rattle.pcache_policies.proofs.FifoSteps.{Far}
 use Rattle.pcache_policies.proofs.fifos.Fifos.make_room.Given as goal
 

@@ -1,5 +1,5 @@
-use Rattle.std.proofs.Common.{refl}
 use Rattle.pcache_policies.specs.Fifos.{small, main}
+use Rattle.pcache_policies.proofs.Words.{refl}
 use Rattle.pcache_policies.proofs.fifos.Fifos.step.Goals as goal
 
 pub look_at_small-requires : goal.look_at_small-requires

@@ -1,6 +1,5 @@
-use Rattle.std.proofs.Common.{◌∙◌, ap}
-use Rattle.pcache_evict.specs.Listed.{map_of}
 use Rattle.pcache_policies.specs.Sieve.{Sieve, entries}
+use Rattle.pcache_policies.proofs.Words.{◌∙◌, ap, map_of}
 use Rattle.pcache_policies.proofs.Seens.{whole_weight}
 use Rattle.pcache_policies.proofs.fifos.FifosDiscipline.choose.Goals as goal
 

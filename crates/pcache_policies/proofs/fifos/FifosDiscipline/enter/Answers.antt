@@ -1,8 +1,5 @@
-use Rattle.std.proofs.Common.{◌∷◌, ◌∙◌, ap, sym}
-use Rattle.pcache_policies.specs.Queue.{unused}
-use Rattle.pcache_policies.specs.Ring.{Ring}
-use Rattle.pcache_policies.specs.S3Fifo.{fifos}
 use Rattle.pcache_policies.specs.Fifos.{left_of}
+use Rattle.pcache_policies.proofs.Words.{◌∷◌, ◌∙◌, ap, sym, unused, Ring, fifos}
 use Rattle.pcache_policies.proofs.FifoLaws.{entered-ghost, entered-new}
 use Rattle.pcache_policies.proofs.fifos.FifosDiscipline.enter.Goals as goal
 

@@ -1,4 +1,4 @@
-use Rattle.pcache_evict.specs.declared.eviction.policy.EvictionPolicy.TheVariants.{S3Fifo}
+use Rattle.pcache_policies.proofs.Words.{S3Fifo}
 use Rattle.pcache_policies.proofs.fifos.FifosDiscipline.has_room.Goals as goal
 
 pub returns-clause-room : goal.returns-clause-room

@@ -1,7 +1,4 @@
-use Rattle.std.proofs.Common.{◌∙◌, ap}
-use Rattle.std.specs.Map.{keys_of}
-use Rattle.pcache_policies.specs.Queue.{Queue}
-use Rattle.pcache_policies.specs.S3Fifo.{forgotten}
+use Rattle.pcache_policies.proofs.Words.{◌∙◌, ap, keys_of, Queue, forgotten}
 use Rattle.pcache_policies.proofs.GhostKeys.{keys-rest}
 use Rattle.pcache_policies.proofs.ghosts.Ghosts.forget.Goals as goal
 

@@ -1,5 +1,4 @@
-use Rattle.std.proofs.Common.{◌∙◌, ap, is_some}
-use Rattle.pcache_policies.specs.S3Fifo.{is_ghost}
+use Rattle.pcache_policies.proofs.Words.{◌∙◌, ap, is_some, is_ghost}
 use Rattle.pcache_policies.proofs.GhostKeys.{is_key}
 use Rattle.pcache_policies.proofs.ghosts.Ghosts.has.Goals as goal
 

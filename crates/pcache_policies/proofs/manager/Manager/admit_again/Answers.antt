@@ -1,8 +1,4 @@
-use Rattle.std.proofs.Common.{sym, subst}
-use Rattle.std.specs.Prelude.{IsSome}
-use Rattle.std.proofs.lemmas.Result.{IfOk-weaker, on_err_weaker}
-use Rattle.pcache_policies.specs.Queue.{seen_of}
-use Rattle.pcache_policies.specs.Managed.{Managed, KeepsLimits}
+use Rattle.pcache_policies.proofs.Words.{sym, subst, IsSome, IfOk-weaker, on_err_weaker, seen_of, Managed, KeepsLimits}
 use Rattle.pcache_policies.proofs.Managed.{keeps-from, readmitted-back, readmitted_there}
 use Rattle.pcache_policies.proofs.manager.Manager.admit_again.Goals as goal
 

@@ -1,7 +1,4 @@
-use Rattle.std.proofs.Common.{◌∙◌, subst, ap, refl}
-use Rattle.pcache_evict.specs.Tracked.{limits_of}
-use Rattle.pcache_policies.specs.Queue.{seen_of}
-use Rattle.pcache_policies.specs.Managed.{Admits, Managed}
+use Rattle.pcache_policies.proofs.Words.{◌∙◌, subst, ap, refl, limits_of, seen_of, Admits, Managed}
 use Rattle.pcache_policies.proofs.Managed.{absent_still, admits-in, admits-out, state}
 use Rattle.pcache_policies.proofs.manager.Manager.admit_new.Goals as goal
 

@@ -1,7 +1,4 @@
-use Rattle.std.proofs.Common.{sym, subst, refl}
-use Rattle.pcache_evict.specs.Tracked.{limits_of}
-use Rattle.pcache_evict.specs.Recency.{IsWithinAsList}
-use Rattle.pcache_policies.specs.Managed.{KeepsLimits, Managed, entries_in}
+use Rattle.pcache_policies.proofs.Words.{sym, subst, refl, limits_of, IsWithinAsList, KeepsLimits, Managed, entries_in}
 use Rattle.pcache_policies.proofs.Managed.{keeps-in, keeps-still, state}
 use Rattle.pcache_policies.proofs.manager.Manager.keep_limits.Goals as goal
 

@@ -1,9 +1,4 @@
-use Rattle.std.proofs.Common.{sym, subst}
-use Rattle.std.specs.Prelude.{IsSome}
-use Rattle.std.proofs.lemmas.Result.{IfOk-weaker, on_err_weaker}
-use Rattle.pcache_evict.specs.Recency.{IsWithinAsList}
-use Rattle.pcache_policies.specs.Queue.{seen_of}
-use Rattle.pcache_policies.specs.Managed.{Managed, KeepsLimits, entries_in}
+use Rattle.pcache_policies.proofs.Words.{sym, subst, IsSome, IfOk-weaker, on_err_weaker, IsWithinAsList, seen_of, Managed, KeepsLimits, entries_in}
 use Rattle.pcache_policies.proofs.Managed.{keeps-from, reseen-back, reseen_there}
 use Rattle.pcache_policies.proofs.manager.Manager.reweigh.Goals as goal
 

@@ -1,7 +1,4 @@
-use Rattle.std.proofs.Common.{◌∙◌, ap, refl}
-use Rattle.pcache_evict.specs.Listed.{map_of}
-use Rattle.pcache_policies.specs.Queue.{seen_of}
-use Rattle.pcache_policies.specs.Managed.{entries_in}
+use Rattle.pcache_policies.proofs.Words.{◌∙◌, ap, refl, map_of, seen_of, entries_in}
 use Rattle.pcache_policies.proofs.Managed.{map-accessed}
 use Rattle.pcache_policies.proofs.Seens.{there-list}
 use Rattle.pcache_policies.proofs.manager.ManagerEvictionManager.access.Goals as goal

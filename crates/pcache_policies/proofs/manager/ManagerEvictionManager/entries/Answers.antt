@@ -1,7 +1,5 @@
-use Rattle.std.proofs.Common.{sym, subst}
 use Rattle.std.specs.List.{IsDistinct}
-use Rattle.std.specs.Map.{keys_of}
-use Rattle.pcache_evict.specs.Entry.{entry_eq}
+use Rattle.pcache_policies.proofs.Words.{sym, subst, keys_of, entry_eq}
 use Rattle.pcache_policies.proofs.Queues.{once-plain}
 use Rattle.pcache_policies.proofs.manager.ManagerEvictionManager.entries.Goals as goal
 

@@ -1,4 +1,4 @@
-use Rattle.std.proofs.Common.{◌∙◌}
+use Rattle.pcache_policies.proofs.Words.{◌∙◌}
 use Rattle.pcache_policies.proofs.Seens.{there-list}
 use Rattle.pcache_policies.proofs.manager.ManagerEvictionManager.peek.Goals as goal
 

@@ -1,6 +1,4 @@
-use Rattle.std.proofs.Common.{refl, ◌∙◌, ap}
-use Rattle.pcache_evict.specs.Listed.{map_of}
-use Rattle.pcache_policies.specs.Managed.{entries_in}
+use Rattle.pcache_policies.proofs.Words.{refl, ◌∙◌, ap, map_of, entries_in}
 use Rattle.pcache_policies.proofs.Managed.{map-removed}
 use Rattle.pcache_policies.proofs.manager.ManagerEvictionManager.remove.Goals as goal
 

@@ -1,6 +1,5 @@
-use Rattle.std.proofs.Common.{◌∙◌, sym}
 use Rattle.pcache_evict.proofs.Maps.{len-map_of}
-use Rattle.pcache_policies.specs.Managed.{entries_in}
+use Rattle.pcache_policies.proofs.Words.{◌∙◌, sym, entries_in}
 use Rattle.pcache_policies.proofs.Queues.{once-plain, length-plain}
 use Rattle.pcache_policies.proofs.manager.ManagerEvictionManager.total_items.Goals as goal
 

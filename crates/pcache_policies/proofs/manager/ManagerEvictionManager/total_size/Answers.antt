@@ -1,6 +1,4 @@
-use Rattle.std.proofs.Common.{◌∙◌, sym, ap, min, ◌^◌, ◌-◌}
-use Rattle.pcache_evict.proofs.Maps.{weight-map_of}
-use Rattle.pcache_policies.specs.Managed.{entries_in}
+use Rattle.pcache_policies.proofs.Words.{◌∙◌, sym, ap, min, ◌^◌, ◌-◌, weight-map_of, entries_in}
 use Rattle.pcache_policies.proofs.Queues.{once-plain}
 use Rattle.pcache_policies.proofs.manager.ManagerEvictionManager.total_size.Goals as goal
 

@@ -1,11 +1,7 @@
-use Rattle.std.specs.Prelude.{◌≡◌, ◌+◌}
-use Rattle.std.proofs.lemmas.Result.{IfOk-weaker}
-use Rattle.pcache_evict.specs.Tracked.{limits_of}
-use Rattle.pcache_evict.specs.Recency.{weight}
-use Rattle.pcache_policies.specs.Queue.{plain}
-use Rattle.pcache_policies.specs.Sieve as hand
 use Rattle.pcache_policies.specs.OneQueue.{MakesRoom}
-use Rattle.pcache_policies.specs.Ring.{chosen, in_turn, left_of, shown}
+use Rattle.pcache_policies.specs.Ring.{left_of, shown}
+use Rattle.pcache_policies.proofs.Words.{◌≡◌, ◌+◌, IfOk-weaker, limits_of, weight, plain, chosen, in_turn}
+use Rattle.pcache_policies.specs.Sieve as hand
 use Rattle.pcache_policies.proofs.InTurn.{rooms, weight_turn, map_turn}
 use Rattle.pcache_policies.proofs.one_queue.TurnsDiscipline.choose.Goals as goal
 

@@ -1,4 +1,4 @@
-use Rattle.std.proofs.Common.{◌++◌}
+use Rattle.pcache_policies.proofs.Words.{◌++◌}
 use Rattle.pcache_policies.proofs.InTurn.{absent_swap}
 use Rattle.pcache_policies.proofs.one_queue.TurnsDiscipline.enter.Goals as goal
 

@@ -1,4 +1,4 @@
-use Rattle.std.proofs.Common.{◌∙◌}
+use Rattle.pcache_policies.proofs.Words.{◌∙◌}
 use Rattle.pcache_policies.proofs.InTurn.{once_turn, found_turn}
 use Rattle.pcache_policies.proofs.one_queue.TurnsDiscipline.get.Goals as goal
 

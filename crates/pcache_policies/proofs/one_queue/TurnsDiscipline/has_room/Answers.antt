@@ -1,4 +1,4 @@
-use Rattle.pcache_evict.specs.Tracked.{limits_of}
+use Rattle.pcache_policies.proofs.Words.{limits_of}
 use Rattle.pcache_policies.proofs.InTurn.{room_swap}
 use Rattle.pcache_policies.proofs.one_queue.TurnsDiscipline.has_room.Goals as goal
 

@@ -1,5 +1,4 @@
-use Rattle.std.proofs.Common.{refl}
-use Rattle.pcache_policies.specs.Queue.{seen_of}
+use Rattle.pcache_policies.proofs.Words.{refl, seen_of}
 use Rattle.pcache_policies.proofs.Managed.{admission, admitted}
 use Rattle.pcache_policies.proofs.ordered.ManagerOrderedManager.admit_in_order.Goals as goal
 

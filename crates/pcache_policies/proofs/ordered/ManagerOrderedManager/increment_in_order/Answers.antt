@@ -1,5 +1,4 @@
-use Rattle.std.proofs.Common.{refl, ◌∙◌}
-use Rattle.pcache_policies.specs.Queue.{seen_of}
+use Rattle.pcache_policies.proofs.Words.{refl, ◌∙◌, seen_of}
 use Rattle.pcache_policies.proofs.Managed.{increment, incremented-in, within-raised}
 use Rattle.pcache_policies.proofs.Seens.{there-list, some_seen}
 use Rattle.pcache_policies.proofs.ordered.ManagerOrderedManager.increment_in_order.Goals as goal

@@ -1,6 +1,4 @@
-use Rattle.std.proofs.Common.{◌∙◌, ap}
-use Rattle.pcache_evict.specs.Listed.{map_of}
-use Rattle.pcache_policies.specs.Managed.{entries_in}
+use Rattle.pcache_policies.proofs.Words.{◌∙◌, ap, map_of, entries_in}
 use Rattle.pcache_policies.proofs.Managed.{map-removed}
 use Rattle.pcache_policies.proofs.ordered.ManagerOrderedManager.remove_in_order.Goals as goal
 

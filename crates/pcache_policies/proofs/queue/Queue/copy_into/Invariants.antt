@@ -1,5 +1,4 @@
-use Rattle.std.proofs.Common.{◌≡◌, ◌++◌}
-use Rattle.pcache_policies.specs.Queue.{plain}
+use Rattle.pcache_policies.proofs.Words.{◌≡◌, ◌++◌, plain}
 use Rattle.pcache_policies.proofs.queue.Queue.copy_into.Given as goal
 
 abbrev pub invariant-loop-key : goal.invariant-loop-key

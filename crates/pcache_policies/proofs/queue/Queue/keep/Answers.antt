@@ -1,4 +1,4 @@
-use Rattle.std.proofs.Common.{◌<◌, ◌∙◌, length, arith}
+use Rattle.pcache_policies.proofs.Words.{◌<◌, ◌∙◌, length, arith}
 use Rattle.pcache_policies.proofs.Queues.{keep-step}
 use Rattle.pcache_policies.proofs.queue.Queue.keep.Goals as goal
 

@@ -1,4 +1,4 @@
-use Rattle.std.proofs.Common.{◌≡◌, take, length}
+use Rattle.pcache_policies.proofs.Words.{◌≡◌, take, length}
 use Rattle.pcache_policies.proofs.queue.Queue.keep.Given as goal
 
 abbrev pub invariant-loop-self : goal.invariant-loop-self

@@ -1,4 +1,4 @@
-use Rattle.std.proofs.Common.{◌∙◌, sym}
+use Rattle.pcache_policies.proofs.Words.{◌∙◌, sym}
 use Rattle.pcache_policies.proofs.Queues.{kept-popped}
 use Rattle.pcache_policies.proofs.queue.Queue.pop.Goals as goal
 

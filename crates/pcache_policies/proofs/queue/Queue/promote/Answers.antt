@@ -1,8 +1,4 @@
-use Rattle.std.proofs.Common.{◌≡◌, ◌∷◌, ◌∙◌, Some, arith, sym, subst, ap}
-use Rattle.lru.specs.LruCache.{LruCache}
-use Rattle.pcache_evict.specs.declared.eviction.entry_key.CacheEntryKey.{CacheEntryKey}
-use Rattle.pcache_policies.specs.declared.queue.Seen.{Seen}
-use Rattle.pcache_policies.specs.Queue.{seen_of, rest_of}
+use Rattle.pcache_policies.proofs.Words.{◌≡◌, ◌∷◌, ◌∙◌, Some, arith, sym, subst, ap, LruCache, CacheEntryKey, Seen, seen_of, rest_of}
 use Rattle.pcache_policies.proofs.Queues.{kept-promoted, promoted-first}
 use Rattle.pcache_policies.proofs.queue.Queue.promote.Goals as goal
 

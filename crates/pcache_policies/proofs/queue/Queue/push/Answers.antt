@@ -1,5 +1,4 @@
-use Rattle.std.proofs.Common.{◌≡◌, ◌∙◌, None, ap, subst, sym, arith, ◌∷◌}
-use Rattle.pcache_policies.specs.Queue.{seen_of}
+use Rattle.pcache_policies.proofs.Words.{◌≡◌, ◌∙◌, None, ap, subst, sym, arith, ◌∷◌, seen_of}
 use Rattle.pcache_policies.proofs.Queues.{kept-pushed, kept_bound}
 use Rattle.pcache_policies.proofs.queue.Queue.push.Goals as goal
 

@@ -1,5 +1,4 @@
-use Rattle.std.proofs.Common.{◌∙◌, ap, arith, subst, ◌-◌, ◌≡◌}
-use Rattle.pcache_policies.specs.Queue.{rest_of, IsKept}
+use Rattle.pcache_policies.proofs.Words.{◌∙◌, ap, arith, subst, ◌-◌, ◌≡◌, rest_of, IsKept}
 use Rattle.pcache_policies.proofs.Queues.{kept-removed}
 use Rattle.pcache_policies.proofs.queue.Queue.remove.Goals as goal
 

@@ -1,5 +1,4 @@
-use Rattle.std.proofs.Common.{◌∷◌, ◌∙◌, ap}
-use Rattle.pcache_policies.specs.Queue.{seen_of, rest_of}
+use Rattle.pcache_policies.proofs.Words.{◌∷◌, ◌∙◌, ap, seen_of, rest_of}
 use Rattle.pcache_policies.proofs.Queues.{seen-set, rest-set}
 use Rattle.pcache_policies.proofs.queue.Queue.requeue.Goals as goal
 

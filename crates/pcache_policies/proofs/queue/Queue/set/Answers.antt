@@ -1,5 +1,4 @@
-use Rattle.std.proofs.Common.{◌≡◌, ◌≤◌, ◌∙◌, ap, sym, subst, arith, ◌+◌, ◌-◌, Some}
-use Rattle.pcache_policies.specs.Queue.{reseen, IsKept, seen_of}
+use Rattle.pcache_policies.proofs.Words.{◌≡◌, ◌≤◌, ◌∙◌, ap, sym, subst, arith, ◌+◌, ◌-◌, Some, reseen, IsKept, seen_of}
 use Rattle.pcache_policies.proofs.Queues.{kept-set, reseen-none, kept_bound}
 use Rattle.pcache_policies.proofs.queue.Queue.set.Goals as goal
 

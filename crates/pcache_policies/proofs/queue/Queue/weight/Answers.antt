@@ -1,4 +1,4 @@
-use Rattle.std.proofs.Common.{◌≤◌, ◌*◌, ◌-◌, ◌^◌, length, subst}
+use Rattle.pcache_policies.proofs.Words.{◌≤◌, ◌*◌, ◌-◌, ◌^◌, length, subst}
 use Rattle.pcache_policies.proofs.Queues.{kept_bound}
 use Rattle.pcache_policies.proofs.queue.Queue.weight.Goals as goal
 

@@ -1,6 +1,5 @@
-use Rattle.std.proofs.Common.{◌≡◌, ◌/◌, ◌∷◌, ◌∙◌, take, refl, ap}
-use Rattle.pcache_policies.specs.S3Fifo.{forgotten}
-use Rattle.pcache_policies.specs.TwoQueues.{remembered}
+use Rattle.std.proofs.Common.{◌/◌}
+use Rattle.pcache_policies.proofs.Words.{◌≡◌, ◌∷◌, ◌∙◌, take, refl, ap, forgotten, remembered}
 use Rattle.pcache_policies.proofs.Queues.{last_none}
 use Rattle.pcache_policies.proofs.Rings.{none_of}
 use Rattle.pcache_policies.proofs.reclaim.Queues.choose_incoming.Goals as goal

@@ -1,5 +1,5 @@
-use Rattle.std.proofs.Common.{◌≡◌, [], refl}
 use Rattle.pcache_policies.specs.Reclaim.{ends, goes}
+use Rattle.pcache_policies.proofs.Words.{◌≡◌, [], refl}
 use Rattle.pcache_policies.proofs.Queues.{last_none}
 use Rattle.pcache_policies.proofs.Rings.{none_of}
 use Rattle.pcache_policies.proofs.reclaim.Queues.choose_main.Goals as goal

@@ -1,7 +1,6 @@
-use Rattle.std.proofs.Common.{◌≡◌, true, false, refl, subst}
 use Rattle.pcache_evict.specs.declared.eviction.policy.EvictionPolicy.TheVariants.{TwoQueues}
-use Rattle.pcache_evict.specs.Tracked.{limits_of}
 use Rattle.pcache_policies.specs.Reclaim.{Steps}
+use Rattle.pcache_policies.proofs.Words.{◌≡◌, true, false, refl, subst, limits_of}
 use Rattle.pcache_policies.proofs.ReclaimSteps.{far-none, far-more, far-done, far-ends, smaller}
 use Rattle.pcache_policies.proofs.reclaim.Queues.make_room.Goals as goal
 

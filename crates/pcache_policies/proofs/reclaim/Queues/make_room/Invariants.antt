@@ -1,6 +1,5 @@
-use Rattle.std.proofs.Common.{◌+◌, length}
 use Rattle.pcache_evict.specs.declared.eviction.policy.EvictionPolicy.TheVariants.{TwoQueues}
-use Rattle.pcache_evict.specs.Tracked.{limits_of}
+use Rattle.pcache_policies.proofs.Words.{◌+◌, length, limits_of}
 use Rattle.pcache_policies.proofs.ReclaimSteps.{Far}
 use Rattle.pcache_policies.proofs.reclaim.Queues.make_room.Given as goal
 

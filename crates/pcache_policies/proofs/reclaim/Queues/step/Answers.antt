@@ -1,5 +1,5 @@
-use Rattle.std.proofs.Common.{refl}
 use Rattle.pcache_policies.specs.Reclaim.{leaves}
+use Rattle.pcache_policies.proofs.Words.{refl}
 use Rattle.pcache_policies.proofs.reclaim.Queues.step.Goals as goal
 
 pub choose_incoming-requires : goal.choose_incoming-requires

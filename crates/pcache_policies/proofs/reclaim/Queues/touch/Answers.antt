@@ -1,8 +1,5 @@
-use Rattle.std.proofs.Common.{◌++◌, ◌∙◌, ap, sym}
-use Rattle.pcache_policies.specs.Queue.{reseen}
-use Rattle.pcache_policies.specs.Ring.{Ring}
-use Rattle.pcache_policies.specs.TwoQueues.{queues}
 use Rattle.pcache_policies.specs.Reclaim.{shown}
+use Rattle.pcache_policies.proofs.Words.{◌++◌, ◌∙◌, ap, sym, reseen, Ring, queues}
 use Rattle.pcache_policies.proofs.Queues.{reseen-none}
 use Rattle.pcache_policies.proofs.Rings.{reseen-append}
 use Rattle.pcache_policies.proofs.Seens.{none_some}

@@ -1,8 +1,6 @@
-use Rattle.std.proofs.Common.{◌∷◌, ◌∙◌, ap, sym}
-use Rattle.pcache_policies.specs.Queue.{unused}
-use Rattle.pcache_policies.specs.Ring.{Ring}
-use Rattle.pcache_policies.specs.TwoQueues.{queues, entered}
+use Rattle.pcache_policies.specs.TwoQueues.{entered}
 use Rattle.pcache_policies.specs.Reclaim.{left_of}
+use Rattle.pcache_policies.proofs.Words.{◌∷◌, ◌∙◌, ap, sym, unused, Ring, queues}
 use Rattle.pcache_policies.proofs.reclaim.QueuesDiscipline.enter.Goals as goal
 
 pub returns-then-known-clause-ok : goal.returns-then-known-clause-ok

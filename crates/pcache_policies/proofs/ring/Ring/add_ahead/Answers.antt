@@ -1,6 +1,4 @@
-use Rattle.std.proofs.Common.{◌≡◌, ◌∷◌, ◌∙◌, ◌++◌, ◌<◌, ◌-◌, ◌^◌, None, sym, subst, ap, arith, length}
-use Rattle.pcache_policies.specs.Queue.{seen_of}
-use Rattle.pcache_policies.specs.Ring.{IsRing, all}
+use Rattle.pcache_policies.proofs.Words.{◌≡◌, ◌∷◌, ◌∙◌, ◌++◌, ◌<◌, ◌-◌, ◌^◌, None, sym, subst, ap, arith, length, seen_of, IsRing, all}
 use Rattle.pcache_policies.proofs.Rings.{not-full, absent_ahead, ring-entered}
 use Rattle.pcache_policies.proofs.ring.Ring.add_ahead.Goals as goal
 

@@ -1,5 +1,4 @@
-use Rattle.std.proofs.Common.{◌≡◌, ◌∷◌, ◌∙◌, Some, ap, sym, subst}
-use Rattle.lru.specs.LruCache.{last_entry}
+use Rattle.pcache_policies.proofs.Words.{◌≡◌, ◌∷◌, ◌∙◌, Some, ap, sym, subst, last_entry}
 use Rattle.pcache_policies.proofs.Rings.{absent_last_leaving, popped_last}
 use Rattle.pcache_policies.proofs.ring.Ring.choose_ahead.Goals as goal
 

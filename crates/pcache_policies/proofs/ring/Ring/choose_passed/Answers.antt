@@ -1,6 +1,4 @@
-use Rattle.std.proofs.Common.{◌≡◌, ◌∷◌, ◌∙◌, Some, ap, sym, subst}
-use Rattle.lru.specs.LruCache.{last_entry}
-use Rattle.pcache_policies.specs.Ring.{IsRing}
+use Rattle.pcache_policies.proofs.Words.{◌≡◌, ◌∷◌, ◌∙◌, Some, ap, sym, subst, last_entry, IsRing}
 use Rattle.pcache_policies.proofs.Rings.{absent_last_chosen, popped_last, ring-chosen}
 use Rattle.pcache_policies.proofs.ring.Ring.choose_passed.Goals as goal
 

@@ -1,6 +1,5 @@
-use Rattle.std.proofs.Common.{◌≡◌, ◌++◌, ◌+◌, ◌≤◌, length}
 use Rattle.std.specs.Vec.{vec_capacity}
-use Rattle.pcache_policies.specs.Ring.{chosen}
+use Rattle.pcache_policies.proofs.Words.{◌≡◌, ◌++◌, ◌+◌, ◌≤◌, length, chosen}
 use Rattle.pcache_policies.proofs.ring.Ring.drain.Given as goal
 
 abbrev pub invariant-loop-key : goal.invariant-loop-key

@@ -1,7 +1,6 @@
-use Rattle.std.proofs.Common.{◌≡◌, ◌∷◌, ◌∙◌, ap}
-use Rattle.pcache_policies.specs.Queue.{unused}
 use Rattle.pcache_policies.specs.Ring.{left_of}
-use Rattle.pcache_policies.specs.Sieve.{Sieve, sieve}
+use Rattle.pcache_policies.specs.Sieve.{Sieve}
+use Rattle.pcache_policies.proofs.Words.{◌≡◌, ◌∷◌, ◌∙◌, ap, unused, sieve}
 use Rattle.pcache_policies.proofs.ring.Ring.enter.Goals as goal
 
 pub add_ahead-requires : goal.add_ahead-requires

@@ -1,7 +1,4 @@
-use Rattle.std.proofs.Common.{◌≡◌, [], ◌∙◌, ◌++◌, None, sym, subst, ap, arith}
-use Rattle.pcache_evict.specs.Listed.{map_of}
-use Rattle.pcache_policies.specs.Queue.{seen_of, plain}
-use Rattle.pcache_policies.specs.Ring.{IsRing, all, ring}
+use Rattle.pcache_policies.proofs.Words.{◌≡◌, [], ◌∙◌, ◌++◌, None, sym, subst, ap, arith, map_of, seen_of, plain, IsRing, all, ring}
 use Rattle.pcache_policies.proofs.Rings.{moved-turned, none_long, absent_turned}
 use Rattle.pcache_policies.proofs.ring.Ring.face.Goals as goal
 

@@ -1,6 +1,4 @@
-use Rattle.std.proofs.Common.{◌≡◌, ◌∙◌, ◌++◌, ap, sym, None}
-use Rattle.pcache_policies.specs.Queue.{seen_of}
-use Rattle.pcache_policies.specs.Ring.{all}
+use Rattle.pcache_policies.proofs.Words.{◌≡◌, ◌∙◌, ◌++◌, ap, sym, None, seen_of, all}
 use Rattle.pcache_policies.proofs.Rings.{found_first, found_later, unfound}
 use Rattle.pcache_policies.proofs.ring.Ring.get.Goals as goal
 

@@ -1,7 +1,6 @@
-use Rattle.std.proofs.Common.{◌≡◌, true, false, refl, subst, sym}
 use Rattle.pcache_evict.specs.declared.eviction.policy.EvictionPolicy.TheVariants.{Lru}
-use Rattle.pcache_evict.specs.Tracked.{limits_of}
-use Rattle.pcache_policies.specs.Ring.{Steps, SameEntries}
+use Rattle.pcache_policies.specs.Ring.{Steps}
+use Rattle.pcache_policies.proofs.Words.{◌≡◌, true, false, refl, subst, sym, limits_of, SameEntries}
 use Rattle.pcache_policies.proofs.Rings.{far-none, far-more, far-done, far-ends, smaller, step-last}
 use Rattle.pcache_policies.proofs.ring.Ring.make_room.Goals as goal
 

@@ -1,7 +1,5 @@
-use Rattle.std.proofs.Common.{◌+◌}
-use Rattle.pcache_evict.specs.declared.eviction.policy.EvictionPolicy.{EvictionPolicy}
-use Rattle.pcache_evict.specs.Tracked.{limits_of}
 use Rattle.pcache_policies.specs.Ring.{steps_of}
+use Rattle.pcache_policies.proofs.Words.{◌+◌, EvictionPolicy, limits_of}
 use Rattle.pcache_policies.proofs.Rings.{Far, turn_of}
 use Rattle.pcache_policies.proofs.ring.Ring.make_room.Given as goal
 

@@ -1,5 +1,5 @@
-use Rattle.std.proofs.Common.{refl}
 use Rattle.pcache_policies.specs.Ring.{clears}
+use Rattle.pcache_policies.proofs.Words.{refl}
 use Rattle.pcache_policies.proofs.ring.Ring.pass.Goals as goal
 
 pub returns-clause-ok : goal.returns-clause-ok

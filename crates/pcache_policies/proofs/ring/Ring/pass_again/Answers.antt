@@ -1,6 +1,4 @@
-use Rattle.std.proofs.Common.{◌≡◌, ◌∷◌, ◌∙◌, Some, is_some, ap, sym, subst}
-use Rattle.lru.specs.LruCache.{last_entry}
-use Rattle.pcache_policies.specs.Ring.{IsRing}
+use Rattle.pcache_policies.proofs.Words.{◌≡◌, ◌∷◌, ◌∙◌, Some, is_some, ap, sym, subst, last_entry, IsRing}
 use Rattle.pcache_policies.proofs.Rings.{Again, again-of, ring-again}
 use Rattle.pcache_policies.proofs.ring.Ring.pass_again.Goals as goal
 

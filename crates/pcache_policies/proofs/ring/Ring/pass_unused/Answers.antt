@@ -1,7 +1,4 @@
-use Rattle.std.proofs.Common.{◌≡◌, ◌∷◌, ◌∙◌, Some, refl, sym, subst, ap}
-use Rattle.lru.specs.LruCache.{last_entry}
-use Rattle.pcache_policies.specs.Queue.{unused}
-use Rattle.pcache_policies.specs.Ring.{IsRing}
+use Rattle.pcache_policies.proofs.Words.{◌≡◌, ◌∷◌, ◌∙◌, Some, refl, sym, subst, ap, last_entry, unused, IsRing}
 use Rattle.pcache_policies.proofs.Rings.{absent_last_passed, popped_last, moved-passed}
 use Rattle.pcache_policies.proofs.ring.Ring.pass_unused.Goals as goal
 

@@ -1,6 +1,4 @@
-use Rattle.std.proofs.Common.{◌∙◌, sym, subst, ap}
-use Rattle.pcache_policies.specs.Queue.{rest_of}
-use Rattle.pcache_policies.specs.Ring.{IsRing}
+use Rattle.pcache_policies.proofs.Words.{◌∙◌, sym, subst, ap, rest_of, IsRing}
 use Rattle.pcache_policies.proofs.Rings.{ring-rest}
 use Rattle.pcache_policies.proofs.ring.Ring.remove.Goals as goal
 

@@ -1,7 +1,4 @@
-use Rattle.std.proofs.Common.{◌∙◌, sym, subst, ap}
-use Rattle.std.specs.Prelude.{IsSome}
-use Rattle.pcache_policies.specs.Queue.{seen_of}
-use Rattle.pcache_policies.specs.Ring.{IsRing}
+use Rattle.pcache_policies.proofs.Words.{◌∙◌, sym, subst, ap, IsSome, seen_of, IsRing}
 use Rattle.pcache_policies.proofs.Renewed.{ring-renewed}
 use Rattle.pcache_policies.proofs.ring.Ring.renew_ahead.Goals as goal
 

@@ -1,6 +1,4 @@
-use Rattle.std.proofs.Common.{◌∙◌, sym, subst, ap}
-use Rattle.pcache_policies.specs.Queue.{reseen}
-use Rattle.pcache_policies.specs.Ring.{IsRing}
+use Rattle.pcache_policies.proofs.Words.{◌∙◌, sym, subst, ap, reseen, IsRing}
 use Rattle.pcache_policies.proofs.Rings.{ring-reseen}
 use Rattle.pcache_policies.proofs.ring.Ring.set.Goals as goal
 

@@ -1,5 +1,5 @@
-use Rattle.std.proofs.Common.{◌≡◌, length}
 use Rattle.pcache_policies.specs.Ring.{shown}
+use Rattle.pcache_policies.proofs.Words.{◌≡◌, length}
 use Rattle.pcache_policies.proofs.ring.Ring.settle.Given as goal
 
 abbrev pub invariant-loop : goal.invariant-loop

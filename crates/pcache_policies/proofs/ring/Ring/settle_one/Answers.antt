@@ -1,4 +1,4 @@
-use Rattle.std.proofs.Common.{◌≡◌, [], ◌∙◌, sym, ap}
+use Rattle.pcache_policies.proofs.Words.{◌≡◌, [], ◌∙◌, sym, ap}
 use Rattle.pcache_policies.proofs.Queues.{last_none}
 use Rattle.pcache_policies.proofs.Rings.{absent_last_settled, none_of}
 use Rattle.pcache_policies.proofs.ring.Ring.settle_one.Goals as goal

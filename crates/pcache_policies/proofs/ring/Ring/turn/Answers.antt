@@ -1,5 +1,4 @@
-use Rattle.std.proofs.Common.{◌≡◌, [], ◌∙◌, sym, subst, ap}
-use Rattle.pcache_policies.specs.Ring.{IsRing}
+use Rattle.pcache_policies.proofs.Words.{◌≡◌, [], ◌∙◌, sym, subst, ap, IsRing}
 use Rattle.pcache_policies.proofs.Rings.{moved-turned}
 use Rattle.pcache_policies.proofs.ring.Ring.turn.Goals as goal
 

@@ -1,6 +1,6 @@
-use Rattle.std.proofs.Common.{◌∙◌}
 use Rattle.pcache_request.specs.Requests.{dropped_by}
 use Rattle.pcache_request.specs.StorePasts.{dropped_past}
+use Rattle.pcache_put.proofs.Words.{◌∙◌}
 use Rattle.pcache_put.proofs.context.CachePutCtx.cache_put.Goals as goal
 
 pub returns-in-GoesOn-clause-step : goal.returns-in-GoesOn-clause-step

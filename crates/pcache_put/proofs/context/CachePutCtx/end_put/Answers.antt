@@ -1,7 +1,6 @@
-use Rattle.std.proofs.Common.{◌≡◌, true, subst}
-use Rattle.pcache_evict.specs.Tracked.{Tracked}
 use Rattle.pcache_request.proofs.Replacing.{none_before}
-use Rattle.pcache_put.specs.Steps.{EndsPut, evicted_ended, write_end}
+use Rattle.pcache_put.specs.Steps.{evicted_ended, write_end}
+use Rattle.pcache_put.proofs.Words.{◌≡◌, true, subst, Tracked, EndsPut}
 use Rattle.pcache_put.proofs.context.CachePutCtx.end_put.Goals as goal
 
 pub returns-clause-ends : goal.returns-clause-ends

@@ -1,13 +1,9 @@
-use Rattle.std.proofs.Common.{◌≡◌, ◌∙◌, ap, sym, subst}
-use Rattle.pcache_base.specs.Key.{Key}
-use Rattle.pcache_request.specs.NoBody.{HasNoBody}
 use Rattle.pcache_request.specs.Replacing.{weighed_each}
-use Rattle.pcache_put.proofs.NoBody.{put_none}
-use Rattle.pcache_put.specs.Steps.{IfWithdrawn, tracked_before_put}
+use Rattle.pcache_put.specs.Steps.{tracked_before_put}
 use Rattle.pcache_put.specs.declared.report.PutReport.{PutReport}
+use Rattle.pcache_put.proofs.Words.{◌≡◌, ◌∙◌, ap, sym, subst, Key, HasNoBody, IfWithdrawn, stage_of, Put, InHead, InBody, HasDeclined, IsOver}
+use Rattle.pcache_put.proofs.NoBody.{put_none}
 use Rattle.pcache_put.proofs.Results.{head_result, declined_result, over_result}
-use Rattle.pcache_put.specs.Stages.{stage_of}
-use Rattle.pcache_put.specs.State.{Put, InHead, InBody, HasDeclined, IsOver}
 use Rattle.pcache_put.proofs.context.CachePutCtx.end_put_replacing.Goals as goal
 
 pub returns-in-Head-clause-tells : goal.returns-in-Head-clause-tells

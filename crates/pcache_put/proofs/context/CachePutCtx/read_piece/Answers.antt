@@ -1,8 +1,5 @@
-use Rattle.std.proofs.Common.{◌≡◌, ◌∙◌, inl, inr, ap, sym}
+use Rattle.pcache_put.proofs.Words.{◌≡◌, ◌∙◌, inl, inr, ap, sym, Piece, stage_of, Put}
 use Rattle.pcache_put.proofs.Halves.{reads_declined, reads_over}
-use Rattle.pcache_put.specs.Puts.{Piece}
-use Rattle.pcache_put.specs.Stages.{stage_of}
-use Rattle.pcache_put.specs.State.{Put}
 use Rattle.pcache_put.proofs.context.CachePutCtx.read_piece.Goals as goal
 
 pub returns-in-Declined-clause-read : goal.returns-in-Declined-clause-read

@@ -1,5 +1,5 @@
 use Rattle.pcache_put.proofs.Results.{taken_limited}
-use Rattle.pcache_put.specs.Stages.{stage_of}
+use Rattle.pcache_put.proofs.Words.{stage_of}
 use Rattle.pcache_put.proofs.context.CachePutCtx.set_max_file_size_bytes.Goals as goal
 
 pub returns-clause-taken : goal.returns-clause-taken

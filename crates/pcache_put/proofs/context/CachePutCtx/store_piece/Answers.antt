@@ -1,7 +1,5 @@
-use Rattle.std.proofs.Common.{◌≡◌, ◌∙◌, ap, sym}
+use Rattle.pcache_put.proofs.Words.{◌≡◌, ◌∙◌, ap, sym, stage_of, InHead}
 use Rattle.pcache_put.proofs.Halves.{head_read}
-use Rattle.pcache_put.specs.Stages.{stage_of}
-use Rattle.pcache_put.specs.State.{InHead}
 use Rattle.pcache_put.proofs.context.CachePutCtx.store_piece.Goals as goal
 
 pub returns-in-Head-clause-last : goal.returns-in-Head-clause-last

@@ -1,7 +1,5 @@
-use Rattle.std.proofs.Common.{None, Some, subst, sym}
+use Rattle.pcache_put.proofs.Words.{None, Some, subst, sym, InHead, IsBegunBefore, MayFailFill, MayFailPiece}
 use Rattle.pcache_put.proofs.Why.{began_filled, not_begun, refused_as, why_begun}
-use Rattle.pcache_put.specs.State.{InHead}
-use Rattle.pcache_put.specs.Steps.{IsBegunBefore, MayFailFill, MayFailPiece}
 use Rattle.pcache_put.proofs.intake.Intake.begin_with.Goals as goal
 
 pub returns-in-Ok-clause-kind : goal.returns-in-Ok-clause-kind

@@ -1,8 +1,6 @@
-use Rattle.std.proofs.Common.{Some, sym, subst}
+use Rattle.pcache_put.proofs.Words.{Some, sym, subst, BodyTaken, limit_of, filled_wrote}
 use Rattle.pcache_put.proofs.Bodies.{all_written, overruns}
 use Rattle.pcache_put.proofs.Why.{why_filling}
-use Rattle.pcache_put.specs.State.{BodyTaken, limit_of}
-use Rattle.pcache_put.specs.Steps.{filled_wrote}
 use Rattle.pcache_put.proofs.intake.Intake.fill.Goals as goal
 
 pub returns-in-Ok-clause-taken : goal.returns-in-Ok-clause-taken

@@ -1,11 +1,5 @@
-use Rattle.std.proofs.Common.{Option, Result, Ok, ap, ◌∙◌}
-use Rattle.std.proofs.lemmas.Result.{err_from_is_err_and}
-use Rattle.pcache_base.specs.declared.error.ErrorType.{ErrorType}
+use Rattle.pcache_put.proofs.Words.{Option, Result, Ok, ap, ◌∙◌, err_from_is_err_and, ErrorType, BodyPart, Brought, limit_of, parts_of}
 use Rattle.pcache_put.proofs.Bodies.{next_due, no_head, nothing_after, whole_at}
-use Rattle.pcache_put.specs.declared.reading.BodyPart.{BodyPart}
-use Rattle.pcache_put.specs.declared.brought.Brought.{Brought}
-use Rattle.pcache_put.specs.State.{limit_of}
-use Rattle.pcache_response.specs.Parts.{parts_of}
 use Rattle.pcache_put.proofs.intake.Intake.read_body.Goals as goal
 
 pub returns-in_err-parts-clause-invalid : goal.returns-in_err-parts-clause-invalid

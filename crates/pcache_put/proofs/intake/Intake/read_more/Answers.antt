@@ -1,9 +1,6 @@
-use Rattle.std.proofs.Common.{◌++◌, ◌∷◌, [], Option, None, Some}
-use Rattle.pcache_put.proofs.Why.{why_body}
-use Rattle.pcache_put.specs.Puts.{Piece}
-use Rattle.pcache_put.specs.Readings.{BodyDue}
-use Rattle.pcache_put.specs.State.{BodyTaken, Filled, limit_of}
 use Rattle.pcache_put.specs.declared.reading.ReadPiece.TheVariants.{Refused}
+use Rattle.pcache_put.proofs.Words.{◌++◌, ◌∷◌, [], Option, None, Some, Piece, BodyDue, BodyTaken, Filled, limit_of}
+use Rattle.pcache_put.proofs.Why.{why_body}
 use Rattle.pcache_put.proofs.intake.Intake.read_more.Goals as goal
 
 pub returns-in-Err-clause-due : goal.returns-in-Err-clause-due

@@ -1,11 +1,5 @@
-use Rattle.std.proofs.Common.{sym, subst, ap, ◌∙◌}
-use Rattle.std.specs.Prelude.{IfOk}
-use Rattle.std.proofs.lemmas.Result.{err_from_is_err_and}
+use Rattle.pcache_put.proofs.Words.{sym, subst, ap, ◌∙◌, IfOk, err_from_is_err_and, IsBegun, IsVerdict, limit_of, Brought, parts_of}
 use Rattle.pcache_put.proofs.Heads.{opens_if, bad_head, goes_unfinished}
-use Rattle.pcache_put.specs.Openings.{IsBegun, IsVerdict}
-use Rattle.pcache_put.specs.State.{limit_of}
-use Rattle.pcache_put.specs.declared.brought.Brought.{Brought}
-use Rattle.pcache_response.specs.Parts.{parts_of}
 use Rattle.pcache_put.proofs.intake.Intake.read_opening.Goals as goal
 
 pub returns-in_err-parts-clause-invalid : goal.returns-in_err-parts-clause-invalid

@@ -1,9 +1,5 @@
-use Rattle.std.proofs.Common.{Option, None, Some}
-use Rattle.pcache_put.specs.Readings.{BodyDue}
-use Rattle.pcache_put.specs.Stages.{stage_of}
-use Rattle.pcache_put.specs.State.{Filled, TakenBy}
-use Rattle.pcache_put.specs.Steps.{filled_wrote}
 use Rattle.pcache_put.specs.declared.reading.ReadPiece.TheVariants.{Brings}
+use Rattle.pcache_put.proofs.Words.{Option, None, Some, BodyDue, stage_of, Filled, TakenBy, filled_wrote}
 use Rattle.pcache_put.proofs.intake.Intake.store_body.Goals as goal
 
 pub returns-in-Brings-clause-taken : goal.returns-in-Brings-clause-taken

@@ -1,4 +1,4 @@
-use Rattle.std.proofs.Common.{refl}
+use Rattle.pcache_response.proofs.Words.{refl}
 use Rattle.pcache_response.proofs.Ends.{nothing_unfinished}
 use Rattle.pcache_response.proofs.response_parse.ResponseParse.new.Goals as goal
 

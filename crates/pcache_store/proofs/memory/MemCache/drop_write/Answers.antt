@@ -1,5 +1,4 @@
-use Rattle.std.proofs.Common.{Some}
-use Rattle.pcache_store.specs.Past.{Dropped}
+use Rattle.pcache_store.proofs.Words.{Some, Dropped}
 use Rattle.pcache_store.proofs.Past.{grows}
 use Rattle.pcache_store.proofs.memory.MemCache.drop_write.Goals as goal
 

@@ -1,5 +1,4 @@
-use Rattle.std.proofs.Common.{Some}
-use Rattle.pcache_store.specs.Past.{Left}
+use Rattle.pcache_store.proofs.Words.{Some, Left}
 use Rattle.pcache_store.proofs.Past.{grows}
 use Rattle.pcache_store.proofs.memory.MemCache.leave.Goals as goal
 

@@ -1,4 +1,4 @@
-use Rattle.pcache_store.specs.Notes.{expiry_noted}
+use Rattle.pcache_store.proofs.Words.{expiry_noted}
 use Rattle.pcache_store.proofs.Past.{grows, expires}
 use Rattle.pcache_store.proofs.memory.MemCacheStorage.expire.Goals as goal
 

@@ -1,5 +1,4 @@
-use Rattle.pcache_store.specs.Notes.{purge_noted}
-use Rattle.std.proofs.Common.{true}
+use Rattle.pcache_store.proofs.Words.{purge_noted, true}
 use Rattle.pcache_store.proofs.Past.{grows, removes}
 use Rattle.pcache_store.proofs.memory.MemCacheStorage.purge.Goals as goal
 

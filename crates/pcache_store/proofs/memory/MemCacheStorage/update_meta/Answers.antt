@@ -1,6 +1,4 @@
-use Rattle.std.proofs.Common.{Some}
-use Rattle.pcache_base.specs.Key.{slot}
-use Rattle.pcache_store.specs.Past.{MetaSet}
+use Rattle.pcache_store.proofs.Words.{Some, slot, MetaSet}
 use Rattle.pcache_store.proofs.Past.{grows}
 use Rattle.pcache_store.proofs.memory.MemCacheStorage.update_meta.Goals as goal
 

@@ -1,7 +1,6 @@
-use Rattle.std.proofs.Common.{ap, sym, ◌∙◌, Some}
-use Rattle.std.specs.Int.{w64, from_be_bytes}
 use Rattle.std.specs.Option.{option_copied}
 use Rattle.pcache_store.specs.Tag.{named_by}
+use Rattle.pcache_store.proofs.Words.{ap, sym, ◌∙◌, Some, w64, from_be_bytes}
 use Rattle.pcache_store.proofs.Tags.{eight_name, other_names}
 use Rattle.pcache_store.proofs.memory.bare.number_named_by.Goals as goal
 

@@ -1,7 +1,5 @@
-use Rattle.std.proofs.Common.{sym, ap, ◌∙◌, is_ok, true}
-use Rattle.std.proofs.lemmas.Result.{IfOk-weaker}
+use Rattle.pcache_store.proofs.Words.{sym, ap, ◌∙◌, is_ok, true, IfOk-weaker, Written, is_named}
 use Rattle.pcache_store.proofs.Writes.{closed_there, ended_gone, landed_there, landed_body, not_lost, one_stays, one_goes}
-use Rattle.pcache_store.specs.Store.{Written, is_named}
 use Rattle.pcache_store.proofs.memory.draft_table.end_in.Goals as goal
 
 pub returns-in-Ok-clause-after : goal.returns-in-Ok-clause-after

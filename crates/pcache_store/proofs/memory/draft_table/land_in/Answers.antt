@@ -1,4 +1,4 @@
-use Rattle.std.proofs.Common.{sym, ◌∙◌}
+use Rattle.pcache_store.proofs.Words.{sym, ◌∙◌}
 use Rattle.pcache_store.proofs.Writes.{landed_there, landed_gone, one_stays, one_goes}
 use Rattle.pcache_store.proofs.memory.draft_table.land_in.Goals as goal
 

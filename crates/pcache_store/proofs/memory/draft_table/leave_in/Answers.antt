@@ -1,4 +1,4 @@
-use Rattle.std.proofs.Common.{sym, ◌∙◌}
+use Rattle.pcache_store.proofs.Words.{sym, ◌∙◌}
 use Rattle.pcache_store.proofs.Writes.{left_there, left_gone, one_stays, one_goes}
 use Rattle.pcache_store.proofs.memory.draft_table.leave_in.Goals as goal
 

@@ -1,7 +1,5 @@
-use Rattle.std.proofs.Common.{◌≡◌, ◌∙◌, ap, sym, arith, inl, inr, None, subst, length, ◌<◌}
+use Rattle.pcache_store.proofs.Words.{◌≡◌, ◌∙◌, ap, sym, arith, inl, inr, None, subst, length, ◌<◌, cases_lt, table_at}
 use Rattle.std.specs.FinMap as map
-use Rattle.std.proofs.lemmas.Bool.{cases_lt}
-use Rattle.pcache_store.specs.Shards.{table_at}
 use Rattle.pcache_store.proofs.Records.{absent, by_default}
 use Rattle.pcache_store.proofs.memory.draft_table.place_with.Goals as goal
 

@@ -1,6 +1,5 @@
-use Rattle.std.proofs.Common.{◌≡◌, ◌<◌, ℕ, None}
+use Rattle.pcache_store.proofs.Words.{◌≡◌, ◌<◌, ℕ, None, table_at}
 use Rattle.std.specs.FinMap as map
-use Rattle.pcache_store.specs.Shards.{table_at}
 use Rattle.pcache_store.proofs.memory.draft_table.place_with.Given as goal
 
 -- no table below the place has the number

@@ -1,4 +1,4 @@
-use Rattle.std.proofs.lemmas.Result.{on_ok_weaker, on_err_weaker}
+use Rattle.pcache_store.proofs.Words.{on_ok_weaker, on_err_weaker}
 use Rattle.pcache_store.proofs.Writes.{wrote_there, same_there}
 use Rattle.pcache_store.proofs.memory.draft_table.write_in.Goals as goal
 

@@ -1,5 +1,4 @@
-use Rattle.std.proofs.Common.{◌≡◌, ◌++◌, take}
-use Rattle.std.specs.List.{concat}
+use Rattle.pcache_store.proofs.Words.{◌≡◌, ◌++◌, take, concat}
 use Rattle.pcache_store.proofs.memory.draft_text.append.Given as goal
 
 abbrev pub invariant-loop-piece : goal.invariant-loop-piece

@@ -1,5 +1,4 @@
-use Rattle.std.proofs.Common.{◌≡◌, ◌<◌, ◌≤◌, ◌+◌, ◌-◌, ◌∙◌, ap, arith, length, sym, take, get_or}
-use Rattle.std.specs.List.{concat}
+use Rattle.pcache_store.proofs.Words.{◌≡◌, ◌<◌, ◌≤◌, ◌+◌, ◌-◌, ◌∙◌, ap, arith, length, sym, take, get_or, concat}
 use Rattle.pcache_store.proofs.Pieces.{all_taken, begun_before, some_left, step_back}
 use Rattle.pcache_store.proofs.memory.draft_text.piece_at.Goals as goal
 

@@ -1,5 +1,4 @@
-use Rattle.std.proofs.Common.{◌≡◌, ◌<◌, ◌≤◌, ◌+◌, length, take}
-use Rattle.std.specs.List.{concat}
+use Rattle.pcache_store.proofs.Words.{◌≡◌, ◌<◌, ◌≤◌, ◌+◌, length, take, concat}
 use Rattle.pcache_store.proofs.memory.draft_text.piece_at.Given as goal
 
 -- where the piece behind those that are left begins

@@ -1,4 +1,4 @@
-use Rattle.std.proofs.Common.{◌∷◌, ◌++◌, [], ◌∙◌, ap}
+use Rattle.pcache_store.proofs.Words.{◌∷◌, ◌++◌, [], ◌∙◌, ap}
 use Rattle.pcache_store.proofs.Pieces.{settled}
 use Rattle.pcache_store.proofs.memory.draft_text.settle.Goals as goal
 

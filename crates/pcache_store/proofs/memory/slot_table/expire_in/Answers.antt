@@ -1,6 +1,6 @@
-use Rattle.std.proofs.lemmas.Result.{on_ok_weaker, on_err_weaker}
-use Rattle.pcache_store.proofs.Slots.{changed_there, same_slot}
 use Rattle.pcache_meta.specs.Meta.{expired_at}
+use Rattle.pcache_store.proofs.Words.{on_ok_weaker, on_err_weaker}
+use Rattle.pcache_store.proofs.Slots.{changed_there, same_slot}
 use Rattle.pcache_store.proofs.memory.slot_table.expire_in.Goals as goal
 
 pub returns-clause-slots : goal.returns-clause-slots

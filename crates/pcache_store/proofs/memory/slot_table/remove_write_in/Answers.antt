@@ -1,4 +1,4 @@
-use Rattle.std.proofs.Common.{sym, ◌∙◌}
+use Rattle.pcache_store.proofs.Words.{sym, ◌∙◌}
 use Rattle.pcache_store.proofs.Slots.{lost_there, lost_out, one_stays, one_goes}
 use Rattle.pcache_store.proofs.memory.slot_table.remove_write_in.Goals as goal
 

@@ -1,4 +1,4 @@
-use Rattle.std.proofs.Common.{sym, ◌∙◌}
+use Rattle.pcache_store.proofs.Words.{sym, ◌∙◌}
 use Rattle.pcache_store.proofs.Slots.{shut_there, shut_gone, one_stays, one_goes}
 use Rattle.pcache_store.proofs.memory.slot_table.shut_in.Goals as goal
 

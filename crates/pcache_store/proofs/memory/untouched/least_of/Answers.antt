@@ -1,6 +1,5 @@
-use Rattle.std.proofs.Common.{sym, ◌∙◌, ap}
 use Rattle.pcache_table.specs.Numbers.{first_key}
-use Rattle.pcache_table.proofs.TableMaps.{entries_of}
+use Rattle.pcache_store.proofs.Words.{sym, ◌∙◌, ap, entries_of}
 use Rattle.pcache_store.proofs.memory.untouched.least_of.Goals as goal
 
 pub returns-in-Some : goal.returns-in-Some

@@ -1,7 +1,5 @@
-use Rattle.std.proofs.Common.{sym, ◌∙◌, ap, length, ◌==◌}
+use Rattle.pcache_store.proofs.Words.{sym, ◌∙◌, ap, length, ◌==◌, entries_of, numbers_in}
 use Rattle.std.specs.FinMap as map
-use Rattle.pcache_table.proofs.TableMaps.{entries_of}
-use Rattle.pcache_store.specs.Untouched.{numbers_in}
 use Rattle.pcache_store.proofs.memory.untouched.none_in.Goals as goal
 
 pub returns : goal.returns

@@ -1,5 +1,4 @@
-use Rattle.std.proofs.Common.{◌∙◌, ◌%◌, ap}
-use Rattle.pcache_table.specs.Sharding.{part_of}
+use Rattle.pcache_table.proofs.Words.{◌∙◌, ◌%◌, ap, part_of}
 use Rattle.pcache_table.proofs.Sharded.{at_place, part-joined}
 use Rattle.pcache_table.proofs.hashtable.Shards.get.Goals as goal
 

@@ -1,6 +1,4 @@
-use Rattle.std.proofs.Common.{◌∙◌, ◌<◌, ap, arith, length}
-use Rattle.std.proofs.lemmas.Option.{slice_get-get_or}
-use Rattle.pcache_table.specs.Sharding.{part_of}
+use Rattle.pcache_table.proofs.Words.{◌∙◌, ◌<◌, ap, arith, length, slice_get-get_or, part_of}
 use Rattle.pcache_table.proofs.Sharded.{part-joined}
 use Rattle.pcache_table.proofs.hashtable.Shards.get_shard_at_idx.Goals as goal
 

@@ -1,7 +1,5 @@
-use Rattle.std.proofs.Common.{◌∙◌, ◌%◌, ap, refl, sym}
+use Rattle.pcache_table.proofs.Words.{◌∙◌, ◌%◌, ap, refl, sym, slice_get_within, IfOk-weaker, on_ok_weaker, on_err_weaker}
 use Rattle.std.specs.FinMap as map
-use Rattle.std.proofs.lemmas.Option.{slice_get_within}
-use Rattle.std.proofs.lemmas.Result.{IfOk-weaker, on_ok_weaker, on_err_weaker}
 use Rattle.pcache_table.proofs.Sharded.{all-set, at_place, get-joined, insert-joined, placed-either}
 use Rattle.pcache_table.proofs.hashtable.Shards.insert.Goals as goal
 

@@ -1,6 +1,5 @@
-use Rattle.std.proofs.Common.{◌∙◌, ◌%◌, ap, sym}
+use Rattle.pcache_table.proofs.Words.{◌∙◌, ◌%◌, ap, sym, slice_get_within}
 use Rattle.std.specs.FinMap as map
-use Rattle.std.proofs.lemmas.Option.{slice_get_within}
 use Rattle.pcache_table.proofs.Sharded.{all-set, at_place, get-joined, placed-without, remove-joined}
 use Rattle.pcache_table.proofs.hashtable.Shards.remove.Goals as goal
 

@@ -1,4 +1,4 @@
-use Rattle.std.proofs.Common.{◌∙◌, ap, sym}
+use Rattle.pcache_table.proofs.Words.{◌∙◌, ap, sym}
 use Rattle.std.specs.FinMap as map
 use Rattle.pcache_table.proofs.Sharded.{at_place, get-joined}
 use Rattle.pcache_table.proofs.hashtable.Shards.value.Goals as goal

@@ -1,6 +1,5 @@
-use Rattle.std.proofs.Common.{◌∙◌, refl, sym, subst, of_calls}
-use Rattle.std.specs.List.{FoldsTo}
-use Rattle.pcache_table.specs.Sharding.{CalledAtEntry}
+use Rattle.std.proofs.Common.{of_calls}
+use Rattle.pcache_table.proofs.Words.{◌∙◌, refl, sym, subst, FoldsTo, CalledAtEntry}
 use Rattle.pcache_table.proofs.hashtable.concurrent.visit.Goals as goal
 
 pub loop-key-init : goal.loop-key-init

@@ -1,5 +1,4 @@
-use Rattle.std.specs.List.{FoldsTo}
-use Rattle.pcache_table.specs.Sharding.{CalledAtEntry}
+use Rattle.pcache_table.proofs.Words.{FoldsTo, CalledAtEntry}
 use Rattle.pcache_table.proofs.hashtable.concurrent.visit.Given as goal
 
 -- the calls at the entries that are left complete the calls at all of them

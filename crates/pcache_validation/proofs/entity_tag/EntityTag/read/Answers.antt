@@ -1,4 +1,4 @@
-use Rattle.std.proofs.Common.{sym, ◌∙◌}
+use Rattle.pcache_validation.proofs.Words.{sym, ◌∙◌}
 use Rattle.pcache_validation.proofs.TagsRead.{read_is_spelled, spelled_is_read}
 use Rattle.pcache_validation.proofs.entity_tag.EntityTag.read.Goals as goal
 

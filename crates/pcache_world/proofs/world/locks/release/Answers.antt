@@ -17,7 +17,7 @@ returns-clause-moves c s =
     let all = c.note_release.new.events.items in
     subst (λ (x : Ongoing). MovesStore (Some x) s all (Some (held_with c.request.inside.carried pair c.release_write_lock-released.new.self)) s) c.request.view_is
     (turns-quietly (held_with c.request.inside.carried pair r) (held_with c.request.inside.carried pair c.release_write_lock-released.new.self) s all (quiet-noted Release o old all (λ n. tt) c.requires.none c.note_release.ensures.events)
-    refl (ap (λ (y : Request). y.reader) c.release_write_lock-released.ensures.request) (ap (λ (y : Request). y.write) c.release_write_lock-released.ensures.request))
+    refl (ap (λ (y : Request). y.reader) c.release_write_lock-released.ensures.releases.request) (ap (λ (y : Request). y.write) c.release_write_lock-released.ensures.releases.request))
 
 pub returns-clause-locks : goal.returns-clause-locks
 returns-clause-locks c n =
@@ -25,6 +25,6 @@ returns-clause-locks c n =
     let o = c.permit_released.result in
     let old = c.args.events.now.items in
     let all = c.note_release.new.events.items in
-    let permit : o ≡ permit_of r.held = c.permit_released.ensures ∙ ap permit_released c.release_write_lock-released.ensures.released ∙ permit-released _ r.held in
+    let permit : o ≡ permit_of r.held = c.permit_released.ensures ∙ ap permit_released c.release_write_lock-released.ensures.releases.released ∙ permit-released _ r.held in
     subst (λ (x : Ongoing). MovesLocks n (deeds_by n 0 (status_for (λ text. GiveUp) c.args.reason) all) x.request.held c.args.lock.now.table c.release_write_lock-released.new.self.held c.release_write_lock-released.new.lock.table) c.request.view_is
-    (settle-alone n 0 (status_for (λ text. GiveUp) c.args.reason) c.args.lock.now.table c.release_write_lock-released.new.lock.table r.held c.release_write_lock-released.new.self.held o old all (status-reason c.args.reason) permit c.requires.none c.note_release.ensures.events (ap (λ (y : Request). y.held) c.release_write_lock-released.ensures.request) c.release_write_lock-released.ensures.table)
+    (settle-alone n 0 (status_for (λ text. GiveUp) c.args.reason) c.args.lock.now.table c.release_write_lock-released.new.lock.table r.held c.release_write_lock-released.new.self.held o old all (status-reason c.args.reason) permit c.requires.none c.note_release.ensures.events (ap (λ (y : Request). y.held) c.release_write_lock-released.ensures.releases.request) c.release_write_lock-released.ensures.releases.settles.table)

@@ -28,4 +28,4 @@ returns-clause-locks c n =
     let all = c.note_release.new.events.items in
     let permit : o ≡ permit_of r.held = c.permit_in.ensures ∙ ap permit_in c.revalidate_uncacheable-released.ensures.released ∙ permit-named r.held in
     subst (λ (x : Ongoing). MovesLocks n (deeds_by n 0 (status_for (λ text. GiveUp) c.args.reason) all) x.request.held c.args.lock.now.table c.revalidate_uncacheable-released.new.self.held c.revalidate_uncacheable-released.new.lock.table) c.request.view_is
-    (settle-alone n 0 (status_for (λ text. GiveUp) c.args.reason) c.args.lock.now.table c.revalidate_uncacheable-released.new.lock.table r.held c.revalidate_uncacheable-released.new.self.held o old all (status-reason c.args.reason) permit c.requires.none c.note_release.ensures.events (ap (λ (y : Request). y.held) c.revalidate_uncacheable-released.ensures.request) c.revalidate_uncacheable-released.ensures.table)
+    (settle-alone n 0 (status_for (λ text. GiveUp) c.args.reason) c.args.lock.now.table c.revalidate_uncacheable-released.new.lock.table r.held c.revalidate_uncacheable-released.new.self.held o old all (status-reason c.args.reason) permit c.requires.none c.note_release.ensures.events (ap (λ (y : Request). y.held) c.revalidate_uncacheable-released.ensures.request) c.revalidate_uncacheable-released.ensures.settles.table)

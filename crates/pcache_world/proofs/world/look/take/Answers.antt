@@ -23,7 +23,7 @@ returns-in-Ok-asked-clause-answers g c =
     let j = c.slot-slot.result in
     let a = c.in-Ok-asked.asked in
     let given = subst (λ (o : Result (Option AskedLock) ErrorType). IfOk o (λ q. q ≡ asked_by_found s t x)) c.in-Ok-asked.is c.in-Ok.ensures.asked in
-    let now = subst (λ (o : Result (Option AskedLock) ErrorType). OnOk o (c.take_found.new.self ≡ found_row s c.args.pair.0 h t x)) c.in-Ok-asked.is c.in-Ok.ensures.request in
+    let now = subst (λ (o : Result (Option AskedLock) ErrorType). OnOk o (c.take_found.new.self ≡ found_row s c.args.pair.0 h t x)) c.in-Ok-asked.is c.in-Ok.ensures.takes.request in
     let phase = c.phase.ensures ∙ ap (λ (z : Request). z.phase) now ∙ found-phase s c.args.pair.0 h t x in
     takes-found c.args.store.now.state s t x (c.args.pair.0, h) key j a c.note_lock-kind.result c.phase.result c.note_lock-kind.new.events.items name c.slot-slot.ensures given c.note_lock-kind.ensures.kind
     (c.note_lock-kind.ensures.events ∙ ap (λ es. es ++ asking j a) noted) phase
@@ -39,7 +39,7 @@ returns-in-Ok-asked-clause-row g c d =
     let noted : c.note_access.new.events.items ≡ accesses s key h x = c.note_access.ensures.events ∙ (λ i. c.requires.none i ++ (ap noting c.in-Ok.ensures.access ∙ noted-access s key h x name) i) in
     let j = c.slot-slot.result in
     let given = subst (λ (o : Result (Option AskedLock) ErrorType). IfOk o (λ q. q ≡ asked_by_found s t x)) c.in-Ok-asked.is c.in-Ok.ensures.asked in
-    let now = subst (λ (o : Result (Option AskedLock) ErrorType). OnOk o (c.take_found.new.self ≡ found_row s c.args.pair.0 h t x)) c.in-Ok-asked.is c.in-Ok.ensures.request in
+    let now = subst (λ (o : Result (Option AskedLock) ErrorType). OnOk o (c.take_found.new.self ≡ found_row s c.args.pair.0 h t x)) c.in-Ok-asked.is c.in-Ok.ensures.takes.request in
     let events = c.note_lock-kind.ensures.events ∙ ap (λ es. es ++ asking j c.in-Ok-asked.asked) noted in
     ap Some (ap (held_with d None) (
     now
@@ -54,7 +54,7 @@ returns-in-Err-clause-moves g c d =
     let x = held_with d (Some p) c.args.cache.now in
     let y = held_with d None c.take_found.new.self in
     subst (λ (m : Tracked). Moves (g.M.EvictionManager.limits c.args.manager.now) (Some x) c.args.store.now.state (tracked c.args.manager.now) c.args.events.now.items (Some y) c.take_found.new.storage.state m) (sym c.in-Err.ensures.same_tracked)
-    (let-go x y c.args.store.now.state c.take_found.new.storage.state c.args.events.now.items c.requires.none refl (ap (λ (z : Request). z.reader) c.in-Err.ensures.same_request) (ap (λ (z : Request). z.write) c.in-Err.ensures.same_request) c.in-Err.ensures.left_store _ _)
+    (let-go x y c.args.store.now.state c.take_found.new.storage.state c.args.events.now.items c.requires.none refl (ap (λ (z : Request). z.reader) c.in-Err.ensures.takes.same_request) (ap (λ (z : Request). z.write) c.in-Err.ensures.takes.same_request) c.in-Err.ensures.takes.left_store _ _)
 
 pub returns-in-Err-asked-clause-moves : goal.returns-in-Err-asked-clause-moves
 returns-in-Err-asked-clause-moves g c d =
@@ -62,8 +62,8 @@ returns-in-Err-asked-clause-moves g c d =
     let p : Meta × Reader = (c.args.pair.0, reader_of c.args.pair.1) in
     let tracked = g.M.EvictionManager.tracked in
     let name = sym c.in-Some.ensures.value in
-    let same = subst (λ (o : Result (Option AskedLock) ErrorType). OnErr o (c.take_found.new.self ≡ x)) c.in-Err-asked.is c.in-Ok.ensures.unlocked_request in
-    let gone = subst (λ (o : Result (Option AskedLock) ErrorType). OnErr o (c.take_found.new.storage.state ≡ left c.args.store.now.state p.1)) c.in-Err-asked.is c.in-Ok.ensures.unlocked_store in
+    let same = subst (λ (o : Result (Option AskedLock) ErrorType). OnErr o (c.take_found.new.self ≡ x)) c.in-Err-asked.is c.in-Ok.ensures.takes.same_request in
+    let gone = subst (λ (o : Result (Option AskedLock) ErrorType). OnErr o (c.take_found.new.storage.state ≡ left c.args.store.now.state p.1)) c.in-Err-asked.is c.in-Ok.ensures.takes.left_store in
     untaken d x (held_with d None c.take_found.new.self) p c.args.store.now.state c.take_found.new.storage.state (tracked c.args.manager.now) (tracked c.take_found.new.eviction) _ c.args.status c.in-Some.key.now c.note_access.new.events.items
     (c.note_access.ensures.events ∙ (λ i. c.requires.none i ++ (ap noting c.in-Ok.ensures.access ∙ noted-access c.args.status c.in-Some.key.now p.1 x name) i)) name refl
     (ap (λ (z : Request). z.reader) same) (ap (λ (z : Request). z.write) same) gone c.in-Ok.ensures.tracked
@@ -77,15 +77,15 @@ returns-in-Ok-asked-clause-moves g c d =
     let tracked = g.M.EvictionManager.tracked in
     let name = sym c.in-Some.ensures.value in
     let more = asking c.slot-slot.result c.in-Ok-asked.asked in
-    let now = subst (λ (o : Result (Option AskedLock) ErrorType). OnOk o (c.take_found.new.self ≡ found_row s p.0 p.1 t x)) c.in-Ok-asked.is c.in-Ok.ensures.request in
-    let to = subst (λ (o : Result (Option AskedLock) ErrorType). OnOk o (c.take_found.new.storage.state ≡ store_found s p.1 x c.args.store.now.state)) c.in-Ok-asked.is c.in-Ok.ensures.store in
+    let now = subst (λ (o : Result (Option AskedLock) ErrorType). OnOk o (c.take_found.new.self ≡ found_row s p.0 p.1 t x)) c.in-Ok-asked.is c.in-Ok.ensures.takes.request in
+    let to = subst (λ (o : Result (Option AskedLock) ErrorType). OnOk o (c.take_found.new.storage.state ≡ store_found s p.1 x c.args.store.now.state)) c.in-Ok-asked.is c.in-Ok.ensures.takes.store in
     takes d x (held_with d None c.take_found.new.self) p c.args.store.now.state c.take_found.new.storage.state (tracked c.args.manager.now) (tracked c.take_found.new.eviction) _ s c.in-Some.key.now more c.note_lock-kind.new.events.items (quiet-asking _ _)
     (c.note_lock-kind.ensures.events ∙ ap (λ es. es ++ more) (c.note_access.ensures.events ∙ (λ i. c.requires.none i ++ (ap noting c.in-Ok.ensures.access ∙ noted-access s c.in-Some.key.now p.1 x name) i))) name
     refl (ap (λ (z : Request). z.reader) now) (ap (λ (z : Request). z.write) now ∙ found-write s p.0 p.1 t x) to c.in-Ok.ensures.tracked
 
 pub returns-in-Ok-asked-clause-keeps : goal.returns-in-Ok-asked-clause-keeps
 returns-in-Ok-asked-clause-keeps g c =
-    let now = subst (λ (o : Result (Option AskedLock) ErrorType). OnOk o (c.take_found.new.self ≡ found_row c.args.status c.args.pair.0 (reader_of c.args.pair.1) c.args.lock.now.table c.args.cache.now)) c.in-Ok-asked.is c.in-Ok.ensures.request in
+    let now = subst (λ (o : Result (Option AskedLock) ErrorType). OnOk o (c.take_found.new.self ≡ found_row c.args.status c.args.pair.0 (reader_of c.args.pair.1) c.args.lock.now.table c.args.cache.now)) c.in-Ok-asked.is c.in-Ok.ensures.takes.request in
     keeps-found c.args.cache.now c.take_found.new.self c.args.status c.args.pair.0 (reader_of c.args.pair.1) c.args.lock.now.table c.requires.may now
 
 pub returns-in-Err-asked-clause-locks : goal.returns-in-Err-asked-clause-locks
@@ -93,13 +93,13 @@ returns-in-Err-asked-clause-locks g c n =
     let x = c.args.cache.now in
     let h = reader_of c.args.pair.1 in
     let name = sym c.in-Some.ensures.value in
-    let same = subst (λ (o : Result (Option AskedLock) ErrorType). OnErr o (c.take_found.new.self ≡ x)) c.in-Err-asked.is c.in-Ok.ensures.unlocked_request in
-    let table = subst (λ (o : Result (Option AskedLock) ErrorType). OnErr o (c.take_found.new.lock.table ≡ c.args.lock.now.table)) c.in-Err-asked.is c.in-Ok.ensures.unlocked_table in
+    let same = subst (λ (o : Result (Option AskedLock) ErrorType). OnErr o (c.take_found.new.self ≡ x)) c.in-Err-asked.is c.in-Ok.ensures.takes.same_request in
+    let table = subst (λ (o : Result (Option AskedLock) ErrorType). OnErr o (c.take_found.new.lock.table ≡ c.args.lock.now.table)) c.in-Err-asked.is c.in-Ok.ensures.takes.same_table in
     untaken-locks n c.args.now Done c.args.status c.args.lock.now.table c.take_found.new.lock.table x c.take_found.new.self c.in-Some.key.now h c.note_access.new.events.items table same
     (c.note_access.ensures.events ∙ (λ i. c.requires.none i ++ (ap noting c.in-Ok.ensures.access ∙ noted-access c.args.status c.in-Some.key.now h x name) i))
 
 pub returns-in-Err-clause-locks : goal.returns-in-Err-clause-locks
-returns-in-Err-clause-locks g c n = none_noted n c.args.now Done c.args.events.now.items c.args.cache.now.held c.take_found.new.self.held c.args.lock.now.table c.take_found.new.lock.table c.requires.none (ap (λ (z : Request). z.held) c.in-Err.ensures.same_request) c.in-Err.ensures.same_table
+returns-in-Err-clause-locks g c n = none_noted n c.args.now Done c.args.events.now.items c.args.cache.now.held c.take_found.new.self.held c.args.lock.now.table c.take_found.new.lock.table c.requires.none (ap (λ (z : Request). z.held) c.in-Err.ensures.takes.same_request) c.in-Err.ensures.takes.same_table
 
 pub returns-in-Ok-asked-clause-locks : goal.returns-in-Ok-asked-clause-locks
 returns-in-Ok-asked-clause-locks g c n =
@@ -110,8 +110,8 @@ returns-in-Ok-asked-clause-locks g c n =
     let s = c.args.status in
     let a = c.in-Ok-asked.asked in
     let given = subst (λ (o : Result (Option AskedLock) ErrorType). IfOk o (λ q. q ≡ asked_by_found s t x)) c.in-Ok-asked.is c.in-Ok.ensures.asked in
-    let now = subst (λ (o : Result (Option AskedLock) ErrorType). OnOk o (c.take_found.new.self ≡ found_row s c.args.pair.0 h t x)) c.in-Ok-asked.is c.in-Ok.ensures.request in
-    let table = subst (λ (o : Result (Option AskedLock) ErrorType). OnOk o (c.take_found.new.lock.table ≡ table_found s c.args.now x t)) c.in-Ok-asked.is c.in-Ok.ensures.table in
+    let now = subst (λ (o : Result (Option AskedLock) ErrorType). OnOk o (c.take_found.new.self ≡ found_row s c.args.pair.0 h t x)) c.in-Ok-asked.is c.in-Ok.ensures.takes.request in
+    let table = subst (λ (o : Result (Option AskedLock) ErrorType). OnOk o (c.take_found.new.lock.table ≡ table_found s c.args.now x t)) c.in-Ok-asked.is c.in-Ok.ensures.takes.table in
     taken-locks n c.args.now Done s t c.take_found.new.lock.table x c.take_found.new.self c.in-Some.key.now c.args.pair.0 h c.slot-slot.result a c.note_lock-kind.new.events.items name c.slot-slot.ensures given now table
     (c.note_lock-kind.ensures.events ∙ ap (λ es. es ++ asking c.slot-slot.result a) (c.note_access.ensures.events ∙ (λ i. c.requires.none i ++ (ap noting c.in-Ok.ensures.access ∙ noted-access s c.in-Some.key.now h x name) i)))
 
@@ -124,7 +124,7 @@ returns-in-Err-asked-clause-answers g c =
     let h = reader_of c.args.pair.1 in
     let name = sym c.in-Some.ensures.value in
     let noted : c.note_access.new.events.items ≡ accesses s key h x = c.note_access.ensures.events ∙ (λ i. c.requires.none i ++ (ap noting c.in-Ok.ensures.access ∙ noted-access s key h x name) i) in
-    let kind = subst (λ (o : Result (Option AskedLock) ErrorType). IfErr o (λ e. MayFailLock t e)) c.in-Err-asked.is c.in-Ok.ensures.unlocked_kind in
-    let numbers = subst (λ (o : Result (Option AskedLock) ErrorType). IfErr o (λ e. e ≡ NumbersExhausted → IsTrue (asks_for_hit s x))) c.in-Err-asked.is c.in-Ok.ensures.unlocked_numbers in
+    let kind = subst (λ (o : Result (Option AskedLock) ErrorType). IfErr o (λ e. MayFailLock t e)) c.in-Err-asked.is c.in-Ok.ensures.takes.kind in
+    let numbers = subst (λ (o : Result (Option AskedLock) ErrorType). IfErr o (λ e. e ≡ NumbersExhausted → IsTrue (asks_for_hit s x))) c.in-Err-asked.is c.in-Ok.ensures.takes.numbers in
     let refusal = lock-refused c.args.store.now.state t x (asks_for_hit s x) c.in-Err-asked.refused kind numbers in
     inr (key, name, inl (c.in-Err-asked.refused, refusal, ap R.Refused c.etype-in-Err-asked.ensures, noted))

@@ -27,11 +27,11 @@ returns-clause-moves g c =
     (subst (λ (y : Request). Moves limits (Some (held_with c.request.inside.carried pair r)) s m events (Some (held_with c.request.inside.carried pair y)) u n) (sym c.expire.ensures.same)
     (elim c.match-expire.branch [
       | in-Ok w ↦
-          subst (λ t. Moves limits (Some (held_with c.request.inside.carried pair r)) s m events (Some (held_with c.request.inside.carried pair r)) u t) (sym (expire-tracks s r.uses.eviction r.key m n w.in-Ok.ensures.tracked))
-          (expires (held_with c.request.inside.carried pair r) s u c.slot-slot.result (slot k) c.args.now c.args.events.now.items events c.slot-slot.ensures c.requires.none (ap (λ v. v.items) w.events-is ∙ w.push_reserved.ensures.items) (expire-store s u r.key k c.args.now key w.in-Ok.ensures.store) limits m)
+          subst (λ t. Moves limits (Some (held_with c.request.inside.carried pair r)) s m events (Some (held_with c.request.inside.carried pair r)) u t) (sym (expire-tracks s r.uses.eviction r.key m n w.in-Ok.ensures.expires.tracked))
+          (expires (held_with c.request.inside.carried pair r) s u c.slot-slot.result (slot k) c.args.now c.args.events.now.items events c.slot-slot.ensures c.requires.none (ap (λ v. v.items) w.events-is ∙ w.push_reserved.ensures.items) (expire-store s u r.key k c.args.now key w.in-Ok.ensures.expires.store) limits m)
       | in-Err w ↦
-          subst (λ t. Moves limits (Some (held_with c.request.inside.carried pair r)) s m events (Some (held_with c.request.inside.carried pair r)) u t) (sym w.in-Err.ensures.same_tracked)
-          (idle (Some (held_with c.request.inside.carried pair r)) (Some (held_with c.request.inside.carried pair r)) s u events (ap (λ v. v.items) w.events-is ∙ c.requires.none) refl w.in-Err.ensures.same_store limits m)
+          subst (λ t. Moves limits (Some (held_with c.request.inside.carried pair r)) s m events (Some (held_with c.request.inside.carried pair r)) u t) (sym w.in-Err.ensures.expires.same_tracked)
+          (idle (Some (held_with c.request.inside.carried pair r)) (Some (held_with c.request.inside.carried pair r)) s u events (ap (λ v. v.items) w.events-is ∙ c.requires.none) refl w.in-Err.ensures.expires.same_store limits m)
     ])))
 
 pub returns-clause-locks : goal.returns-clause-locks

@@ -29,10 +29,10 @@ returns-clause-moves g c world =
       | in-Ok w ↦
           let is = purge-events s r.uses.eviction r.key k key c.slot-slot.result w.in-Ok.removal.outcome w.in-Ok.removal.untracked c.args.events.now.items events c.slot-slot.ensures w.in-Ok.ensures.outcome w.in-Ok.ensures.untracked c.requires.none
           (ap (λ v. v.items) w.events-is ∙ w.note_removal.ensures.events) in
-          purges (held_with c.request.inside.carried pair r) s u m n limits k (number_for s r.key) (goes s r.uses.eviction r.key k key) events is (purge-store s r.uses.eviction r.key k key u w.in-Ok.ensures.store) (purge-untracks s r.uses.eviction r.key k key m n w.in-Ok.ensures.tracked)
+          purges (held_with c.request.inside.carried pair r) s u m n limits k (number_for s r.key) (goes s r.uses.eviction r.key k key) events is (purge-store s r.uses.eviction r.key k key u w.in-Ok.ensures.purges.store) (purge-untracks s r.uses.eviction r.key k key m n w.in-Ok.ensures.purges.tracked)
       | in-Err w ↦
-          subst (λ t. Moves limits (Some (held_with c.request.inside.carried pair r)) s m events (Some (held_with c.request.inside.carried pair r)) u t) (sym w.in-Err.ensures.same_tracked)
-          (idle (Some (held_with c.request.inside.carried pair r)) (Some (held_with c.request.inside.carried pair r)) s u events (ap (λ v. v.items) w.events-is ∙ c.requires.none) refl w.in-Err.ensures.same_store limits m)
+          subst (λ t. Moves limits (Some (held_with c.request.inside.carried pair r)) s m events (Some (held_with c.request.inside.carried pair r)) u t) (sym w.in-Err.ensures.purges.same_tracked)
+          (idle (Some (held_with c.request.inside.carried pair r)) (Some (held_with c.request.inside.carried pair r)) s u events (ap (λ v. v.items) w.events-is ∙ c.requires.none) refl w.in-Err.ensures.purges.same_store limits m)
     ])))
 
 pub returns-clause-locks : goal.returns-clause-locks

@@ -25,14 +25,14 @@ returns-clause-moves c =
     subst (λ (x : Ongoing). MovesStore (Some x) c.args.store.now.state events (Some (held_with None now new)) c.disable-released.new.storage.state) c.request.view_is
     (switches-off (held_with c.request.inside.carried pair r) (held_with None now new) c.args.store.now.state c.disable-released.new.storage.state c.write_number-dropped.result c.permit_in.result c.args.events.now.items events
     c.write_number-dropped.ensures.write c.requires.none c.note_shut.ensures (ap (option_map (λ p. (p.0, reader_of p.1))) c.hold.ensures.place)
-    c.disable-released.ensures.held.1 c.disable-released.ensures.held.2 (c.disable-released.ensures.store ∙ ap (λ s. left_by r.reader (dropped_by r.write s)) c.hold.ensures.store))
+    c.disable-released.ensures.disables.held.1 c.disable-released.ensures.disables.held.2 (c.disable-released.ensures.disables.gives.store ∙ ap (λ s. left_by r.reader (dropped_by r.write s)) c.hold.ensures.store))
 
 pub returns-clause-answers : goal.returns-clause-answers
 returns-clause-answers c =
     let r : Request = c.request.inside.cache in
     let events = c.note_shut.new.events.items in
     let may : MayDisable c.args.reason r = search rules in
-    let permit : c.permit_in.result ≡ permit_of r.held = c.permit_in.ensures ∙ ap permit_in c.disable-released.ensures.released ∙ permit-named r.held in
+    let permit : c.permit_in.result ≡ permit_of r.held = c.permit_in.ensures ∙ ap permit_in c.disable-released.ensures.disables.released ∙ permit-named r.held in
     let is : events ≡ release_of r.held ++ drop_of r.write = c.note_shut.ensures ∙ (λ i. c.requires.none i ++ each E.Release (permit i) ++ drop_of (c.write_number-dropped.ensures.write i)) in
     subst (λ (x : Ongoing). FollowsRule no_facts (C.Request (Q.Disable c.args.reason)) (Some x) replies.Done events) c.request.view_is (inl (may, tt, (refl, is)))
 
@@ -41,6 +41,6 @@ returns-clause-locks c n =
     let r : Request = c.request.inside.cache in
     let s = status_for (λ text. GiveUp) c.args.reason in
     let all = c.note_shut.new.events.items in
-    let permit : c.permit_in.result ≡ permit_of r.held = c.permit_in.ensures ∙ ap permit_in c.disable-released.ensures.released ∙ permit-named r.held in
+    let permit : c.permit_in.result ≡ permit_of r.held = c.permit_in.ensures ∙ ap permit_in c.disable-released.ensures.disables.released ∙ permit-named r.held in
     subst (λ (x : Ongoing). MovesLocks n (deeds_by n 0 s all) x.request.held c.args.lock.now.table c.disable-released.new.self.held c.disable-released.new.lock.table) c.request.view_is
-    (settle-then n 0 s c.args.lock.now.table c.disable-released.new.lock.table r.held c.disable-released.new.self.held c.permit_in.result c.write_number-dropped.result c.args.events.now.items all (status-reason c.args.reason) permit c.requires.none c.note_shut.ensures c.disable-released.ensures.held.0 c.disable-released.ensures.table)
+    (settle-then n 0 s c.args.lock.now.table c.disable-released.new.lock.table r.held c.disable-released.new.self.held c.permit_in.result c.write_number-dropped.result c.args.events.now.items all (status-reason c.args.reason) permit c.requires.none c.note_shut.ensures c.disable-released.ensures.disables.held.0 c.disable-released.ensures.disables.settles.table)

@@ -18,7 +18,7 @@ returns-clause-moves c s =
     let all = c.note_release.new.events.items in
     subst (λ (x : Ongoing). MovesStore (Some x) s all (Some (held_with d pair c.update_variance-released.new.self)) s) c.request.view_is
     (turns-quietly (held_with d pair r) (held_with d pair c.update_variance-released.new.self) s all (quiet-noted Release o old all (λ n. tt) c.requires.none c.note_release.ensures.events)
-    refl (ap (λ (y : Request). y.reader) c.update_variance-released.ensures.request) (ap (λ (y : Request). y.write) c.update_variance-released.ensures.request))
+    refl (ap (λ (y : Request). y.reader) c.update_variance-released.ensures.varies.request) (ap (λ (y : Request). y.write) c.update_variance-released.ensures.varies.request))
 
 pub returns-clause-locks : goal.returns-clause-locks
 returns-clause-locks c n =
@@ -26,5 +26,5 @@ returns-clause-locks c n =
     let all = c.note_release.new.events.items in
     let b = leaves_variant c.args.variance r.key in
     subst (λ (x : Ongoing). MovesLocks n (deeds_by n 0 Done all) x.request.held c.args.lock.now.table c.update_variance-released.new.self.held c.update_variance-released.new.lock.table) c.request.view_is
-    (varied-locks n 0 Done c.args.lock.now.table c.update_variance-released.new.lock.table b r.held c.update_variance-released.new.self.held c.permit_in.result c.args.events.now.items all tt (c.permit_in.ensures ∙ ap permit_in c.update_variance-released.ensures.released) c.requires.none c.note_release.ensures.events
-    (ap (λ (y : Request). y.held) c.update_variance-released.ensures.request) c.update_variance-released.ensures.table)
+    (varied-locks n 0 Done c.args.lock.now.table c.update_variance-released.new.lock.table b r.held c.update_variance-released.new.self.held c.permit_in.result c.args.events.now.items all tt (c.permit_in.ensures ∙ ap permit_in c.update_variance-released.ensures.varies.released) c.requires.none c.note_release.ensures.events
+    (ap (λ (y : Request). y.held) c.update_variance-released.ensures.varies.request) c.update_variance-released.ensures.varies.table)

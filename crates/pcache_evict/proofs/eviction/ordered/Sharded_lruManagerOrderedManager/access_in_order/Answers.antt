@@ -1,6 +1,4 @@
-use Rattle.std.proofs.Common.{◌∙◌, sym, ap, is_some}
-use Rattle.pcache_evict.specs.Listed.{map_of}
-use Rattle.pcache_evict.specs.Shards.{all}
+use Rattle.pcache_evict.proofs.Words.{◌∙◌, sym, ap, is_some, map_of, all}
 use Rattle.pcache_evict.proofs.ShardMaps.{map-accessed-in, found-map}
 use Rattle.pcache_evict.proofs.eviction.ordered.Sharded_lruManagerOrderedManager.access_in_order.Goals as goal
 

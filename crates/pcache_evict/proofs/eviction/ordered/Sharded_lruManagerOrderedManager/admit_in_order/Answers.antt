@@ -1,5 +1,4 @@
-use Rattle.std.proofs.Common.{◌∙◌, ap, subst}
-use Rattle.pcache_evict.specs.Tracked.{IsFair, without, evicted_with}
+use Rattle.pcache_evict.proofs.Words.{◌∙◌, ap, subst, IsFair, without, evicted_with}
 use Rattle.pcache_evict.proofs.ShardMaps.{run-of, run-evicted, map-moved-in}
 use Rattle.pcache_evict.proofs.eviction.ordered.Sharded_lruManagerOrderedManager.admit_in_order.Goals as goal
 

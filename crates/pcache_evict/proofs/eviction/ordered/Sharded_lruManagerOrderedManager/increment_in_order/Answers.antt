@@ -1,6 +1,4 @@
-use Rattle.std.proofs.Common.{◌∙◌, ap, subst, sym, is_some}
-use Rattle.pcache_evict.specs.Tracked.{IsFair, IsWithin, without, evicted_with}
-use Rattle.pcache_evict.specs.Shards.{all, in_shard, grown}
+use Rattle.pcache_evict.proofs.Words.{◌∙◌, ap, subst, sym, is_some, IsFair, IsWithin, without, evicted_with, all, in_shard, grown}
 use Rattle.pcache_evict.proofs.Maps.{inside}
 use Rattle.pcache_evict.proofs.ShardMaps.{run-of, run-evicted, map-grown-in, found-map, once-grown}
 use Rattle.pcache_evict.proofs.eviction.ordered.Sharded_lruManagerOrderedManager.increment_in_order.Goals as goal

@@ -1,6 +1,4 @@
-use Rattle.std.proofs.Common.{◌∙◌, ap}
-use Rattle.pcache_evict.specs.Listed.{map_of}
-use Rattle.pcache_evict.specs.Shards.{all}
+use Rattle.pcache_evict.proofs.Words.{◌∙◌, ap, map_of, all}
 use Rattle.pcache_evict.proofs.ShardMaps.{map-others-in}
 use Rattle.pcache_evict.proofs.eviction.ordered.Sharded_lruManagerOrderedManager.remove_in_order.Goals as goal
 

@@ -1,5 +1,4 @@
-use Rattle.std.proofs.Common.{◌∙◌, sym, ap, is_some}
-use Rattle.pcache_evict.specs.Listed.{map_of}
+use Rattle.pcache_evict.proofs.Words.{◌∙◌, sym, ap, is_some, map_of}
 use Rattle.pcache_evict.proofs.Maps.{map-accessed, get-map_of}
 use Rattle.pcache_evict.proofs.eviction.ordered.Simple_lruManagerOrderedManager.access_in_order.Goals as goal
 

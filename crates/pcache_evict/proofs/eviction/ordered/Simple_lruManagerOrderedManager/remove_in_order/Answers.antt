@@ -1,5 +1,4 @@
-use Rattle.std.proofs.Common.{◌∙◌, ap}
-use Rattle.pcache_evict.specs.Listed.{map_of}
+use Rattle.pcache_evict.proofs.Words.{◌∙◌, ap, map_of}
 use Rattle.pcache_evict.proofs.Maps.{map-others}
 use Rattle.pcache_evict.proofs.eviction.ordered.Simple_lruManagerOrderedManager.remove_in_order.Goals as goal
 

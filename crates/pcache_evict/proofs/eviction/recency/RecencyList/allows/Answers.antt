@@ -1,7 +1,5 @@
-use Rattle.std.proofs.Common.{◌≡◌, ◌∙◌, ap, arith, length}
-use Rattle.std.proofs.lemmas.Bool.{not-true}
-use Rattle.pcache_evict.specs.declared.eviction.policy.EvictionPolicy.TheVariants.{Lru}
-use Rattle.pcache_evict.specs.Recency.{Recency, weight}
+use Rattle.pcache_evict.specs.Recency.{weight}
+use Rattle.pcache_evict.proofs.Words.{◌≡◌, ◌∙◌, ap, arith, length, not-true, Lru, Recency}
 use Rattle.pcache_evict.proofs.Recency.{weight_bound}
 use Rattle.pcache_evict.proofs.Chains.{small_inside}
 use Rattle.pcache_evict.proofs.eviction.recency.RecencyList.allows.Goals as goal

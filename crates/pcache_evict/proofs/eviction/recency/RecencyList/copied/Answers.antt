@@ -1,5 +1,4 @@
-use Rattle.std.proofs.Common.{◌∙◌, ap}
-use Rattle.pcache_evict.specs.Recency.{moved}
+use Rattle.pcache_evict.proofs.Words.{◌∙◌, ap, moved}
 use Rattle.pcache_evict.proofs.Cuts.{copied-more}
 use Rattle.pcache_evict.proofs.eviction.recency.RecencyList.copied.Goals as goal
 

@@ -1,4 +1,4 @@
-use Rattle.std.proofs.Common.{◌≡◌, ◌++◌, length}
+use Rattle.pcache_evict.proofs.Words.{◌≡◌, ◌++◌, length}
 use Rattle.pcache_evict.proofs.eviction.recency.RecencyList.copied.Given as goal
 
 abbrev pub invariant-loop-key : goal.invariant-loop-key

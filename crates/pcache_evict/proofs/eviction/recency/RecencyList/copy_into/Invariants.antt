@@ -1,4 +1,4 @@
-use Rattle.std.proofs.Common.{◌≡◌, ◌++◌}
+use Rattle.pcache_evict.proofs.Words.{◌≡◌, ◌++◌}
 use Rattle.pcache_evict.proofs.eviction.recency.RecencyList.copy_into.Given as goal
 
 abbrev pub invariant-loop-key : goal.invariant-loop-key

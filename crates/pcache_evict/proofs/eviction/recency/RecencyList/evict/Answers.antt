@@ -1,6 +1,4 @@
-use Rattle.std.proofs.Common.{◌∙◌, sym, subst, refl, arith}
-use Rattle.pcache_evict.specs.declared.eviction.policy.EvictionPolicy.TheVariants.{Lru}
-use Rattle.pcache_evict.specs.Tracked.{limits_of}
+use Rattle.pcache_evict.proofs.Words.{◌∙◌, sym, subst, refl, arith, Lru, limits_of}
 use Rattle.pcache_evict.proofs.Walks.{Pops, pops-more, pops-room}
 use Rattle.pcache_evict.proofs.eviction.recency.RecencyList.evict.Goals as goal
 

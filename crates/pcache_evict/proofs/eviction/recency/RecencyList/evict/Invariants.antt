@@ -1,7 +1,4 @@
-use Rattle.std.proofs.Common.{◌≡◌, length}
-use Rattle.std.specs.Vec.{vec_capacity}
-use Rattle.pcache_evict.specs.declared.eviction.policy.EvictionPolicy.TheVariants.{Lru}
-use Rattle.pcache_evict.specs.Tracked.{limits_of}
+use Rattle.pcache_evict.proofs.Words.{◌≡◌, length, vec_capacity, Lru, limits_of}
 use Rattle.pcache_evict.proofs.Walks.{Pops}
 use Rattle.pcache_evict.proofs.eviction.recency.RecencyList.evict.Given as goal
 

@@ -1,7 +1,4 @@
-use Rattle.std.proofs.Common.{arith}
-use Rattle.std.proofs.lemmas.Bool.{not-true, not-false}
-use Rattle.pcache_evict.specs.declared.eviction.policy.EvictionPolicy.TheVariants.{Lru}
-use Rattle.pcache_evict.specs.Recency.{moved}
+use Rattle.pcache_evict.proofs.Words.{arith, not-true, not-false, Lru, moved}
 use Rattle.pcache_evict.proofs.Recency.{weight-moved}
 use Rattle.pcache_evict.proofs.eviction.recency.RecencyList.fits.Goals as goal
 

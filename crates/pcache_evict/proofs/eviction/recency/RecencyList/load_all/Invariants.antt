@@ -1,5 +1,5 @@
-use Rattle.std.proofs.Common.{◌≡◌}
 use Rattle.pcache_evict.specs.Recency.{loaded_all}
+use Rattle.pcache_evict.proofs.Words.{◌≡◌}
 use Rattle.pcache_evict.proofs.eviction.recency.RecencyList.load_all.Given as goal
 
 abbrev pub invariant-loop-item : goal.invariant-loop-item

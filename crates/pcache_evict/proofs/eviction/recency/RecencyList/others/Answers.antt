@@ -1,6 +1,5 @@
-use Rattle.std.proofs.Common.{◌≡◌, ℕ, ◌∙◌, ap, sym, subst, arith, Some, None, is_some, cond, unwrap_or, length}
-use Rattle.pcache_evict.specs.Recency.{Recency, weight, weight_of}
-use Rattle.pcache_evict.specs.Listed.{IsOnce}
+use Rattle.pcache_evict.specs.Recency.{weight}
+use Rattle.pcache_evict.proofs.Words.{◌≡◌, ℕ, ◌∙◌, ap, sym, subst, arith, Some, None, is_some, cond, unwrap_or, length, Recency, weight_of, IsOnce}
 use Rattle.pcache_evict.proofs.Recency.{weight-others, length-others, weight_bound, others-none}
 use Rattle.pcache_evict.proofs.eviction.recency.RecencyList.others.Goals as goal
 

@@ -1,4 +1,4 @@
-use Rattle.std.proofs.Common.{◌∙◌, sym}
+use Rattle.pcache_evict.proofs.Words.{◌∙◌, sym}
 use Rattle.pcache_evict.proofs.Recency.{kept-popped, front_of}
 use Rattle.pcache_evict.proofs.eviction.recency.RecencyList.pop_last.Goals as goal
 

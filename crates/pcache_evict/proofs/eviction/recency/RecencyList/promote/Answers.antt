@@ -1,6 +1,4 @@
-use Rattle.std.proofs.Common.{◌≡◌, ◌∙◌, sym, subst, ap, arith}
-use Rattle.std.specs.Prelude.{IfSome}
-use Rattle.pcache_evict.specs.Recency.{weight_of, moved}
+use Rattle.pcache_evict.proofs.Words.{◌≡◌, ◌∙◌, sym, subst, ap, arith, IfSome, weight_of, moved}
 use Rattle.pcache_evict.proofs.Recency.{kept-promoted}
 use Rattle.pcache_evict.proofs.eviction.recency.RecencyList.promote.Goals as goal
 

@@ -1,6 +1,4 @@
-use Rattle.std.proofs.Common.{◌∙◌, ap, arith}
-use Rattle.lru.specs.LruCache.{lru_cache, demoted}
-use Rattle.pcache_evict.specs.Entry.{entry_eq}
+use Rattle.pcache_evict.proofs.Words.{◌∙◌, ap, arith, lru_cache, demoted, entry_eq}
 use Rattle.pcache_evict.proofs.Recency.{kept-last}
 use Rattle.pcache_evict.proofs.eviction.recency.RecencyList.push_last.Goals as goal
 

@@ -1,6 +1,4 @@
-use Rattle.std.proofs.Common.{◌∙◌, ap, subst, sym, arith, ◌+◌, ◌-◌, unwrap_or}
-use Rattle.pcache_evict.specs.Recency.{moved}
-use Rattle.pcache_evict.specs.Listed.{IsKept}
+use Rattle.pcache_evict.proofs.Words.{◌∙◌, ap, subst, sym, arith, ◌+◌, ◌-◌, unwrap_or, moved, IsKept}
 use Rattle.pcache_evict.proofs.Recency.{kept-moved, weight_bound}
 use Rattle.pcache_evict.proofs.Raised.{left_over}
 use Rattle.pcache_evict.proofs.eviction.recency.RecencyList.put.Goals as goal

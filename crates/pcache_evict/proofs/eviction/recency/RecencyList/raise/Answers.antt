@@ -1,7 +1,4 @@
-use Rattle.std.proofs.Common.{◌∙◌, ap, subst, sym, arith, ◌+◌, ◌-◌, unwrap_or}
-use Rattle.pcache_evict.specs.Tracked.{raised}
-use Rattle.pcache_evict.specs.Recency.{weight_of, moved}
-use Rattle.pcache_evict.specs.Listed.{IsKept}
+use Rattle.pcache_evict.proofs.Words.{◌∙◌, ap, subst, sym, arith, ◌+◌, ◌-◌, unwrap_or, raised, weight_of, moved, IsKept}
 use Rattle.pcache_evict.proofs.Recency.{kept-moved, weight_bound}
 use Rattle.pcache_evict.proofs.Raised.{left_over}
 use Rattle.pcache_evict.proofs.eviction.recency.RecencyList.raise.Goals as goal

@@ -1,6 +1,4 @@
-use Rattle.std.proofs.Common.{◌∙◌, ◌-◌, ap, subst, sym, arith, unwrap_or}
-use Rattle.pcache_evict.specs.Recency.{others}
-use Rattle.pcache_evict.specs.Listed.{IsKept}
+use Rattle.pcache_evict.proofs.Words.{◌∙◌, ◌-◌, ap, subst, sym, arith, unwrap_or, others, IsKept}
 use Rattle.pcache_evict.proofs.Recency.{kept-others}
 use Rattle.pcache_evict.proofs.Raised.{left_over}
 use Rattle.pcache_evict.proofs.eviction.recency.RecencyList.remove.Goals as goal

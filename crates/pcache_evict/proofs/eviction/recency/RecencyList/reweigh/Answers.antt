@@ -1,6 +1,5 @@
-use Rattle.std.proofs.Common.{◌∙◌, ap, subst, sym, arith, ◌+◌}
-use Rattle.pcache_evict.specs.Recency.{weight, others, moved}
-use Rattle.pcache_evict.specs.Listed.{IsKept}
+use Rattle.pcache_evict.specs.Recency.{weight}
+use Rattle.pcache_evict.proofs.Words.{◌∙◌, ap, subst, sym, arith, ◌+◌, others, moved, IsKept}
 use Rattle.pcache_evict.proofs.Recency.{kept-moved}
 use Rattle.pcache_evict.proofs.eviction.recency.RecencyList.reweigh.Goals as goal
 

@@ -1,7 +1,5 @@
-use Rattle.std.proofs.Common.{◌∙◌, ap, subst, sym, arith, ◌+◌}
-use Rattle.std.specs.Prelude.{IsSome}
-use Rattle.pcache_evict.specs.Recency.{weight, weight_of, others}
-use Rattle.pcache_evict.specs.Listed.{IsKept}
+use Rattle.pcache_evict.specs.Recency.{weight}
+use Rattle.pcache_evict.proofs.Words.{◌∙◌, ap, subst, sym, arith, ◌+◌, IsSome, weight_of, others, IsKept}
 use Rattle.pcache_evict.proofs.Reweighs.{kept-reweighed}
 use Rattle.pcache_evict.proofs.eviction.recency.RecencyList.reweigh_in_place.Goals as goal
 

@@ -1,7 +1,5 @@
-use Rattle.std.proofs.Common.{◌≡◌, ap, subst, ◌∙◌, refl, arith, length}
-use Rattle.pcache_evict.specs.declared.eviction.policy.EvictionPolicy.TheVariants.{Lru}
-use Rattle.pcache_evict.specs.Recency.{Recency, weight}
-use Rattle.pcache_evict.specs.Listed.{IsOnce}
+use Rattle.pcache_evict.specs.Recency.{weight}
+use Rattle.pcache_evict.proofs.Words.{◌≡◌, ap, subst, ◌∙◌, refl, arith, length, Lru, Recency, IsOnce}
 use Rattle.pcache_evict.proofs.Recency.{weight_bound, weight-others, length-others}
 use Rattle.pcache_evict.proofs.Chains.{enough_above}
 use Rattle.pcache_evict.proofs.eviction.recency.RecencyList.room_at_most.Goals as goal

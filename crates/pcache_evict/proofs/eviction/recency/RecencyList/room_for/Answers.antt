@@ -1,5 +1,4 @@
-use Rattle.std.proofs.Common.{refl}
-use Rattle.pcache_evict.specs.declared.eviction.policy.EvictionPolicy.TheVariants.{Lru}
+use Rattle.pcache_evict.proofs.Words.{refl, Lru}
 use Rattle.pcache_evict.proofs.Walks.{walks-inside, walks-enough}
 use Rattle.pcache_evict.proofs.eviction.recency.RecencyList.room_for.Goals as goal
 

@@ -1,4 +1,4 @@
-use Rattle.std.proofs.Common.{length}
+use Rattle.pcache_evict.proofs.Words.{length}
 use Rattle.pcache_evict.proofs.Walks.{Walks}
 use Rattle.pcache_evict.proofs.eviction.recency.RecencyList.room_for.Given as goal
 

@@ -1,6 +1,6 @@
-use Rattle.std.proofs.Common.{[], ◌∙◌, ap, sym, arith, length, refl}
 use Rattle.std.proofs.lemmas.List.{append-nil}
-use Rattle.pcache_evict.specs.Recency.{Recency, weight, others}
+use Rattle.pcache_evict.specs.Recency.{weight}
+use Rattle.pcache_evict.proofs.Words.{[], ◌∙◌, ap, sym, arith, length, refl, Recency, others}
 use Rattle.pcache_evict.proofs.Chains.{walk-ends}
 use Rattle.pcache_evict.proofs.eviction.recency.RecencyList.walk.Goals as goal
 

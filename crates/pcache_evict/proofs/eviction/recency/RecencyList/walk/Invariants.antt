@@ -1,4 +1,4 @@
-use Rattle.std.proofs.Common.{length}
+use Rattle.pcache_evict.proofs.Words.{length}
 use Rattle.pcache_evict.proofs.Walks.{Walking}
 use Rattle.pcache_evict.proofs.eviction.recency.RecencyList.walk.Given as goal
 

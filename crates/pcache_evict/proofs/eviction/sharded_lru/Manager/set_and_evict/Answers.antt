@@ -1,8 +1,4 @@
-use Rattle.std.proofs.Common.{arith, subst, sym}
-use Rattle.pcache_evict.specs.declared.eviction.policy.EvictionPolicy.TheVariants.{ShardedLru}
-use Rattle.pcache_evict.specs.Tracked.{limits_of}
-use Rattle.pcache_evict.specs.Recency.{IsWithinAsList}
-use Rattle.pcache_evict.specs.Shards.{ArePlaced, all}
+use Rattle.pcache_evict.proofs.Words.{arith, subst, sym, ShardedLru, limits_of, IsWithinAsList, ArePlaced, all}
 use Rattle.pcache_evict.proofs.Sharded.{placed-reweighed}
 use Rattle.pcache_evict.proofs.Chains.{enough-now}
 use Rattle.pcache_evict.proofs.eviction.sharded_lru.Manager.set_and_evict.Goals as goal

@@ -1,5 +1,4 @@
-use Rattle.std.proofs.Common.{refl, ◌∙◌, ap, subst}
-use Rattle.pcache_evict.specs.Tracked.{IsFair, without, evicted_with}
+use Rattle.pcache_evict.proofs.Words.{refl, ◌∙◌, ap, subst, IsFair, without, evicted_with}
 use Rattle.pcache_evict.proofs.ShardMaps.{run-of, run-evicted, map-moved-in}
 use Rattle.pcache_evict.proofs.eviction.sharded_lru.ManagerEvictionManager.admit.Goals as goal
 

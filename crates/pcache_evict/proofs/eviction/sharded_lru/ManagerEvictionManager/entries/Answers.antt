@@ -1,5 +1,4 @@
-use Rattle.std.proofs.Common.{sym, subst}
-use Rattle.pcache_evict.specs.Listed.{IsOnce}
+use Rattle.pcache_evict.proofs.Words.{sym, subst, IsOnce}
 use Rattle.pcache_evict.proofs.Sharded.{once-all}
 use Rattle.pcache_evict.proofs.eviction.sharded_lru.ManagerEvictionManager.entries.Goals as goal
 

@@ -1,4 +1,4 @@
-use Rattle.std.proofs.Common.{◌∙◌, sym, ap, is_some}
+use Rattle.pcache_evict.proofs.Words.{◌∙◌, sym, ap, is_some}
 use Rattle.pcache_evict.proofs.ShardMaps.{found-map}
 use Rattle.pcache_evict.proofs.eviction.sharded_lru.ManagerEvictionManager.peek.Goals as goal
 

@@ -1,6 +1,4 @@
-use Rattle.std.proofs.Common.{refl, ◌∙◌, ap}
-use Rattle.pcache_evict.specs.Listed.{map_of}
-use Rattle.pcache_evict.specs.Shards.{all}
+use Rattle.pcache_evict.proofs.Words.{refl, ◌∙◌, ap, map_of, all}
 use Rattle.pcache_evict.proofs.ShardMaps.{map-others-in}
 use Rattle.pcache_evict.proofs.eviction.sharded_lru.ManagerEvictionManager.remove.Goals as goal
 

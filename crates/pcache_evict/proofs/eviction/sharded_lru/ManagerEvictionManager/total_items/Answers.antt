@@ -1,5 +1,4 @@
-use Rattle.std.proofs.Common.{◌∙◌, sym}
-use Rattle.pcache_evict.specs.Shards.{all}
+use Rattle.pcache_evict.proofs.Words.{◌∙◌, sym, all}
 use Rattle.pcache_evict.proofs.Maps.{len-map_of}
 use Rattle.pcache_evict.proofs.Sharded.{once-all}
 use Rattle.pcache_evict.proofs.eviction.sharded_lru.ManagerEvictionManager.total_items.Goals as goal

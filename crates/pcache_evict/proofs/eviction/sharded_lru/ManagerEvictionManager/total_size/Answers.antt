@@ -1,5 +1,4 @@
-use Rattle.std.proofs.Common.{◌∙◌, sym, ap, min, ◌^◌, ◌-◌}
-use Rattle.pcache_evict.specs.Shards.{all}
+use Rattle.pcache_evict.proofs.Words.{◌∙◌, sym, ap, min, ◌^◌, ◌-◌, all}
 use Rattle.pcache_evict.proofs.Maps.{weight-map_of}
 use Rattle.pcache_evict.proofs.Sharded.{once-all}
 use Rattle.pcache_evict.proofs.eviction.sharded_lru.ManagerEvictionManager.total_size.Goals as goal

@@ -1,6 +1,4 @@
-use Rattle.std.proofs.Common.{List}
-use Rattle.pcache_evict.specs.Recency.{Recency}
-use Rattle.pcache_evict.specs.Shards.{AreLengths, AreLonger}
+use Rattle.pcache_evict.proofs.Words.{List, Recency, AreLengths, AreLonger}
 use Rattle.pcache_evict.proofs.Cuts.{IsCut}
 use Rattle.pcache_evict.proofs.eviction.shards.RecencyShards.cut.Given as goal
 

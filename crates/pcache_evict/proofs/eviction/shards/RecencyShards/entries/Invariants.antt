@@ -1,5 +1,5 @@
-use Rattle.std.proofs.Common.{◌≡◌, ◌++◌, drop}
-use Rattle.pcache_evict.specs.Shards.{all}
+use Rattle.std.proofs.Common.{drop}
+use Rattle.pcache_evict.proofs.Words.{◌≡◌, ◌++◌, all}
 use Rattle.pcache_evict.proofs.eviction.shards.RecencyShards.entries.Given as goal
 
 abbrev pub invariant-loop-list : goal.invariant-loop-list

@@ -1,8 +1,4 @@
-use Rattle.std.proofs.Common.{◌∙◌, sym, subst, refl, arith}
-use Rattle.pcache_evict.specs.declared.eviction.policy.EvictionPolicy.TheVariants.{ShardedLru}
-use Rattle.pcache_evict.specs.Tracked.{limits_of}
-use Rattle.pcache_evict.specs.Shards.{all}
-use Rattle.pcache_evict.specs.Chain.{chain}
+use Rattle.pcache_evict.proofs.Words.{◌∙◌, sym, subst, refl, arith, ShardedLru, limits_of, all, chain}
 use Rattle.pcache_evict.proofs.Walks.{Pops, pops-more, pops-room}
 use Rattle.pcache_evict.proofs.Chains.{RunsTo, runs-more, runs-done, inside-chain, pop-weight, pop-fewer}
 use Rattle.pcache_evict.proofs.eviction.shards.RecencyShards.evict.Goals as goal

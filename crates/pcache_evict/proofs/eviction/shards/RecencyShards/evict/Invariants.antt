@@ -1,10 +1,5 @@
-use Rattle.std.proofs.Common.{◌≡◌, ◌≤◌, length}
-use Rattle.std.specs.Vec.{vec_capacity}
-use Rattle.pcache_evict.specs.declared.eviction.policy.EvictionPolicy.TheVariants.{ShardedLru}
-use Rattle.pcache_evict.specs.Tracked.{limits_of}
 use Rattle.pcache_evict.specs.Recency.{weight}
-use Rattle.pcache_evict.specs.Shards.{all}
-use Rattle.pcache_evict.specs.Chain.{chain}
+use Rattle.pcache_evict.proofs.Words.{◌≡◌, ◌≤◌, length, vec_capacity, ShardedLru, limits_of, all, chain}
 use Rattle.pcache_evict.proofs.Walks.{Pops}
 use Rattle.pcache_evict.proofs.Chains.{RunsTo}
 use Rattle.pcache_evict.proofs.eviction.shards.RecencyShards.evict.Given as goal

@@ -1,4 +1,4 @@
-use Rattle.std.proofs.Common.{◌∙◌, ap, sym, length}
+use Rattle.pcache_evict.proofs.Words.{◌∙◌, ap, sym, length}
 use Rattle.pcache_evict.proofs.Chains.{turn-behind, turn-upto, turn-none}
 use Rattle.pcache_evict.proofs.eviction.shards.RecencyShards.first_in_turn.Goals as goal
 

@@ -1,5 +1,4 @@
-use Rattle.std.proofs.Common.{◌≡◌, ℕ, ◌<◌, ◌≤◌, []}
-use Rattle.pcache_evict.specs.Shards.{list_at}
+use Rattle.pcache_evict.proofs.Words.{◌≡◌, ℕ, ◌<◌, ◌≤◌, [], list_at}
 use Rattle.pcache_evict.proofs.eviction.shards.RecencyShards.first_of.Given as goal
 
 abbrev pub invariant-loop-place : goal.invariant-loop-place

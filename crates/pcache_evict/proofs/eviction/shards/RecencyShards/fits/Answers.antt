@@ -1,7 +1,4 @@
-use Rattle.std.proofs.Common.{arith, subst}
-use Rattle.std.proofs.lemmas.Bool.{not-true, not-false}
-use Rattle.pcache_evict.specs.declared.eviction.policy.EvictionPolicy.TheVariants.{ShardedLru}
-use Rattle.pcache_evict.specs.Shards.{ArePlaced, all, in_shard, reweighed}
+use Rattle.pcache_evict.proofs.Words.{arith, subst, not-true, not-false, ShardedLru, ArePlaced, all, in_shard, reweighed}
 use Rattle.pcache_evict.proofs.Chains.{set-sums}
 use Rattle.pcache_evict.proofs.eviction.shards.RecencyShards.fits.Goals as goal
 

@@ -1,5 +1,4 @@
-use Rattle.std.proofs.Common.{ap, refl}
-use Rattle.pcache_evict.specs.Shards.{added_last_all}
+use Rattle.pcache_evict.proofs.Words.{ap, refl, added_last_all}
 use Rattle.pcache_evict.proofs.Cuts.{joins-on, longer-start, longer-joined}
 use Rattle.pcache_evict.proofs.eviction.shards.RecencyShards.join_each.Goals as goal
 

@@ -1,5 +1,4 @@
-use Rattle.std.proofs.Common.{◌≡◌}
-use Rattle.pcache_evict.specs.Shards.{AreLonger, added_last_all}
+use Rattle.pcache_evict.proofs.Words.{◌≡◌, AreLonger, added_last_all}
 use Rattle.pcache_evict.proofs.eviction.shards.RecencyShards.join_each.Given as goal
 
 abbrev pub invariant-loop-item : goal.invariant-loop-item

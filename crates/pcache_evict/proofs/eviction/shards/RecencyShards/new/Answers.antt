@@ -1,4 +1,4 @@
-use Rattle.std.proofs.Common.{arith}
+use Rattle.pcache_evict.proofs.Words.{arith}
 use Rattle.pcache_evict.proofs.Sharded.{kept-empty}
 use Rattle.pcache_evict.proofs.eviction.shards.RecencyShards.new.Goals as goal
 

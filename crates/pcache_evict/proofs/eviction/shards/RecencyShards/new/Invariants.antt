@@ -1,5 +1,4 @@
-use Rattle.std.proofs.Common.{◌≡◌}
-use Rattle.pcache_evict.specs.Shards.{no_entries}
+use Rattle.pcache_evict.proofs.Words.{◌≡◌, no_entries}
 use Rattle.pcache_evict.proofs.eviction.shards.RecencyShards.new.Given as goal
 
 abbrev pub invariant-loop-place : goal.invariant-loop-place

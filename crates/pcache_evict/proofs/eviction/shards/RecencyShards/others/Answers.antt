@@ -1,6 +1,4 @@
-use Rattle.std.proofs.Common.{◌≡◌, ℕ, ◌∙◌, ap, arith, Some, None, unwrap_or}
-use Rattle.pcache_evict.specs.Recency.{weight_of}
-use Rattle.pcache_evict.specs.Shards.{list_at}
+use Rattle.pcache_evict.proofs.Words.{◌≡◌, ℕ, ◌∙◌, ap, arith, Some, None, unwrap_or, weight_of, list_at}
 use Rattle.pcache_evict.proofs.Sharded.{rest-kept}
 use Rattle.pcache_evict.proofs.eviction.shards.RecencyShards.others.Goals as goal
 

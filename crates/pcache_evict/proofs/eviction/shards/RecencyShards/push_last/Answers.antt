@@ -1,4 +1,4 @@
-use Rattle.std.proofs.Common.{arith}
+use Rattle.pcache_evict.proofs.Words.{arith}
 use Rattle.pcache_evict.proofs.Sharded.{kept-bound, not-full}
 use Rattle.pcache_evict.proofs.Cuts.{kept-pushed, put-back}
 use Rattle.pcache_evict.proofs.eviction.shards.RecencyShards.push_last.Goals as goal

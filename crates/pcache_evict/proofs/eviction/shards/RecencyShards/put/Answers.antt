@@ -1,4 +1,4 @@
-use Rattle.std.proofs.Common.{arith}
+use Rattle.pcache_evict.proofs.Words.{arith}
 use Rattle.pcache_evict.proofs.Cuts.{put-back}
 use Rattle.pcache_evict.proofs.Sharded.{kept-put-at, not-full}
 use Rattle.pcache_evict.proofs.eviction.shards.RecencyShards.put.Goals as goal

@@ -1,4 +1,4 @@
-use Rattle.std.proofs.Common.{arith}
+use Rattle.pcache_evict.proofs.Words.{arith}
 use Rattle.pcache_evict.proofs.Sharded.{kept-reweighed-at}
 use Rattle.pcache_evict.proofs.eviction.shards.RecencyShards.reweigh.Goals as goal
 

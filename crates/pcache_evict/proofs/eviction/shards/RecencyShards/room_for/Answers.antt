@@ -1,6 +1,4 @@
-use Rattle.std.proofs.Common.{arith, refl, subst, ◌+◌, ◌-◌, ◌≡◌}
-use Rattle.pcache_evict.specs.declared.eviction.policy.EvictionPolicy.TheVariants.{ShardedLru}
-use Rattle.pcache_evict.specs.Shards.{ArePlaced}
+use Rattle.pcache_evict.proofs.Words.{arith, refl, subst, ◌+◌, ◌-◌, ◌≡◌, ShardedLru, ArePlaced}
 use Rattle.pcache_evict.proofs.Chains.{room-none, room-stopped, room-whole, parts-others, second-fits}
 use Rattle.pcache_evict.proofs.eviction.shards.RecencyShards.room_for.Goals as goal
 

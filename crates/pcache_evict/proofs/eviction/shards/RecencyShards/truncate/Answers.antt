@@ -1,5 +1,4 @@
-use Rattle.std.proofs.Common.{ap, arith, length}
-use Rattle.pcache_evict.specs.Recency.{Recency}
+use Rattle.pcache_evict.proofs.Words.{ap, arith, length, Recency}
 use Rattle.pcache_evict.proofs.Cuts.{cut-none, cut-more, cut-done}
 use Rattle.pcache_evict.proofs.eviction.shards.RecencyShards.truncate.Goals as goal
 

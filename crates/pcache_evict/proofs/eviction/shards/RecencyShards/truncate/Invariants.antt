@@ -1,5 +1,4 @@
-use Rattle.std.proofs.Common.{length}
-use Rattle.pcache_evict.specs.Shards.{list_at}
+use Rattle.pcache_evict.proofs.Words.{length, list_at}
 use Rattle.pcache_evict.proofs.Cuts.{CutTo}
 use Rattle.pcache_evict.proofs.eviction.shards.RecencyShards.truncate.Given as goal
 

@@ -1,8 +1,5 @@
-use Rattle.std.proofs.Common.{arith, sym, subst, length, ◌≤◌}
-use Rattle.pcache_evict.specs.declared.eviction.policy.EvictionPolicy.TheVariants.{ShardedLru}
-use Rattle.pcache_evict.specs.Recency.{weight, others}
-use Rattle.pcache_evict.specs.Tracked.{limits_of}
-use Rattle.pcache_evict.specs.Chain.{Walks}
+use Rattle.pcache_evict.specs.Recency.{weight}
+use Rattle.pcache_evict.proofs.Words.{arith, sym, subst, length, ◌≤◌, ShardedLru, others, limits_of, Walks}
 use Rattle.pcache_evict.proofs.Chains.{steps, walk-starts, walk-stops, walk-next}
 use Rattle.pcache_evict.proofs.eviction.shards.RecencyShards.walk.Goals as goal
 

@@ -1,7 +1,4 @@
-use Rattle.std.proofs.Common.{◌-◌, ◌≤◌}
-use Rattle.pcache_evict.specs.declared.eviction.policy.EvictionPolicy.TheVariants.{ShardedLru}
-use Rattle.pcache_evict.specs.Tracked.{limits_of}
-use Rattle.pcache_evict.specs.Chain.{Walks, span}
+use Rattle.pcache_evict.proofs.Words.{◌-◌, ◌≤◌, ShardedLru, limits_of, Walks, span}
 use Rattle.pcache_evict.proofs.eviction.shards.RecencyShards.walk.Given as goal
 
 abbrev pub invariant-loop-place : goal.invariant-loop-place

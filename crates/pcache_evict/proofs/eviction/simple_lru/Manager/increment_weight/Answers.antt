@@ -1,9 +1,4 @@
-use Rattle.std.proofs.Common.{◌∙◌, sym, subst, ap, arith}
-use Rattle.std.specs.Vec.{vec_capacity}
-use Rattle.pcache_evict.specs.declared.eviction.policy.EvictionPolicy.TheVariants.{Lru}
-use Rattle.pcache_evict.specs.Recency.{incremented}
-use Rattle.pcache_evict.specs.Listed.{Listed, IsEnough, IsOnce}
-use Rattle.pcache_evict.specs.Tracked.{limits_of}
+use Rattle.pcache_evict.proofs.Words.{◌∙◌, sym, subst, ap, arith, vec_capacity, Lru, incremented, Listed, IsEnough, IsOnce, limits_of}
 use Rattle.pcache_evict.proofs.Raised.{enough_inside, incremented_less}
 use Rattle.pcache_evict.proofs.eviction.simple_lru.Manager.increment_weight.Goals as goal
 

@@ -1,9 +1,4 @@
-use Rattle.std.proofs.Common.{sym, subst}
-use Rattle.std.specs.Vec.{vec_capacity}
-use Rattle.pcache_evict.specs.declared.eviction.policy.EvictionPolicy.TheVariants.{Lru}
-use Rattle.pcache_evict.specs.Recency.{moved}
-use Rattle.pcache_evict.specs.Listed.{IsEnough}
-use Rattle.pcache_evict.specs.Tracked.{limits_of}
+use Rattle.pcache_evict.proofs.Words.{sym, subst, vec_capacity, Lru, moved, IsEnough, limits_of}
 use Rattle.pcache_evict.proofs.Raised.{enough_inside, moved_less}
 use Rattle.pcache_evict.proofs.eviction.simple_lru.Manager.put_and_evict.Goals as goal
 

@@ -1,5 +1,4 @@
-use Rattle.std.proofs.Common.{refl, ◌∙◌, sym, ap, is_some}
-use Rattle.pcache_evict.specs.Listed.{map_of}
+use Rattle.pcache_evict.proofs.Words.{refl, ◌∙◌, sym, ap, is_some, map_of}
 use Rattle.pcache_evict.proofs.Maps.{map-accessed, get-map_of}
 use Rattle.pcache_evict.proofs.eviction.simple_lru.ManagerEvictionManager.access.Goals as goal
 

@@ -1,4 +1,4 @@
-use Rattle.std.proofs.Common.{refl}
+use Rattle.pcache_evict.proofs.Words.{refl}
 use Rattle.pcache_evict.proofs.Maps.{moved-fair, moved-left, moved-evicted}
 use Rattle.pcache_evict.proofs.eviction.simple_lru.ManagerEvictionManager.admit.Goals as goal
 

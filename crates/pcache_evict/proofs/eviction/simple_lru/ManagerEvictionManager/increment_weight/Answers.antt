@@ -1,9 +1,5 @@
-use Rattle.std.proofs.Common.{refl, ◌∙◌, sym, ap, subst, is_some}
+use Rattle.pcache_evict.proofs.Words.{refl, ◌∙◌, sym, ap, subst, is_some, IsFair, IsWithin, without, evicted_with, raised, incremented, moved, weight_of, map_of}
 use Rattle.std.specs.FinMap as fin
-use Rattle.pcache_evict.specs.Tracked.{IsFair, IsWithin, without, evicted_with}
-use Rattle.pcache_evict.specs.Tracked.{raised}
-use Rattle.pcache_evict.specs.Recency.{incremented, moved, weight_of}
-use Rattle.pcache_evict.specs.Listed.{map_of}
 use Rattle.pcache_evict.proofs.Maps.{moved-fair, moved-left, moved-evicted, get-map_of, map-moved, inside}
 use Rattle.pcache_evict.proofs.Recency.{distinct-moved}
 use Rattle.pcache_evict.proofs.eviction.simple_lru.ManagerEvictionManager.increment_weight.Goals as goal

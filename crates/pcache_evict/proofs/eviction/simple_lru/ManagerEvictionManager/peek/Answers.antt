@@ -1,4 +1,4 @@
-use Rattle.std.proofs.Common.{◌∙◌, sym, ap, is_some}
+use Rattle.pcache_evict.proofs.Words.{◌∙◌, sym, ap, is_some}
 use Rattle.pcache_evict.proofs.Maps.{get-map_of}
 use Rattle.pcache_evict.proofs.eviction.simple_lru.ManagerEvictionManager.peek.Goals as goal
 

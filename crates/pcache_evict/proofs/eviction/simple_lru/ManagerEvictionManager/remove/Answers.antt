@@ -1,5 +1,4 @@
-use Rattle.std.proofs.Common.{refl, ◌∙◌, ap}
-use Rattle.pcache_evict.specs.Listed.{map_of}
+use Rattle.pcache_evict.proofs.Words.{refl, ◌∙◌, ap, map_of}
 use Rattle.pcache_evict.proofs.Maps.{map-others}
 use Rattle.pcache_evict.proofs.eviction.simple_lru.ManagerEvictionManager.remove.Goals as goal
 

@@ -1,4 +1,4 @@
-use Rattle.std.proofs.Common.{◌∙◌, sym}
+use Rattle.pcache_evict.proofs.Words.{◌∙◌, sym}
 use Rattle.pcache_evict.proofs.Maps.{len-map_of}
 use Rattle.pcache_evict.proofs.eviction.simple_lru.ManagerEvictionManager.total_items.Goals as goal
 

@@ -1,4 +1,4 @@
-use Rattle.std.proofs.Common.{◌∙◌, sym, ap, min, ◌^◌, ◌-◌}
+use Rattle.pcache_evict.proofs.Words.{◌∙◌, sym, ap, min, ◌^◌, ◌-◌}
 use Rattle.pcache_evict.proofs.Maps.{weight-map_of}
 use Rattle.pcache_evict.proofs.eviction.simple_lru.ManagerEvictionManager.total_size.Goals as goal
 

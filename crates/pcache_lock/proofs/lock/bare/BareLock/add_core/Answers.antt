@@ -1,4 +1,5 @@
-use Rattle.std.proofs.Common.{◌≡◌, None, ◌∙◌, ap, rules}
+use Rattle.std.proofs.Common.{rules}
+use Rattle.pcache_lock.proofs.Words.{◌≡◌, None, ◌∙◌, ap}
 use Rattle.std.specs.FinMap as map
 use Rattle.pcache_lock.proofs.Changes.{undone}
 use Rattle.pcache_lock.proofs.lock.bare.BareLock.add_core.Goals as goal

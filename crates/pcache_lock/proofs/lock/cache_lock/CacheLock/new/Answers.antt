@@ -1,4 +1,4 @@
-use Rattle.std.specs.Duration.{as_nanos}
+use Rattle.pcache_lock.proofs.Words.{as_nanos}
 use Rattle.pcache_lock.proofs.Past.{begins}
 use Rattle.pcache_lock.proofs.lock.cache_lock.CacheLock.new.Goals as goal
 

@@ -1,6 +1,4 @@
-use Rattle.std.proofs.Common.{ap, ◌∙◌}
-use Rattle.std.specs.Duration.{as_nanos}
-use Rattle.pcache_lock.specs.Deeds.{Made}
+use Rattle.pcache_lock.proofs.Words.{ap, ◌∙◌, as_nanos, Made}
 use Rattle.pcache_lock.proofs.Past.{grows}
 use Rattle.pcache_lock.proofs.lock.cache_lock.CacheLock.new_permit.Goals as goal
 

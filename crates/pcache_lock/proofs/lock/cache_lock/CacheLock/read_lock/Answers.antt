@@ -1,4 +1,4 @@
-use Rattle.pcache_lock.specs.Deeds.{ReadLocked}
+use Rattle.pcache_lock.proofs.Words.{ReadLocked}
 use Rattle.pcache_lock.proofs.Past.{grows}
 use Rattle.pcache_lock.proofs.lock.cache_lock.CacheLock.read_lock.Goals as goal
 

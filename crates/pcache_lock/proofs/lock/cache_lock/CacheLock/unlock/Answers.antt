@@ -1,4 +1,4 @@
-use Rattle.pcache_lock.specs.Deeds.{Unlocked}
+use Rattle.pcache_lock.proofs.Words.{Unlocked}
 use Rattle.pcache_lock.proofs.Past.{grows}
 use Rattle.pcache_lock.proofs.lock.cache_lock.CacheLock.unlock.Goals as goal
 

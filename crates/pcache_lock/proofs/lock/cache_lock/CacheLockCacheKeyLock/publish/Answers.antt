@@ -1,4 +1,4 @@
-use Rattle.pcache_lock.specs.Deeds.{Published}
+use Rattle.pcache_lock.proofs.Words.{Published}
 use Rattle.pcache_lock.proofs.Past.{grows}
 use Rattle.pcache_lock.proofs.lock.cache_lock.CacheLockCacheKeyLock.publish.Goals as goal
 

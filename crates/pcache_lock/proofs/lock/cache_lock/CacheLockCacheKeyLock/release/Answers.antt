@@ -1,4 +1,4 @@
-use Rattle.pcache_lock.specs.Deeds.{Released}
+use Rattle.pcache_lock.proofs.Words.{Released}
 use Rattle.pcache_lock.proofs.Past.{grows}
 use Rattle.pcache_lock.proofs.lock.cache_lock.CacheLockCacheKeyLock.release.Goals as goal
 

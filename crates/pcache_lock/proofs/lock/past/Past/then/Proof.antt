@@ -1,36 +1,18 @@
 -- A past with one more deed, by hand, since no tactic picks the value of a ghost field. Assumes `Logic`.
-use Rattle.std.proofs.Common.{List, [], ◌∷◌, ◌++◌, refl}
-use seplogic.Ra.Ura.{Ura}
-use mir.Syntax.{Fn}
-use mir.Val.{Val, vptr}
-use base.Logic.{SProp, ent}
-use prog.Memory.{Memory}
-use prog.Routine.{Routine}
-use prog.Wp.{Calls, Loops, WpFn, Tables}
-use contract.Monad.{Fun}
-use contract.Running.{tables, tables_of}
-use sound.WpLaws.{WpFn-mono}
-use types.Logic.{Logic}
-use types.Kit.{‵, raw, ◌⊛◌, prop, ◌$◌, ◌∵◌, !, qed, move, keep, drop, split, fsplit, fjoin, feq_l, regoal, suffices, done}
-use types.Part.{agg}
-use types.Run.{enter, returns, no_more}
-use types.ByLocal.{alloc_all, pass_all, free_all, look_at, sets}
+use mir.Val.{vptr}
+use contract.Running.{tables_of}
+use types.Kit.{prop, drop, fsplit, feq_l, regoal}
 use denote.Exit.{yes}
-use denote.RattleType.{owns}
 use denote.Builtin.{RefOf}
-use denote.Signature.{plain, types_at, named_lft}
-use denote.Steps.{nothing}
-use denote.Triple.Clauses.{Clauses, Ended, closing}
-use denote.Triple.Entry.{alive}
-use denote.Triple.Spec.{Meets, triple_of}
-use denote.Triple.Table.{entered}
-use denote.Triple.Walked.{says, Stays, stay_dropped, walk_of, ends_at, walk_Meets, Goes-dropped}
+use denote.Signature.{plain, named_lft}
+use denote.Triple.Walked.{stay_dropped, Goes-dropped}
+use Rattle.pcache_lock.specs.Noted.{deed_of}
+use Rattle.pcache_lock.specs.contracts.lock.past.Past.then.Key.{name as #self}
+use Rattle.pcache_lock.proofs.Words.{List, [], ◌∷◌, ◌++◌, refl, Ura, Fn, Val, SProp, ent, Memory, Routine, Calls, Loops, WpFn, Tables, Fun, tables, WpFn-mono, Logic, ‵, raw, ◌⊛◌, ◌$◌, ◌∵◌, !, qed, move, keep, split, fjoin, suffices, done, agg, enter, returns, no_more, alloc_all, pass_all, free_all, look_at, sets, owns, types_at, nothing, Clauses, Ended, closing, alive, Meets, triple_of, entered, says, Stays, walk_of, ends_at, walk_Meets}
 use Rattle.pcache_lock.proofs.Walks.{none, none_made}
 use Rattle.pcache_lock.specs.contracts.lock.past.Past as Past
 use Rattle.pcache_lock.specs.contracts.lock.past.Note as Note
-use Rattle.pcache_lock.specs.Noted.{deed_of}
 use Rattle.pcache_lock.specs.contracts.lock.past.Past.then as F
-use Rattle.pcache_lock.specs.contracts.lock.past.Past.then.Key.{name as #self}
 use Rattle.pcache_lock.proofs.lock.past.Past.then.Statement as stated
 use Rattle.pcache_lock.proofs.lock.past.Past.then.Code as code
 

@@ -1,5 +1,5 @@
-use Rattle.std.proofs.Common.{◌≡◌, ◌<◌, ◌+◌, ◌∙◌, ◌++◌, ◌∷◌, [], ap, arith, length}
 use Rattle.std.specs.Vec.{vec_capacity}
+use Rattle.pcache_lock.proofs.Words.{◌≡◌, ◌<◌, ◌+◌, ◌∙◌, ◌++◌, ◌∷◌, [], ap, arith, length}
 use Rattle.pcache_lock.proofs.Published.{ends_there, added}
 use Rattle.pcache_lock.proofs.lock.publications.Publications.add.Goals as goal
 

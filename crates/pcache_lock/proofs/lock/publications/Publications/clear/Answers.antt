@@ -1,5 +1,4 @@
-use Rattle.std.proofs.Common.{◌∙◌, ap, subst, sym}
-use Rattle.pcache_lock.specs.Published.{IsIndex}
+use Rattle.pcache_lock.proofs.Words.{◌∙◌, ap, subst, sym, IsIndex}
 use Rattle.pcache_lock.proofs.Published.{cleared_alone, cleared_last}
 use Rattle.pcache_lock.proofs.lock.publications.Publications.clear.Goals as goal
 use Rattle.pcache_lock.proofs.lock.publications.Publications.clear.Goals.{then-readers-eq0, else-readers-eq0}

@@ -1,5 +1,4 @@
-use Rattle.std.proofs.Common.{subst}
-use Rattle.pcache_lock.specs.Published.{IsIndex}
+use Rattle.pcache_lock.proofs.Words.{subst, IsIndex}
 use Rattle.pcache_lock.proofs.Published.{place_found}
 use Rattle.pcache_lock.proofs.lock.publications.Publications.first_position.Goals as goal
 

@@ -1,6 +1,5 @@
-use Rattle.std.proofs.Common.{◌≡◌, ◌≤◌, [], ◌∙◌, ap, arith, drop, length, sym, length-drop}
-use Rattle.std.proofs.lemmas.List.{take_all}
-use Rattle.pcache_lock.specs.Waiting.{first_told}
+use Rattle.std.proofs.Common.{drop, length-drop}
+use Rattle.pcache_lock.proofs.Words.{◌≡◌, ◌≤◌, [], ◌∙◌, ap, arith, length, sym, take_all, first_told}
 use Rattle.pcache_lock.proofs.Published.{place_told, no_place, nothing_told, found_next, not_found_next}
 use Rattle.pcache_lock.proofs.lock.publications.Publications.first_told.Goals as goal
 use Rattle.pcache_lock.proofs.lock.publications.Publications.first_told.Goals.{in-Some, in_default}

@@ -1,5 +1,5 @@
-use Rattle.std.proofs.Common.{◌≡◌, ◌+◌, drop, take}
-use Rattle.pcache_lock.specs.Waiting.{first_told}
+use Rattle.std.proofs.Common.{drop}
+use Rattle.pcache_lock.proofs.Words.{◌≡◌, ◌+◌, take, first_told}
 use Rattle.pcache_lock.proofs.Published.{place_told}
 use Rattle.pcache_lock.proofs.lock.publications.Publications.first_told.Given as goal
 

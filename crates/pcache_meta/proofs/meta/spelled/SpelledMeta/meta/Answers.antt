@@ -1,5 +1,4 @@
-use Rattle.std.proofs.Common.{ap, ◌∙◌}
-use Rattle.pcache_meta.specs.Header.{shown}
+use Rattle.pcache_meta.proofs.Words.{ap, ◌∙◌, shown}
 use Rattle.pcache_meta.proofs.MetaMade.{meta_made}
 use Rattle.pcache_meta.proofs.meta.spelled.SpelledMeta.meta.Goals as goal
 

@@ -1,6 +1,5 @@
-use Rattle.std.proofs.Common.{◌≡◌, ◌++◌, length, refl, ap, sym, ◌∙◌, arith}
-use Rattle.pcache_meta.specs.Header.{shown}
-use Rattle.pcache_meta.specs.Meta.{Meta, with_entry_id}
+use Rattle.pcache_meta.specs.Meta.{with_entry_id}
+use Rattle.pcache_meta.proofs.Words.{◌≡◌, ◌++◌, length, refl, ap, sym, ◌∙◌, arith, shown, Meta}
 use Rattle.pcache_meta.proofs.MetaKeeps.{kept_again, is_kept}
 use Rattle.pcache_meta.proofs.meta.spelled.SpelledMeta.with_entry_id.Goals as goal
 

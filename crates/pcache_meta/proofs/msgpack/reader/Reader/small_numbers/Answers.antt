@@ -1,7 +1,6 @@
-use Rattle.std.proofs.Common.{take, ◌∙◌}
 use Rattle.std.proofs.lemmas.List.{length-set}
-use Rattle.std.proofs.lemmas.Result.{err_from_is_err_and}
 use Rattle.pcache_meta.specs.Reading.{small_numbers_at}
+use Rattle.pcache_meta.proofs.Words.{take, ◌∙◌, err_from_is_err_and}
 use Rattle.pcache_meta.proofs.HashLoop.{goes_on, ends, is_done}
 use Rattle.pcache_meta.proofs.msgpack.reader.Reader.small_numbers.Goals as goal
 

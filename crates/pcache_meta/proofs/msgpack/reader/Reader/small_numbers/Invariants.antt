@@ -1,5 +1,5 @@
-use Rattle.std.proofs.Common.{◌≡◌, ◌-◌, length, take}
 use Rattle.pcache_meta.specs.Reading.{small_numbers_at}
+use Rattle.pcache_meta.proofs.Words.{◌≡◌, ◌-◌, length, take}
 use Rattle.pcache_meta.proofs.HashLoop.{with_front}
 use Rattle.pcache_meta.proofs.msgpack.reader.Reader.small_numbers.Given as goal
 

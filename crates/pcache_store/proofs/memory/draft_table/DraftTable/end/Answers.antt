@@ -1,10 +1,6 @@
-use Rattle.std.proofs.Common.{◌∙◌, ap, sym, subst, arith}
-use Rattle.std.specs.Prelude.{slice_set, is_ok, IsSome}
-use Rattle.std.specs.FinMap as map
-use Rattle.std.proofs.lemmas.Result.{IfOk-weaker}
 use Rattle.pcache_table.specs.Sharding.{one_map}
-use Rattle.pcache_store.specs.Drafts.{IsBodyOf, ended_on}
-use Rattle.pcache_store.specs.Shards.{parts}
+use Rattle.pcache_store.proofs.Words.{◌∙◌, ap, sym, subst, arith, slice_set, is_ok, IsSome, IfOk-weaker, IsBodyOf, ended_on, parts}
+use Rattle.std.specs.FinMap as map
 use Rattle.pcache_store.proofs.Records.{here, fits, kept-gone, changed-ended}
 use Rattle.pcache_store.proofs.memory.draft_table.DraftTable.end.Goals as goal
 

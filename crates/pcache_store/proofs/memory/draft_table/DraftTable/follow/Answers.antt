@@ -1,11 +1,7 @@
-use Rattle.std.proofs.Common.{◌∙◌, ap, sym, subst}
-use Rattle.std.specs.Prelude.{slice_index_or, slice_set, option_map, IsSome}
-use Rattle.std.specs.FinMap as map
-use Rattle.std.proofs.lemmas.List.{set-get_or}
-use Rattle.std.proofs.lemmas.Result.{IfOk-weaker, on_ok_weaker, on_err_weaker}
+use Rattle.std.specs.Prelude.{option_map}
 use Rattle.pcache_table.specs.Sharding.{one_map}
-use Rattle.pcache_store.specs.Shards.{AreRecords, parts}
-use Rattle.pcache_store.specs.Store.{followed_on}
+use Rattle.pcache_store.proofs.Words.{◌∙◌, ap, sym, subst, slice_index_or, slice_set, IsSome, set-get_or, IfOk-weaker, on_ok_weaker, on_err_weaker, AreRecords, parts, followed_on}
+use Rattle.std.specs.FinMap as map
 use Rattle.pcache_store.proofs.Writes.{on_both}
 use Rattle.pcache_store.proofs.Records.{here, kept-still, changed-joined, held-joined}
 use Rattle.pcache_store.proofs.memory.draft_table.DraftTable.follow.Goals as goal

@@ -1,4 +1,4 @@
-use Rattle.std.proofs.Common.{◌∙◌, ap}
+use Rattle.pcache_store.proofs.Words.{◌∙◌, ap}
 use Rattle.std.specs.FinMap as map
 use Rattle.pcache_store.proofs.Records.{here}
 use Rattle.pcache_store.proofs.memory.draft_table.DraftTable.get.Goals as goal

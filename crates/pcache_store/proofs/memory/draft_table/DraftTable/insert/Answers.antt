@@ -1,8 +1,6 @@
-use Rattle.std.proofs.Common.{◌≡◌, ◌∙◌, ◌+◌, ◌%◌, ap, sym, subst, arith, None}
-use Rattle.std.specs.Prelude.{slice_set}
-use Rattle.std.specs.FinMap as map
 use Rattle.pcache_table.specs.Sharding.{one_map}
-use Rattle.pcache_store.specs.Shards.{AreRecords, parts}
+use Rattle.pcache_store.proofs.Words.{◌≡◌, ◌∙◌, ◌+◌, ◌%◌, ap, sym, subst, arith, None, slice_set, AreRecords, parts}
+use Rattle.std.specs.FinMap as map
 use Rattle.pcache_store.proofs.Maps.{not_full}
 use Rattle.pcache_store.proofs.Records.{changed-new, kept-new}
 use Rattle.pcache_store.proofs.memory.draft_table.DraftTable.insert.Goals as goal

@@ -1,9 +1,6 @@
-use Rattle.std.proofs.Common.{◌∙◌, ap, arith}
-use Rattle.std.specs.Prelude.{slice_set}
-use Rattle.std.specs.FinMap as map
 use Rattle.pcache_table.specs.Sharding.{one_map}
-use Rattle.pcache_store.specs.Shards.{parts}
-use Rattle.pcache_store.specs.Store.{grounded_on}
+use Rattle.pcache_store.proofs.Words.{◌∙◌, ap, arith, slice_set, parts, grounded_on}
+use Rattle.std.specs.FinMap as map
 use Rattle.pcache_store.proofs.Records.{fits, kept-gone, changed-landed}
 use Rattle.pcache_store.proofs.memory.draft_table.DraftTable.land.Goals as goal
 

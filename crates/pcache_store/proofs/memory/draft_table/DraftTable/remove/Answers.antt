@@ -1,8 +1,7 @@
-use Rattle.std.proofs.Common.{◌≡◌, ◌∙◌, ap, arith, is_some, cond}
-use Rattle.std.specs.Prelude.{slice_set, slice_index_or}
-use Rattle.std.specs.FinMap as map
+use Rattle.std.proofs.Common.{is_some}
 use Rattle.pcache_table.specs.Sharding.{one_map}
-use Rattle.pcache_store.specs.Shards.{one_if_some, parts}
+use Rattle.pcache_store.proofs.Words.{◌≡◌, ◌∙◌, ap, arith, cond, slice_set, slice_index_or, one_if_some, parts}
+use Rattle.std.specs.FinMap as map
 use Rattle.pcache_store.proofs.Records.{fits, held-gone, kept-gone, changed-removed}
 use Rattle.pcache_store.proofs.memory.draft_table.DraftTable.remove.Goals as goal
 

@@ -1,11 +1,6 @@
-use Rattle.std.proofs.Common.{◌∙◌, ap, sym, subst}
-use Rattle.std.specs.Prelude.{slice_index_or, slice_set}
-use Rattle.std.specs.FinMap as map
-use Rattle.std.proofs.lemmas.List.{set-get_or}
-use Rattle.std.proofs.lemmas.Result.{on_ok_weaker}
 use Rattle.pcache_table.specs.Sharding.{one_map}
-use Rattle.pcache_store.specs.Shards.{AreRecords, parts}
-use Rattle.pcache_store.specs.Store.{wrote_on}
+use Rattle.pcache_store.proofs.Words.{◌∙◌, ap, sym, subst, slice_index_or, slice_set, set-get_or, on_ok_weaker, AreRecords, parts, wrote_on}
+use Rattle.std.specs.FinMap as map
 use Rattle.pcache_store.proofs.Writes.{on_both}
 use Rattle.pcache_store.proofs.Records.{kept-still, changed-wrote, held-wrote}
 use Rattle.pcache_store.proofs.memory.draft_table.DraftTable.write.Goals as goal

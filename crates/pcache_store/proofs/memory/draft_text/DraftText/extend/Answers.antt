@@ -1,5 +1,4 @@
-use Rattle.std.proofs.Common.{◌≡◌, ◌+◌, ◌++◌, ◌∙◌, ap, arith, length, length-append}
-use Rattle.std.specs.List.{concat}
+use Rattle.pcache_store.proofs.Words.{◌≡◌, ◌+◌, ◌++◌, ◌∙◌, ap, arith, length, length-append, concat}
 use Rattle.pcache_store.proofs.Pieces.{pushed}
 use Rattle.pcache_store.proofs.memory.draft_text.DraftText.extend.Goals as goal
 

@@ -1,5 +1,4 @@
-use Rattle.std.proofs.Common.{sym, subst, ◌<◌, ◌+◌, ◌^◌}
-use Rattle.pcache_store.specs.Drafts.{next_number, AreBefore}
+use Rattle.pcache_store.proofs.Words.{sym, subst, ◌<◌, ◌+◌, ◌^◌, next_number, AreBefore}
 use Rattle.pcache_store.proofs.Writes.{before_begun, next_after}
 use Rattle.pcache_store.proofs.memory.drafts.Drafts.begin.Goals as goal
 

@@ -1,5 +1,4 @@
-use Rattle.std.proofs.Common.{sym, subst, is_ok}
-use Rattle.pcache_store.specs.Drafts.{next_number, AreBefore}
+use Rattle.pcache_store.proofs.Words.{sym, subst, is_ok, next_number, AreBefore}
 use Rattle.pcache_store.proofs.Writes.{before_ended}
 use Rattle.pcache_store.proofs.memory.drafts.Drafts.end.Goals as goal
 

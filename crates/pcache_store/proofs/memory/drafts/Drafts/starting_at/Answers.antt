@@ -1,5 +1,4 @@
-use Rattle.std.proofs.Common.{sym, subst}
-use Rattle.pcache_store.specs.Drafts.{AreBefore}
+use Rattle.pcache_store.proofs.Words.{sym, subst, AreBefore}
 use Rattle.pcache_store.proofs.Writes.{before_empty}
 use Rattle.pcache_store.proofs.memory.drafts.Drafts.starting_at.Goals as goal
 

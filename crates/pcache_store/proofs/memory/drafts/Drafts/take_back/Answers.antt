@@ -1,5 +1,4 @@
-use Rattle.std.proofs.Common.{sym, subst, ◌∙◌, ap}
-use Rattle.pcache_store.specs.Drafts.{AreBefore}
+use Rattle.pcache_store.proofs.Words.{sym, subst, ◌∙◌, ap, AreBefore}
 use Rattle.pcache_store.proofs.Writes.{before_taken_back}
 use Rattle.pcache_store.proofs.memory.drafts.Drafts.take_back.Goals as goal
 

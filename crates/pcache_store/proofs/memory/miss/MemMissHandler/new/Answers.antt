@@ -1,5 +1,5 @@
-use Rattle.std.proofs.Common.{ap, ◌∙◌}
 use Rattle.pcache_store.specs.Tag.{number_of_tag}
+use Rattle.pcache_store.proofs.Words.{ap, ◌∙◌}
 use Rattle.pcache_store.proofs.Tags.{tag_names}
 use Rattle.pcache_store.proofs.memory.miss.MemMissHandler.new.Goals as goal
 

@@ -1,12 +1,8 @@
-use Rattle.std.proofs.Common.{◌∙◌, ◌%◌, ap, sym, subst, arith, is_some}
-use Rattle.std.specs.Prelude.{slice_index_or, slice_set}
-use Rattle.std.specs.FinMap as map
-use Rattle.std.proofs.lemmas.List.{set-get_or}
-use Rattle.std.proofs.lemmas.Result.{IfOk-weaker, on_ok_weaker, on_err_weaker}
+use Rattle.std.proofs.Common.{is_some}
 use Rattle.pcache_meta.specs.Meta.{expired_at}
-use Rattle.pcache_store.specs.Store.{complete_body, meta_changed_on}
 use Rattle.pcache_table.specs.Sharding.{one_map}
-use Rattle.pcache_store.specs.Shards.{AreShards, parts}
+use Rattle.pcache_store.proofs.Words.{◌∙◌, ◌%◌, ap, sym, subst, arith, slice_index_or, slice_set, set-get_or, IfOk-weaker, on_ok_weaker, on_err_weaker, complete_body, meta_changed_on, AreShards, parts}
+use Rattle.std.specs.FinMap as map
 use Rattle.pcache_store.proofs.Writes.{on_both}
 use Rattle.pcache_store.proofs.SlotShards.{here, changed-meta, held-meta, kept-changed}
 use Rattle.pcache_store.proofs.memory.slot_table.SlotTable.expire.Goals as goal

@@ -1,4 +1,4 @@
-use Rattle.std.proofs.Common.{◌∙◌, ap}
+use Rattle.pcache_store.proofs.Words.{◌∙◌, ap}
 use Rattle.std.specs.FinMap as map
 use Rattle.pcache_store.proofs.SlotShards.{here}
 use Rattle.pcache_store.proofs.memory.slot_table.SlotTable.get.Goals as goal

@@ -1,9 +1,6 @@
-use Rattle.std.proofs.Common.{◌∙◌, ◌%◌, ap, arith}
-use Rattle.std.specs.Prelude.{slice_index_or, slice_set}
-use Rattle.pcache_store.specs.Store.{opened}
 use Rattle.pcache_table.specs.Sharding.{one_map}
+use Rattle.pcache_store.proofs.Words.{◌∙◌, ◌%◌, ap, arith, slice_index_or, slice_set, opened, one_if_some, parts}
 use Rattle.std.specs.FinMap as map
-use Rattle.pcache_store.specs.Shards.{one_if_some, parts}
 use Rattle.pcache_store.proofs.Maps.{not_full}
 use Rattle.pcache_store.proofs.SlotShards.{changed-opened, held-opened, kept-more}
 use Rattle.pcache_store.proofs.memory.slot_table.SlotTable.open.Goals as goal

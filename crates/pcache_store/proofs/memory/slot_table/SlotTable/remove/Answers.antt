@@ -1,8 +1,7 @@
-use Rattle.std.proofs.Common.{◌≡◌, ◌∙◌, ◌%◌, ap, arith, is_some, cond}
-use Rattle.std.specs.Prelude.{slice_index_or, slice_set}
-use Rattle.std.specs.FinMap as map
+use Rattle.std.proofs.Common.{is_some}
 use Rattle.pcache_table.specs.Sharding.{one_map}
-use Rattle.pcache_store.specs.Shards.{one_if_some, parts}
+use Rattle.pcache_store.proofs.Words.{◌≡◌, ◌∙◌, ◌%◌, ap, arith, cond, slice_index_or, slice_set, one_if_some, parts}
+use Rattle.std.specs.FinMap as map
 use Rattle.pcache_store.proofs.SlotShards.{here, changed-removed, held-removed, held-fits, kept-gone}
 use Rattle.pcache_store.proofs.memory.slot_table.SlotTable.remove.Goals as goal
 

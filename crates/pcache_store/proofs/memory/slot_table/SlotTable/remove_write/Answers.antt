@@ -1,9 +1,7 @@
-use Rattle.std.proofs.Common.{◌∙◌, ◌%◌, ap, arith}
-use Rattle.std.specs.Prelude.{slice_set}
-use Rattle.std.specs.FinMap as map
-use Rattle.pcache_store.specs.Store.{has_write, body_with, complete_body, write_gone_on}
+use Rattle.pcache_store.specs.Store.{has_write}
 use Rattle.pcache_table.specs.Sharding.{one_map}
-use Rattle.pcache_store.specs.Shards.{parts}
+use Rattle.pcache_store.proofs.Words.{◌∙◌, ◌%◌, ap, arith, slice_set, body_with, complete_body, write_gone_on, parts}
+use Rattle.std.specs.FinMap as map
 use Rattle.pcache_store.proofs.SlotShards.{here, changed-lost, held-fits, kept-gone}
 use Rattle.pcache_store.proofs.memory.slot_table.SlotTable.remove_write.Goals as goal
 

@@ -1,9 +1,7 @@
-use Rattle.std.proofs.Common.{◌∙◌, ◌%◌, ap, sym, subst, arith, is_some}
-use Rattle.std.specs.Prelude.{slice_index_or, slice_set}
-use Rattle.std.specs.FinMap as map
-use Rattle.pcache_store.specs.Store.{complete_body, meta_changed_on}
+use Rattle.std.proofs.Common.{is_some}
 use Rattle.pcache_table.specs.Sharding.{one_map}
-use Rattle.pcache_store.specs.Shards.{AreShards, parts}
+use Rattle.pcache_store.proofs.Words.{◌∙◌, ◌%◌, ap, sym, subst, arith, slice_index_or, slice_set, complete_body, meta_changed_on, AreShards, parts}
+use Rattle.std.specs.FinMap as map
 use Rattle.pcache_store.proofs.SlotShards.{here, changed-meta, held-meta, kept-changed}
 use Rattle.pcache_store.proofs.memory.slot_table.SlotTable.set_meta.Goals as goal
 

@@ -1,6 +1,5 @@
-use Rattle.std.proofs.Common.{◌∙◌, ap}
+use Rattle.pcache_store.proofs.Words.{◌∙◌, ap, part_of}
 use Rattle.std.specs.FinMap as map
-use Rattle.pcache_table.specs.Sharding.{part_of}
 use Rattle.pcache_store.proofs.SlotShards.{shard-part}
 use Rattle.pcache_store.proofs.memory.slot_table.SlotTable.shard_len.Goals as goal
 

@@ -1,9 +1,6 @@
-use Rattle.std.proofs.Common.{◌∙◌, ◌%◌, ap, arith}
-use Rattle.std.specs.Prelude.{slice_set}
-use Rattle.std.specs.FinMap as map
-use Rattle.pcache_store.specs.Store.{shut_on}
 use Rattle.pcache_table.specs.Sharding.{one_map}
-use Rattle.pcache_store.specs.Shards.{parts}
+use Rattle.pcache_store.proofs.Words.{◌∙◌, ◌%◌, ap, arith, slice_set, shut_on, parts}
+use Rattle.std.specs.FinMap as map
 use Rattle.pcache_store.proofs.SlotShards.{changed-shut, held-fits, kept-gone}
 use Rattle.pcache_store.proofs.memory.slot_table.SlotTable.shut.Goals as goal
 

@@ -1,10 +1,6 @@
-use Rattle.std.proofs.Common.{◌∙◌, ◌%◌, ap, sym, subst, arith}
-use Rattle.std.specs.Prelude.{slice_index_or, slice_set}
-use Rattle.std.specs.FinMap as map
-use Rattle.std.specs.Prelude.{IsSome}
-use Rattle.pcache_store.specs.Store.{complete_body, stored_on}
 use Rattle.pcache_table.specs.Sharding.{one_map}
-use Rattle.pcache_store.specs.Shards.{AreShards, parts}
+use Rattle.pcache_store.proofs.Words.{◌∙◌, ◌%◌, ap, sym, subst, arith, slice_index_or, slice_set, IsSome, complete_body, stored_on, AreShards, parts}
+use Rattle.std.specs.FinMap as map
 use Rattle.pcache_store.proofs.SlotShards.{here, changed-stored, held-stored, kept-changed}
 use Rattle.pcache_store.proofs.memory.slot_table.SlotTable.store.Goals as goal
 

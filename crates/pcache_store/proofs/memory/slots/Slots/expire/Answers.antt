@@ -1,6 +1,5 @@
-use Rattle.std.proofs.Common.{sym, subst}
 use Rattle.pcache_meta.specs.Meta.{expired_at}
-use Rattle.pcache_store.specs.Totals.{IsCounted}
+use Rattle.pcache_store.proofs.Words.{sym, subst, IsCounted}
 use Rattle.pcache_store.proofs.Counts.{counted_changed}
 use Rattle.pcache_store.proofs.Writes.{on_both}
 use Rattle.pcache_store.proofs.memory.slots.Slots.expire.Goals as goal

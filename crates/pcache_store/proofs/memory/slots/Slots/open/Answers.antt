@@ -1,5 +1,4 @@
-use Rattle.std.proofs.Common.{sym, subst}
-use Rattle.pcache_store.specs.Totals.{IsCounted}
+use Rattle.pcache_store.proofs.Words.{sym, subst, IsCounted}
 use Rattle.pcache_store.proofs.Counts.{counted_opened}
 use Rattle.pcache_store.proofs.Writes.{on_both}
 use Rattle.pcache_store.proofs.memory.slots.Slots.open.Goals as goal

@@ -1,8 +1,5 @@
-use Rattle.std.proofs.Common.{sym, subst, ap, ◌∙◌, ◌≡◌, ◌≤◌, ◌-◌}
+use Rattle.pcache_store.proofs.Words.{sym, subst, ap, ◌∙◌, ◌≡◌, ◌≤◌, ◌-◌, IsCounted, one, body_len, complete_body, share}
 use Rattle.std.specs.FinMap as map
-use Rattle.pcache_store.specs.Totals.{IsCounted, one, body_len}
-use Rattle.pcache_store.specs.Store.{complete_body}
-use Rattle.pcache_base.specs.Totals.{share}
 use Rattle.pcache_store.proofs.Counts.{counted_purged, counted_absent, has_body, has_bytes}
 use Rattle.pcache_store.proofs.memory.slots.Slots.remove.Goals as goal
 

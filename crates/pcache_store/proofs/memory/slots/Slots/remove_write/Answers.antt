@@ -1,6 +1,4 @@
-use Rattle.std.proofs.Common.{sym, subst, ap, ◌∙◌, ◌≤◌, ◌-◌}
-use Rattle.pcache_base.specs.Totals.{share}
-use Rattle.pcache_store.specs.Totals.{IsCounted, one, body_len}
+use Rattle.pcache_store.proofs.Words.{sym, subst, ap, ◌∙◌, ◌≤◌, ◌-◌, share, IsCounted, one, body_len}
 use Rattle.pcache_store.proofs.Counts.{counted_lost, less_bodies, less_bytes}
 use Rattle.pcache_store.proofs.memory.slots.Slots.remove_write.Goals as goal
 

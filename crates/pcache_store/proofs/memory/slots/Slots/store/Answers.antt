@@ -1,6 +1,4 @@
-use Rattle.std.proofs.Common.{sym, subst, ap, ◌∙◌, ◌≤◌, ◌-◌, ◌+◌, arith}
-use Rattle.pcache_store.specs.Totals.{IsCounted, one, body_len}
-use Rattle.pcache_base.specs.Totals.{share}
+use Rattle.pcache_store.proofs.Words.{sym, subst, ap, ◌∙◌, ◌≤◌, ◌-◌, ◌+◌, arith, IsCounted, one, body_len, share}
 use Rattle.pcache_store.proofs.Counts.{counted_stored, has_body, has_bytes, few_bodies, few_bytes}
 use Rattle.pcache_store.proofs.memory.slots.Slots.store.Goals as goal
 

@@ -1,7 +1,7 @@
-use Rattle.std.proofs.Common.{◌||◌, ◌∙◌, ap, sym, is_some}
-use Rattle.std.specs.FinMap as map
+use Rattle.std.proofs.Common.{is_some}
 use Rattle.pcache_table.proofs.TableMaps.{got}
-use Rattle.pcache_store.specs.Untouched.{numbers_in}
+use Rattle.pcache_store.proofs.Words.{◌||◌, ◌∙◌, ap, sym, numbers_in}
+use Rattle.std.specs.FinMap as map
 use Rattle.pcache_store.proofs.Untouched.{contained}
 use Rattle.pcache_store.proofs.memory.untouched.Untouched.contains.Goals as goal
 

@@ -1,7 +1,6 @@
-use Rattle.std.proofs.Common.{◌∙◌, ap, sym}
-use Rattle.std.specs.FinMap as map
 use Rattle.pcache_table.proofs.TableMaps.{removed}
-use Rattle.pcache_store.specs.Untouched.{numbers_in, with_one}
+use Rattle.pcache_store.proofs.Words.{◌∙◌, ap, sym, numbers_in, with_one}
+use Rattle.std.specs.FinMap as map
 use Rattle.pcache_store.proofs.Untouched.{taken, left_in}
 use Rattle.pcache_store.proofs.memory.untouched.Untouched.remove.Goals as goal
 

@@ -1,7 +1,5 @@
-use Rattle.std.proofs.Common.{◌≡◌, ◌∙◌, ◌++◌, [], ◌∷◌, refl, ap, arith}
-use Rattle.std.specs.List.{range_with_len}
 use Rattle.std.proofs.lemmas.Fn.{FoldsTo-push}
-use Rattle.pcache_table.specs.Sharding.{Visits}
+use Rattle.pcache_table.proofs.Words.{◌≡◌, ◌∙◌, ◌++◌, [], ◌∷◌, refl, ap, arith, range_with_len, Visits}
 use Rattle.pcache_table.proofs.Seats.{place-at, places-more}
 use Rattle.pcache_table.proofs.hashtable.concurrent.ConcurrentHashTable.for_each.Goals as goal
 

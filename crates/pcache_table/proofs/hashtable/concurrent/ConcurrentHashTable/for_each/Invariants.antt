@@ -1,7 +1,4 @@
-use Rattle.std.proofs.Common.{◌≡◌, List}
-use Rattle.std.specs.Prelude.{map}
-use Rattle.std.specs.List.{FoldsTo, range_with_len}
-use Rattle.pcache_table.specs.Sharding.{Part, Visits}
+use Rattle.pcache_table.proofs.Words.{◌≡◌, List, map, FoldsTo, range_with_len, Part, Visits}
 use Rattle.pcache_table.proofs.hashtable.concurrent.ConcurrentHashTable.for_each.Given as goal
 
 -- the shards below the place were visited

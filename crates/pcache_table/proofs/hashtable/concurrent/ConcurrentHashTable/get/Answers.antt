@@ -1,4 +1,4 @@
-use Rattle.std.proofs.Common.{◌%◌, arith}
+use Rattle.pcache_table.proofs.Words.{◌%◌, arith}
 use Rattle.pcache_table.proofs.Seats.{place-at}
 use Rattle.pcache_table.proofs.hashtable.concurrent.ConcurrentHashTable.get.Goals as goal
 

@@ -1,5 +1,5 @@
 use Rattle.pcache_table.proofs.Seats.{place-at}
-use Rattle.std.proofs.Common.{arith}
+use Rattle.pcache_table.proofs.Words.{arith}
 use Rattle.pcache_table.proofs.hashtable.concurrent.ConcurrentHashTable.get_shard_at_idx.Goals as goal
 
 pub returns-then-place-clause-place : goal.returns-then-place-clause-place

@@ -1,4 +1,4 @@
-use Rattle.std.proofs.Common.{◌%◌, ◌∙◌, ap, arith}
+use Rattle.pcache_table.proofs.Words.{◌%◌, ◌∙◌, ap, arith}
 use Rattle.pcache_table.proofs.Seats.{seats-long, seat-at}
 use Rattle.pcache_table.proofs.hashtable.concurrent.ConcurrentLruCache.get.Goals as goal
 

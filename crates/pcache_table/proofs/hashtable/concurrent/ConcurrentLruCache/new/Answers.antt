@@ -1,6 +1,5 @@
-use Rattle.std.proofs.Common.{◌≡◌, ◌∙◌, arith, sym, ap, ◌++◌, [], ◌∷◌, rules}
-use Rattle.std.specs.Prelude.{max}
-use Rattle.pcache_table.specs.Sharding.{seats}
+use Rattle.std.proofs.Common.{rules}
+use Rattle.pcache_table.proofs.Words.{◌≡◌, ◌∙◌, arith, sym, ap, ◌++◌, [], ◌∷◌, max, seats}
 use Rattle.pcache_table.proofs.Seats.{seats-more}
 use Rattle.pcache_table.proofs.hashtable.concurrent.ConcurrentLruCache.new.Goals as goal
 

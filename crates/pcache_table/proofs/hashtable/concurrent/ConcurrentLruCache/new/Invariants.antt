@@ -1,6 +1,4 @@
-use Rattle.std.proofs.Common.{◌≡◌}
-use Rattle.std.specs.Prelude.{max}
-use Rattle.pcache_table.specs.Sharding.{seats}
+use Rattle.pcache_table.proofs.Words.{◌≡◌, max, seats}
 use Rattle.pcache_table.proofs.hashtable.concurrent.ConcurrentLruCache.new.Given as goal
 
 -- the locks below the place are made

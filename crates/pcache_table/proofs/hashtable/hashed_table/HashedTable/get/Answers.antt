@@ -1,4 +1,4 @@
-use Rattle.std.proofs.Common.{sym, ◌∙◌, ap}
+use Rattle.pcache_table.proofs.Words.{sym, ◌∙◌, ap}
 use Rattle.std.specs.FinMap as map
 use Rattle.pcache_table.proofs.HashMaps.{found}
 use Rattle.pcache_table.proofs.hashtable.hashed_table.HashedTable.get.Goals as goal

@@ -1,6 +1,5 @@
-use Rattle.std.proofs.Common.{refl, sym, ◌∙◌, ap}
+use Rattle.pcache_table.proofs.Words.{refl, sym, ◌∙◌, ap, nat_cmp}
 use Rattle.std.specs.FinMap as map
-use Rattle.std.specs.Ordering.{nat_cmp}
 use Rattle.pcache_table.proofs.TableMaps.{on_some_lent}
 use Rattle.pcache_table.proofs.HashMaps.{found, put}
 use Rattle.pcache_table.proofs.hashtable.hashed_table.HashedTable.get_mut.Goals as goal

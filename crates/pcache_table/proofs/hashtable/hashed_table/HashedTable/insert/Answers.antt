@@ -1,7 +1,5 @@
-use Rattle.std.proofs.Common.{sym, ◌∙◌, ap}
+use Rattle.pcache_table.proofs.Words.{sym, ◌∙◌, ap, nat_cmp, IfOk-weaker, on_ok_weaker, on_err_weaker}
 use Rattle.std.specs.FinMap as map
-use Rattle.std.specs.Ordering.{nat_cmp}
-use Rattle.std.proofs.lemmas.Result.{IfOk-weaker, on_ok_weaker, on_err_weaker}
 use Rattle.pcache_table.proofs.HashMaps.{found, put}
 use Rattle.pcache_table.proofs.hashtable.hashed_table.HashedTable.insert.Goals as goal
 

@@ -1,4 +1,4 @@
-use Rattle.std.proofs.Common.{ap, sym, ◌∙◌}
+use Rattle.pcache_table.proofs.Words.{ap, sym, ◌∙◌}
 use Rattle.pcache_table.proofs.ShardLists.{own-put-either}
 use Rattle.pcache_table.proofs.hashtable.lru_shard.LruShard.put.Goals as goal
 

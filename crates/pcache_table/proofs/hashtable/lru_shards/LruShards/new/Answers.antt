@@ -1,6 +1,4 @@
-use Rattle.std.proofs.Common.{◌∙◌, arith, sym, ap, ◌++◌, [], ◌∷◌}
-use Rattle.std.specs.Prelude.{max}
-use Rattle.pcache_table.specs.Sharding.{new_lists}
+use Rattle.pcache_table.proofs.Words.{◌∙◌, arith, sym, ap, ◌++◌, [], ◌∷◌, max, new_lists}
 use Rattle.pcache_table.proofs.ShardLists.{new-more, made-in-place}
 use Rattle.pcache_table.proofs.hashtable.lru_shards.LruShards.new.Goals as goal
 

@@ -1,6 +1,4 @@
-use Rattle.std.proofs.Common.{◌≡◌}
-use Rattle.std.specs.Prelude.{max}
-use Rattle.pcache_table.specs.Sharding.{new_lists}
+use Rattle.pcache_table.proofs.Words.{◌≡◌, max, new_lists}
 use Rattle.pcache_table.proofs.hashtable.lru_shards.LruShards.new.Given as goal
 
 -- the shards below the place are made

@@ -1,7 +1,4 @@
-use Rattle.std.proofs.Common.{◌%◌, ◌<◌, ◌∙◌, arith, sym}
-use Rattle.std.proofs.lemmas.Option.{slice_get_read, slice_get_within}
-use Rattle.std.proofs.lemmas.List.{length-set}
-use Rattle.pcache_table.specs.Sharding.{InPlace}
+use Rattle.pcache_table.proofs.Words.{◌%◌, ◌<◌, ◌∙◌, arith, sym, slice_get_read, slice_get_within, length-set, InPlace}
 use Rattle.pcache_table.proofs.ShardLists.{each-set, in-place-without}
 use Rattle.pcache_table.proofs.hashtable.lru_shards.LruShards.pop.Goals as goal
 

@@ -1,4 +1,4 @@
-use Rattle.std.proofs.Common.{◌∙◌, ap, sym}
+use Rattle.pcache_table.proofs.Words.{◌∙◌, ap, sym}
 use Rattle.pcache_table.proofs.Sharded.{belongs-either}
 use Rattle.pcache_table.proofs.hashtable.shard.Shard.insert.Goals as goal
 

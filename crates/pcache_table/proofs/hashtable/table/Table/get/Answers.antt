@@ -1,4 +1,4 @@
-use Rattle.std.proofs.Common.{sym, ◌∙◌, ap}
+use Rattle.pcache_table.proofs.Words.{sym, ◌∙◌, ap}
 use Rattle.std.specs.FinMap as map
 use Rattle.pcache_table.proofs.TableMaps.{got}
 use Rattle.pcache_table.proofs.hashtable.table.Table.get.Goals as goal

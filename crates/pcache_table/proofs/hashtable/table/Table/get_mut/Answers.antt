@@ -1,6 +1,5 @@
-use Rattle.std.proofs.Common.{refl, sym, ◌∙◌, ap}
+use Rattle.pcache_table.proofs.Words.{refl, sym, ◌∙◌, ap, nat_cmp}
 use Rattle.std.specs.FinMap as map
-use Rattle.std.specs.Ordering.{nat_cmp}
 use Rattle.pcache_table.proofs.TableMaps.{got, inserted, on_some_lent}
 use Rattle.pcache_table.proofs.hashtable.table.Table.get_mut.Goals as goal
 

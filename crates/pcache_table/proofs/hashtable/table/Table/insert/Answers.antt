@@ -1,6 +1,5 @@
-use Rattle.std.proofs.Common.{sym, ◌∙◌, ap}
+use Rattle.pcache_table.proofs.Words.{sym, ◌∙◌, ap, IfOk-weaker, on_ok_weaker, on_err_weaker}
 use Rattle.std.specs.FinMap as map
-use Rattle.std.proofs.lemmas.Result.{IfOk-weaker, on_ok_weaker, on_err_weaker}
 use Rattle.pcache_table.proofs.TableMaps.{got, inserted}
 use Rattle.pcache_table.proofs.hashtable.table.Table.insert.Goals as goal
 

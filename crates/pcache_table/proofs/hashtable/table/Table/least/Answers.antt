@@ -1,5 +1,4 @@
-use Rattle.std.proofs.Common.{◌≡◌, sym, ◌∙◌, ap, Some, None, Option, ℕ}
-use Rattle.pcache_table.specs.Numbers.{least, first_key}
+use Rattle.pcache_table.proofs.Words.{◌≡◌, sym, ◌∙◌, ap, Some, None, Option, ℕ, least, first_key}
 use Rattle.pcache_table.proofs.Least.{if_least, if_first, if_none}
 use Rattle.pcache_table.proofs.TableMaps.{entries_of}
 use Rattle.pcache_table.proofs.hashtable.table.Table.least.Goals as goal
