@@ -1,9 +1,9 @@
 //! Fills that a request cannot use, named by tokens that a writer may publish.
-ghost use Rattle.std.specs.Prelude.{◌≡◌, IfOk, IfErr, ◌↔◌, IsTrue, []};
+ghost use Rattle.std.specs.Prelude.{◌≡◌, IfOk, ◌↔◌, IsTrue, []};
 ghost use Rattle.pcache_base.specs.Fills.{first_match};
-ghost use Rattle.pcache_base.specs.declared.error.ErrorType.TheVariants.{OutOfMemory};
 
 use crate::error::Result;
+use std::alloc::AllocError;
 use std::marker::Model;
 
 /// A fill that a request cannot use: the token that its writer would publish, and why not.
@@ -66,9 +66,8 @@ impl UnusableFills {
     }
 
     /// A second list of the same fills. Fails only when memory runs out.
-    pub fn copied(&self) -> Result<UnusableFills>
+    pub fn copied(&self) -> Result<UnusableFills, AllocError>
         ensures ok { IfOk result (λ copy. copy ≡ self.now) }
-        ensures kind { IfErr result (λ e. e ≡ OutOfMemory) }
     {
         Ok(UnusableFills {
             fills: self.fills.clone()?,

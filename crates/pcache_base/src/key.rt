@@ -1,17 +1,16 @@
 //! Cache keys and their hashes.
-ghost use Rattle.std.specs.Prelude.{◌≡◌, ◌*◌, ℕ, List, Option, ◌↔◌, IfOk, IfErr, IfSome, IsSome, option_map, string_bytes, option_copied, length, slice_index};
+ghost use Rattle.std.specs.Prelude.{◌≡◌, ◌*◌, ℕ, List, Option, ◌↔◌, IfOk, IfSome, IsSome, option_map, string_bytes, option_copied, length, slice_index};
 ghost use Rattle.std.specs.List.{AllPass};
 ghost use Rattle.hex.specs.Hex.{encode_lower, decode_of, is_hex_digit};
 ghost use Rattle.pcache_base.specs.Blake2b.{blake2b_128};
 ghost use Rattle.pcache_base.specs.Key.{SpellsHash, combined_of, number_of, slot_of};
-ghost use Rattle.pcache_base.specs.declared.error.ErrorType.TheVariants.{OutOfMemory};
 
 use crate::blake2b::Hasher;
 use crate::error::Result;
 use crate::fills::UnusableFills;
 use crate::text::Text;
 use hex::FromHex;
-use std::alloc::Global;
+use std::alloc::{AllocError, Global};
 use std::fmt;
 use std::marker::Model;
 
@@ -58,11 +57,10 @@ fn combined_hash(primary: HashBinary, variance: Option<HashBinary>) -> HashBinar
 }
 
 // The lower-case hexadecimal text of a hash.
-fn hex_text(alloc: Global, hash: &[u8]) -> Result<String>
+fn hex_text(alloc: Global, hash: &[u8]) -> Result<String, AllocError>
     requires { length hash.now ≡ 16 }
     ensures text { IfOk result (λ text. string_bytes text ≡ encode_lower hash.now) }
     ensures spelled { IfOk result (λ text. SpellsHash (string_bytes text) hash.now) }
-    ensures kind { IfErr result (λ e. e ≡ OutOfMemory) }
 {
     Ok(hex::encode(alloc, hash)?)
 }
@@ -105,21 +103,19 @@ pub trait CacheHashKey {
         ensures { result.now ≡ tag self.now };
 
     /// The primary hash in lower-case hexadecimal digits. Fails only when memory runs out.
-    fn primary(&self, alloc: Global) -> Result<String>
+    fn primary(&self, alloc: Global) -> Result<String, AllocError>
         ensures text { IfOk result (λ text.
             string_bytes text ≡ encode_lower (primary_hash self.now)) }
         ensures spelled { IfOk result (λ text.
             SpellsHash (string_bytes text) (primary_hash self.now)) }
-        ensures kind { IfErr result (λ e. e ≡ OutOfMemory) }
     {
         hex_text(alloc, &self.primary_bin())
     }
 
     /// The variance in lower-case hexadecimal digits. Fails only when memory runs out.
-    fn variance(&self, alloc: Global) -> Result<Option<String>>
+    fn variance(&self, alloc: Global) -> Result<Option<String>, AllocError>
         ensures text { IfOk result (λ text.
             option_map string_bytes text ≡ option_map encode_lower (variance_hash self.now)) }
-        ensures kind { IfErr result (λ e. e ≡ OutOfMemory) }
     {
         match self.variance_bin() {
             Some(hash) => Ok(Some(hex_text(alloc, &hash)?)),
@@ -128,12 +124,11 @@ pub trait CacheHashKey {
     }
 
     /// The combined hash in lower-case hexadecimal digits. Fails only when memory runs out.
-    fn combined(&self, alloc: Global) -> Result<String>
+    fn combined(&self, alloc: Global) -> Result<String, AllocError>
         ensures text { IfOk result (λ text. string_bytes text
             ≡ encode_lower (combined_of (primary_hash self.now) (variance_hash self.now))) }
         ensures spelled { IfOk result (λ text. SpellsHash (string_bytes text)
             (combined_of (primary_hash self.now) (variance_hash self.now))) }
-        ensures kind { IfErr result (λ e. e ≡ OutOfMemory) }
     {
         hex_text(alloc, &self.combined_bin())
     }
@@ -257,9 +252,8 @@ impl CacheKey {
     }
 
     /// The compact form of the key, which eviction managers keep. Fails only when memory runs out.
-    pub fn to_compact(&self) -> Result<CompactCacheKey>
+    pub fn to_compact(&self) -> Result<CompactCacheKey, AllocError>
         ensures ok { IfOk result (λ compact. compact ≡ compact_of self.now) }
-        ensures kind { IfErr result (λ e. e ≡ OutOfMemory) }
     {
         Ok(CompactCacheKey {
             primary: self.primary_bin(),
@@ -269,9 +263,8 @@ impl CacheKey {
     }
 
     /// A second key, equal to this one. Fails only when memory runs out.
-    pub fn copied(&self) -> Result<CacheKey>
+    pub fn copied(&self) -> Result<CacheKey, AllocError>
         ensures ok { IfOk result (λ copy. copy ≡ self.now) }
-        ensures kind { IfErr result (λ e. e ≡ OutOfMemory) }
     {
         Ok(CacheKey {
             primary: self.primary.clone()?,
@@ -330,9 +323,8 @@ pub struct CompactCacheKey {
 
 impl CompactCacheKey {
     /// A second key, equal to this one. Fails only when memory runs out.
-    pub fn copied(&self) -> Result<CompactCacheKey>
+    pub fn copied(&self) -> Result<CompactCacheKey, AllocError>
         ensures ok { IfOk result (λ copy. copy ≡ self.now) }
-        ensures kind { IfErr result (λ e. e ≡ OutOfMemory) }
     {
         Ok(CompactCacheKey {
             primary: self.primary,

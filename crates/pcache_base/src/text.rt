@@ -4,14 +4,13 @@
 //! contract that compares such structs; a `Text` does not. The tags of users are short: a short
 //! text is kept in the value itself, so that a key is copied, compared and dropped without an
 //! access to the heap.
-ghost use Rattle.std.specs.Prelude.{◌≡◌, IfOk, IfErr, nat_eq, string_bytes};
+ghost use Rattle.std.specs.Prelude.{◌≡◌, IfOk, nat_eq, string_bytes};
 ghost use Rattle.std.specs.Ordering.{nat_cmp, as_partial_cmp};
 ghost use Rattle.std.specs.Cmp.{partial_equiv_from_equiv, partial_order_from_own_ties};
 ghost use Rattle.std.specs.Cmp.Lexicographic.{pointwise, slice_cmp, nat_list_eq_equiv};
 ghost use Rattle.std.specs.Cmp.Rules.{comparing, hashing};
 ghost use Rattle.std.specs.Hash as fed;
 ghost use Rattle.std.proofs.Common.{rules};
-ghost use Rattle.pcache_base.specs.declared.error.ErrorType.TheVariants.{OutOfMemory};
 
 use crate::error::Result;
 use arrayvec::ArrayString;
@@ -76,11 +75,10 @@ impl Text {
     }
 
     /// A second text with the same bytes. Fails only when memory runs out.
-    pub fn copied(&self) -> Result<Text>
+    pub fn copied(&self) -> Result<Text, AllocError>
         ensures ok { IfOk result (λ copy. copy ≡ self.now) }
-        ensures kind { IfErr result (λ e. e ≡ OutOfMemory) }
     {
-        Ok(self.clone()?)
+        self.clone()
     }
 }
 

@@ -1,5 +1,5 @@
 //! What a response varies on: names with values, and the hash of them all.
-ghost use Rattle.std.specs.Prelude.{◌≡◌, ◌<◌, ◌↔◌, ℕ, List, ◌++◌, IsTrue, IsNone, IfOk, IfErr, IfSome, OnOk, OnErr, Ok, Err, nat_eq, string_bytes};
+ghost use Rattle.std.specs.Prelude.{◌≡◌, ◌<◌, ◌↔◌, ℕ, List, ◌++◌, IsTrue, IsNone, IfSome, OnOk, OnErr, nat_eq, string_bytes};
 ghost use Rattle.std.specs.Ordering.{nat_cmp, as_partial_cmp};
 ghost use Rattle.std.specs.Cmp.{partial_equiv_from_equiv, partial_order_from_own_ties};
 ghost use Rattle.std.specs.Cmp.Lexicographic.{pointwise, slice_cmp, nat_list_eq_equiv};
@@ -11,12 +11,11 @@ ghost use Rattle.std.proofs.Common.{rules};
 ghost use Rattle.pcache_base.specs.Blake2b.{blake2b_128};
 ghost use Rattle.pcache_base.specs.Hashing.{Holds};
 ghost use Rattle.pcache_base.specs.Variance.{spelled, message};
-ghost use Rattle.pcache_base.specs.declared.error.ErrorType.TheVariants.{OutOfMemory};
 
 use crate::blake2b::Hasher;
 use crate::error::Result;
 use crate::key::HashBinary;
-use std::alloc::Global;
+use std::alloc::{AllocError, Global};
 use std::borrow::{CowSlice, CowStr};
 use std::cmp::Ordering;
 use std::collections::BTreeMap;
@@ -193,40 +192,36 @@ impl<'a> VarianceBuilder<'a> {
         }
     }
 
-    fn add(&mut self, name: Name<'a>, value: Value<'a>) -> Result<()>
+    fn add(&mut self, name: Name<'a>, value: Value<'a>) -> Result<(), AllocError>
         ensures ok { OnOk result (self.new ≡ map.insert self.old name.entry value.entry) }
         ensures err { OnErr result (self.new ≡ self.old) }
-        ensures kind { IfErr result (λ e. e ≡ OutOfMemory) }
     {
         self.values.insert(name, value)?;
         Ok(())
     }
 
     /// Sets the value of a name. Fails only when memory runs out, and then changes nothing.
-    pub fn add_value(&mut self, name: &'a str, value: &'a [u8]) -> Result<()>
+    pub fn add_value(&mut self, name: &'a str, value: &'a [u8]) -> Result<(), AllocError>
         ensures ok { OnOk result (self.new ≡ map.insert self.old name.now value.now) }
         ensures err { OnErr result (self.new ≡ self.old) }
-        ensures kind { IfErr result (λ e. e ≡ OutOfMemory) }
     {
         self.add(Name::borrowed(name), Value::borrowed(value))
     }
 
     /// Sets the value of a name; the builder owns the value. Fails only when memory runs out, and
     /// then changes nothing.
-    pub fn add_owned_value(&mut self, name: &'a str, value: Vec<u8>) -> Result<()>
+    pub fn add_owned_value(&mut self, name: &'a str, value: Vec<u8>) -> Result<(), AllocError>
         ensures ok { OnOk result (self.new ≡ map.insert self.old name.now value.items) }
         ensures err { OnErr result (self.new ≡ self.old) }
-        ensures kind { IfErr result (λ e. e ≡ OutOfMemory) }
     {
         self.add(Name::borrowed(name), Value::owned(value))
     }
 
     /// Sets the value of a name; the builder owns both. Fails only when memory runs out, and then
     /// changes nothing.
-    pub fn add_owned_name_value(&mut self, name: String, value: Vec<u8>) -> Result<()>
+    pub fn add_owned_name_value(&mut self, name: String, value: Vec<u8>) -> Result<(), AllocError>
         ensures ok { OnOk result (self.new ≡ map.insert self.old (string_bytes name) value.items) }
         ensures err { OnErr result (self.new ≡ self.old) }
-        ensures kind { IfErr result (λ e. e ≡ OutOfMemory) }
     {
         self.add(Name::owned(name), Value::owned(value))
     }
