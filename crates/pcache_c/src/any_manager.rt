@@ -1,6 +1,5 @@
 //! The eviction manager of a cache, of the policy that its maker named.
-ghost use Rattle.std.specs.Prelude.{◌≡◌, IfErr, IfOk};
-ghost use Rattle.pcache_base.specs.declared.error.ErrorType.TheVariants.{OutOfMemory};
+ghost use Rattle.std.specs.Prelude.{◌≡◌, IfOk};
 ghost use Rattle.pcache_c.specs.AnyManagers.{HasNone, IsNamed, named_by};
 
 use pcache_base::error::Result;
@@ -8,7 +7,7 @@ use pcache_base::moment::Moment;
 use pcache_base::seed::Seed;
 use pcache_evict::eviction::{CacheEntryKey, EvictionManager, simple_lru};
 use pcache_policies::{clock, fifo, sieve};
-use std::alloc::Global;
+use std::alloc::{AllocError, Global};
 
 /// A policy: which entries go.
 #[derive(Clone, Copy)]
@@ -59,10 +58,9 @@ impl AnyManager {
         policy: Policy,
         limit: usize,
         watermark: Option<usize>,
-    ) -> Result<AnyManager>
+    ) -> Result<AnyManager, AllocError>
         ensures policy { IfOk result (λ m. named_by m ≡ policy) }
         ensures none { IfOk result (λ m. HasNone policy limit watermark m) }
-        ensures kind { IfErr result (λ e. e ≡ OutOfMemory) }
     {
         match policy {
             Policy::Lru => {

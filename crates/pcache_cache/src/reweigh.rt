@@ -1,6 +1,5 @@
 //! The meta of a body is set, and its entry is admitted anew if it weighs something else then.
-ghost use Rattle.std.specs.Prelude.{◌≡◌, IfErr, IfOk, IsTrue, List, OnErr, OnOk, Some};
-ghost use Rattle.pcache_base.specs.declared.error.ErrorType.TheVariants.{OutOfMemory};
+ghost use Rattle.std.specs.Prelude.{◌≡◌, IfOk, IsTrue, List, OnErr, OnOk, Some};
 ghost use Rattle.pcache_evict.specs.declared.eviction.entry_key.CacheEntryKey as entry_key;
 ghost use Rattle.pcache_request.specs.Finishing.{entry_slot};
 ghost use Rattle.pcache_request.specs.Renewals.{has_body};
@@ -16,7 +15,7 @@ use pcache_meta::meta::CacheMeta;
 use pcache_request::cache::ending::purge_all;
 use pcache_store::memory::MemCache;
 use pcache_store::storage::{PurgeTarget, PurgeType, Storage};
-use std::alloc::Global;
+use std::alloc::{AllocError, Global};
 
 // An entry twice: once to be admitted, and once so that its removal needs no memory.
 #[derive(Drop)]
@@ -36,10 +35,9 @@ fn weight_at(weighing: Weighing, store: &MemCache, key: &CacheKey) -> usize
 }
 
 // The entry of a key's complete body.
-fn entry_of_body(store: &MemCache, key: &CacheKey) -> Result<Twice>
+fn entry_of_body(store: &MemCache, key: &CacheKey) -> Result<Twice, AllocError>
     ensures entry { IfOk result (λ t. t.entry ≡ entry_at store.now.state key.now) }
     ensures copy { IfOk result (λ t. t.copy ≡ t.entry) }
-    ensures kind { IfErr result (λ e. e ≡ OutOfMemory) }
 {
     let entry = CacheEntryKey::from_entry_id(key.to_compact()?, store.body_number(key));
     let copy = entry.copied()?;
@@ -54,7 +52,7 @@ fn admit_anew<M: EvictionManager>(
     twice: Twice,
     weight: usize,
     fresh_until: Moment,
-) -> Result<()>
+) -> Result<(), AllocError>
     requires { twice.copy ≡ twice.entry }
     ensures done { OnOk result ((out : List entry_key.CacheEntryKey)
         × Readmits (M.limits manager.old) twice.entry weight out
@@ -83,7 +81,6 @@ fn admit_anew<M: EvictionManager>(
           evicted = M.evicted manager.old;
         })) }
     ensures limits { M.limits manager.new ≡ M.limits manager.old }
-    ensures kind { IfErr result (λ e. e ≡ OutOfMemory) }
 {
     let Twice { entry, copy } = twice;
     // An admission of a tracked entry sets its weight. No other call of a manager can lower one.
@@ -158,7 +155,7 @@ pub(crate) fn set_meta<M: EvictionManager>(
     manager: &mut M,
     key: &CacheKey,
     meta: &CacheMeta,
-) -> Result<bool>
+) -> Result<bool, AllocError>
     ensures renews { Renews weighing (M.limits manager.old) meta.now (Some key.now) result
         (record {
           store = store.old.state;
@@ -174,7 +171,6 @@ pub(crate) fn set_meta<M: EvictionManager>(
     ensures kept { IsKept weighing (M.limits manager.old) (M.tracked manager.old) store.old.state
         → IsKept weighing (M.limits manager.new) (M.tracked manager.new) store.new.state }
     ensures limits { M.limits manager.new ≡ M.limits manager.old }
-    ensures kind { IfErr result (λ e. e ≡ OutOfMemory) }
 {
     if store.body_lengths(key).is_none() {
         return store.update_meta(alloc, key, meta);

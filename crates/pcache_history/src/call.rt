@@ -1,6 +1,5 @@
 //! The calls of a world, and its replies.
-ghost use Rattle.std.specs.Prelude.{◌≡◌, ℕ, List, IfOk, IfErr, OnErr};
-ghost use Rattle.pcache_base.specs.declared.error.ErrorType.TheVariants.{OutOfMemory};
+ghost use Rattle.std.specs.Prelude.{◌≡◌, ℕ, List, IfOk, OnErr};
 ghost use Rattle.pcache_history.specs.Files.{files_in};
 ghost use Rattle.pcache_history.specs.declared.call.Act.TheVariants as acts;
 ghost use Rattle.pcache_history.specs.declared.call.Reply.TheVariants.{Data};
@@ -18,6 +17,7 @@ use pcache_predict::admission::Decision;
 use pcache_put::boxed::Boxed;
 use pcache_request::cache::CacheOptionOverrides;
 use pcache_request::phase::{CachePhase, HitStatus};
+use std::alloc::AllocError;
 
 /// A call: what the request or the put with this number is to do. Requests and puts share the
 /// numbers.
@@ -280,10 +280,9 @@ pub enum Reply {
 
 impl Reply {
     /// A copy of this reply. Fails only when memory runs out, and only if the reply has bytes.
-    pub fn copied(&self) -> Result<Reply>
+    pub fn copied(&self) -> Result<Reply, AllocError>
         ensures ok { IfOk result (λ copy. copy ≡ self.now) }
         ensures data { OnErr result ((bytes : List ℕ) × (self.now ≡ Data bytes)) }
-        ensures kind { IfErr result (λ e. e ≡ OutOfMemory) }
     {
         Ok(match self {
             Reply::WrongCall => Reply::WrongCall,

@@ -1,15 +1,14 @@
 //! Copies of calls.
-ghost use Rattle.std.specs.Prelude.{◌≡◌, IfErr, IfOk};
-ghost use Rattle.pcache_base.specs.declared.error.ErrorType.TheVariants.{OutOfMemory};
+ghost use Rattle.std.specs.Prelude.{◌≡◌, IfOk};
 
 use crate::call::{Act, Call, RequestAct};
 use pcache_base::error::Result;
+use std::alloc::AllocError;
 
 impl Call {
     /// A copy of this call. Fails only when memory runs out.
-    pub fn copied(&self) -> Result<Call>
+    pub fn copied(&self) -> Result<Call, AllocError>
         ensures ok { IfOk result (λ copy. copy ≡ self.now) }
-        ensures kind { IfErr result (λ e. e ≡ OutOfMemory) }
     {
         Ok(Call {
             request: self.request,
@@ -20,9 +19,8 @@ impl Call {
 
 impl Act {
     // A copy of this act. Fails only when memory runs out.
-    fn copied(&self) -> Result<Act>
+    fn copied(&self) -> Result<Act, AllocError>
         ensures ok { IfOk result (λ copy. copy ≡ self.now) }
-        ensures kind { IfErr result (λ e. e ≡ OutOfMemory) }
     {
         Ok(match self {
             Act::Open { options } => Act::Open { options: *options },
@@ -47,9 +45,8 @@ impl Act {
 
 impl RequestAct {
     // A copy of this act. Fails only when memory runs out.
-    fn copied(&self) -> Result<RequestAct>
+    fn copied(&self) -> Result<RequestAct, AllocError>
         ensures ok { IfOk result (λ copy. copy ≡ self.now) }
-        ensures kind { IfErr result (λ e. e ≡ OutOfMemory) }
     {
         Ok(match self {
             RequestAct::Enable { options } => RequestAct::Enable { options: *options },

@@ -1,8 +1,8 @@
 //! Lists in calls and events.
-ghost use Rattle.std.specs.Prelude.{◌≡◌, IfErr, IfOk};
-ghost use Rattle.pcache_base.specs.declared.error.ErrorType.TheVariants.{OutOfMemory};
+ghost use Rattle.std.specs.Prelude.{◌≡◌, IfOk};
 
 use pcache_base::error::Result;
+use std::alloc::AllocError;
 use std::marker::Model;
 
 /// An immutable list of values. A contract sees the list, and not its address.
@@ -37,9 +37,8 @@ impl<T> Listed<T> {
 
 impl Listed<u64> {
     /// A copy of this list of numbers. Fails only when memory runs out.
-    pub fn copied(&self) -> Result<Listed<u64>>
+    pub fn copied(&self) -> Result<Listed<u64>, AllocError>
         ensures ok { IfOk result (λ copy. copy ≡ self.now) }
-        ensures kind { IfErr result (λ e. e ≡ OutOfMemory) }
     {
         Ok(Listed {
             list: self.list.clone()?,

@@ -1,12 +1,11 @@
 //! Values behind boxes, for the reports of puts and for the calls and events of worlds.
-ghost use Rattle.std.specs.Prelude.{◌≡◌, IfErr, IfOk, Some};
-ghost use Rattle.pcache_base.specs.declared.error.ErrorType.TheVariants.{OutOfMemory};
+ghost use Rattle.std.specs.Prelude.{◌≡◌, IfOk, Some};
 ghost use Rattle.pcache_meta.specs.Meta.{internal_changed};
 
 use pcache_base::error::Result;
 use pcache_base::moment::Moment;
 use pcache_meta::meta::CacheMeta;
-use std::alloc::Global;
+use std::alloc::{AllocError, Global};
 use std::marker::Model;
 
 /// A value behind a box, so that a struct that has it has only a pointer in its place. A contract
@@ -24,9 +23,8 @@ impl<T> Model for Boxed<T> {
 
 impl<T: Drop> Boxed<T> {
     /// Puts a value behind a box. Fails only when memory runs out.
-    pub fn new(alloc: Global, value: T) -> Result<Boxed<T>>
+    pub fn new(alloc: Global, value: T) -> Result<Boxed<T>, AllocError>
         ensures ok { IfOk result (λ boxed. boxed ≡ value) }
-        ensures kind { IfErr result (λ e. e ≡ OutOfMemory) }
     {
         Ok(Boxed {
             place: Box::new(alloc, value)?,
@@ -34,9 +32,8 @@ impl<T: Drop> Boxed<T> {
     }
 
     /// Puts another value behind a box of its own. Fails only when memory runs out.
-    pub fn beside(&self, value: T) -> Result<Boxed<T>>
+    pub fn beside(&self, value: T) -> Result<Boxed<T>, AllocError>
         ensures ok { IfOk result (λ boxed. boxed ≡ value) }
-        ensures kind { IfErr result (λ e. e ≡ OutOfMemory) }
     {
         Boxed::new(*Box::allocator(&self.place), value)
     }

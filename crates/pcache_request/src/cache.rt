@@ -57,7 +57,7 @@ pub use report::{
     Access, AskedLock, FoundReport, LockName, LookUp, ReleasedLock, Removal, Renewal, WaitReport,
     WriteBegin, WriteReport,
 };
-use std::alloc::Global;
+use std::alloc::{AllocError, Global};
 use std::marker::Model;
 pub use witness::{NoWitness, Witness};
 
@@ -262,9 +262,8 @@ fn join_write<S: Storage>(
 }
 
 // The entry of a key, with the number of its body or write if there is one.
-fn entry_for(key: &CacheKey, id: Option<CacheEntryId>) -> Result<CacheEntryKey>
+fn entry_for(key: &CacheKey, id: Option<CacheEntryId>) -> Result<CacheEntryKey, AllocError>
     ensures ok { IfOk result (λ entry. entry ≡ entry_of key.now id) }
-    ensures kind { IfErr result (λ e. e ≡ OutOfMemory) }
 {
     Ok(CacheEntryKey::from_entry_id(key.to_compact()?, id))
 }

@@ -14,7 +14,7 @@ use pcache_base::error::Result;
 use pcache_base::seed::Seed;
 use pcache_evict::eviction::EvictionPolicy;
 use pcache_evict::eviction::simple_lru::Manager;
-use std::alloc::Global;
+use std::alloc::{AllocError, Global};
 use std::time::Duration;
 
 impl<K: Mark, const N: usize> SharedCache<Manager, K, N> {
@@ -84,12 +84,11 @@ fn list_at(
     watermark: Option<usize>,
     parts: usize,
     place: usize,
-) -> Result<Portion<Manager>>
+) -> Result<Portion<Manager>, AllocError>
     requires { 0 < parts }
     ensures limits { IfOk result (λ p. p.limits ≡ portion_at Lru parts limit watermark place) }
     ensures empty { IfOk result (λ p.
         listed p ≡ no_entries (portion_at Lru parts limit watermark place)) }
-    ensures kind { IfErr result (λ e. e ≡ OutOfMemory) }
 {
     let limit = portion_of(limit, parts, place);
     let watermark = portion_of_watermark(watermark, parts, place);

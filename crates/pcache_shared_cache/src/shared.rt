@@ -17,7 +17,7 @@ use pcache_base::key::CacheKey;
 use pcache_base::seed::Seed;
 use pcache_evict::eviction::EvictionManager;
 use pcache_put::policy::CachePut;
-use std::alloc::Global;
+use std::alloc::{AllocError, Global};
 use std::marker::Model;
 use std::sync::Wait;
 use std::time::Duration;
@@ -208,14 +208,13 @@ fn locks_of<M: EvictionManager, K: Mark>(
     seed: Seed,
     new_parts: Vec<NewPart<M>>,
     age_timeout: Duration,
-) -> Result<Vec<PartLock<M, K>>>
+) -> Result<Vec<PartLock<M, K>>, AllocError>
     requires { AreNamed K.names (map unmade_name new_parts.items) }
     ensures made { IfOk result (λ v. (length v.items ≡ length new_parts.items)
         × ArePlaced v.items
         × (map begun_first v.items
         ≡ map (opened (as_nanos age_timeout))
         (map (unmade_managed M.tracked M.evicted) new_parts.items))) }
-    ensures kind { IfErr result (λ e. e ≡ OutOfMemory) }
 {
     let mut parts = Vec::with_capacity(alloc, new_parts.len())?;
     for new_part in new_parts {

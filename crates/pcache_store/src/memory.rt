@@ -1,7 +1,6 @@
 //! A store in memory, which knows its own past.
 ghost use Rattle.std.specs.Prelude.{◌≡◌, ◌<◌, ℕ, [], IfErr, IfOk, IsOk, IsSome, None, OnErr, OnOk, Option, Some, option_copied, option_map, true};
 ghost use Rattle.std.specs.FinMap as map;
-ghost use Rattle.pcache_base.specs.declared.error.ErrorType.TheVariants.{OutOfMemory};
 ghost use Rattle.pcache_base.specs.Key.{slot};
 ghost use Rattle.pcache_table.specs.Sharding.{part_of};
 ghost use Rattle.pcache_store.specs.Finishes.{body_number, created};
@@ -209,22 +208,20 @@ impl MemCache {
 
     /// The meta of what a look-up of the key finds, as it is kept: a copy of its bytes, which are not read. Fails only when
     /// memory runs out, and then something is there.
-    pub fn spelled_meta(&self, key: &CacheKey) -> Result<Option<SpelledMeta>>
+    pub fn spelled_meta(&self, key: &CacheKey) -> Result<Option<SpelledMeta>, AllocError>
         ensures found { IfOk result (λ m.
             m ≡ option_map (λ p. p.0) (find self.now.state (slot key.now))) }
         ensures something { OnErr result (IsSome (find self.now.state (slot key.now))) }
-        ensures kind { IfErr result (λ e. e ≡ OutOfMemory) }
     {
         self.bare.spelled_meta(key)
     }
 
     /// What a look-up of the key finds, if that is its complete body: the meta is not read yet. Such a look-up leaves the store
     /// and its past as they are, so the store is only lent. Fails only when memory runs out, and then such a body is there.
-    pub fn complete_body(&self, key: &CacheKey) -> Result<Option<FoundBody>>
+    pub fn complete_body(&self, key: &CacheKey) -> Result<Option<FoundBody>, AllocError>
         ensures found { IfOk result (λ f. f ≡ if_complete (find self.now.state (slot key.now))) }
         ensures something { OnErr result
             (IsSome (if_complete (find self.now.state (slot key.now)))) }
-        ensures kind { IfErr result (λ e. e ≡ OutOfMemory) }
     {
         self.bare.complete_body(key)
     }

@@ -1,13 +1,12 @@
 //! The linear values that a table of locks gives. Each has to be spent.
-ghost use Rattle.std.specs.Prelude.{◌≡◌, [], IfErr, IfOk, IsOk, IsSome, None, OnErr, OnOk, Some, is_some, option_copied, unwrap_or};
-ghost use Rattle.pcache_base.specs.declared.error.ErrorType.TheVariants.{OutOfMemory};
+ghost use Rattle.std.specs.Prelude.{◌≡◌, [], IfOk, IsOk, IsSome, None, OnErr, OnOk, Some, is_some, option_copied, unwrap_or};
 ghost use Rattle.pcache_lock.specs.Locks.{is_permit, number_of_lock};
 ghost use Rattle.pcache_lock.specs.Waiting.{first_watch, watched, watch_at};
 
 use crate::lock::lock_core::LockCore;
 use pcache_base::error::Result;
 use pcache_base::fills::{UnusableFill, UnusableFills};
-use std::alloc::Global;
+use std::alloc::{AllocError, Global};
 use std::marker::Model;
 
 /// The right to fill a key. It is spent by `release` or `drop_lock`.
@@ -80,10 +79,9 @@ impl Model for Watch {
 
 impl Watch {
     // What a reader that was not told of a fill watches for from now on.
-    fn first(alloc: Global, core: &LockCore, fills: Option<&UnusableFills>) -> Result<Watch>
+    fn first(alloc: Global, core: &LockCore, fills: Option<&UnusableFills>) -> Result<Watch, AllocError>
         ensures made { IfOk result (λ w.
             w ≡ first_watch core.now (unwrap_or (option_copied fills.entry) [])) }
-        ensures kind { IfErr result (λ e. e ≡ OutOfMemory) }
         ensures unnamed { option_copied fills.entry ≡ None → IsOk result }
     {
         let fills = match fills {
@@ -155,7 +153,7 @@ impl ReadLock {
         alloc: Global,
         core: &LockCore,
         fills: Option<&UnusableFills>,
-    ) -> Result<Option<UnusableFill>>
+    ) -> Result<Option<UnusableFill>, AllocError>
         ensures ok { OnOk result (self.new
             ≡ record self.old {
               watch = Some (watched core.now
@@ -165,7 +163,6 @@ impl ReadLock {
             ≡ (watched core.now
             (watch_at core.now (option_copied fills.entry) self.old.watch)).told) }
         ensures err { OnErr result (self.new ≡ self.old) }
-        ensures kind { IfErr result (λ e. e ≡ OutOfMemory) }
         ensures later { IsSome self.old.watch → IsOk result }
         ensures unnamed { option_copied fills.entry ≡ None → IsOk result }
     {

@@ -18,12 +18,12 @@ ghost use Rattle.pcache_request.specs.WriteEnds.{EndsBody, HoldsNoLock, evicted_
 
 use super::entry_for;
 use super::finish::{FinishReport, WriteEnd};
-use pcache_base::error::Result;
+use pcache_base::error::{Error, Result};
 use pcache_base::key::{CacheKey, CompactCacheKey};
 use pcache_base::moment::Moment;
 use pcache_evict::eviction::{CacheEntryId, CacheEntryKey, EvictionManager};
 use pcache_store::storage::{HandleMiss, MissFinishType, PurgeTarget, PurgeType, Storage};
-use std::alloc::Global;
+use std::alloc::{AllocError, Global};
 
 /// How the entry of a new body comes into the manager.
 #[derive(Clone, Copy, Debug, PartialEq, Eq)]
@@ -83,7 +83,7 @@ fn admit<E: EvictionManager>(
     entry: CacheEntryKey,
     kind: MissFinishType,
     fresh_until: Moment,
-) -> Result<Vec<CacheEntryKey>>
+) -> Result<Vec<CacheEntryKey>, AllocError>
     ensures admits { IfOk result (λ out. Admits is_used (E.limits eviction.old) kind entry
         (E.tracked eviction.old) out.items (E.tracked eviction.new)) }
     ensures evicted { IfOk result (λ out. E.evicted eviction.new
@@ -93,7 +93,6 @@ fn admit<E: EvictionManager>(
     ensures err { OnErr result (E.tracked eviction.new ≡ E.tracked eviction.old) }
     ensures err_evicted { OnErr result (E.evicted eviction.new ≡ E.evicted eviction.old) }
     ensures limits { E.limits eviction.new ≡ E.limits eviction.old }
-    ensures kind { IfErr result (λ e. e ≡ OutOfMemory) }
 {
     if !is_used {
         return Ok(Vec::new(alloc));
@@ -113,7 +112,7 @@ fn admit_and_purge<S: Storage, E: EvictionManager>(
     entry: CacheEntryKey,
     kind: MissFinishType,
     fresh_until: Moment,
-) -> Result<FinishReport>
+) -> Result<FinishReport, AllocError>
     ensures size { IfOk result (λ f. f.size ≡ size_reported kind) }
     ensures admits { IfOk result (λ f. Admits is_used (E.limits eviction.old) kind entry
         (E.tracked eviction.old) f.evicted.items (E.tracked eviction.new)) }
@@ -131,7 +130,6 @@ fn admit_and_purge<S: Storage, E: EvictionManager>(
     ensures same_tracked { OnErr result (E.tracked eviction.new ≡ E.tracked eviction.old) }
     ensures same_evicted { OnErr result (E.evicted eviction.new ≡ E.evicted eviction.old) }
     ensures limits { E.limits eviction.new ≡ E.limits eviction.old }
-    ensures kind { IfErr result (λ e. e ≡ OutOfMemory) }
 {
     let evicted = admit(alloc, is_used, eviction, entry, kind, fresh_until)?;
     let failed_purges = purge_all(storage, evicted.as_slice());
@@ -146,9 +144,8 @@ fn admit_and_purge<S: Storage, E: EvictionManager>(
 fn entry_and_key(
     key: &CacheKey,
     id: Option<CacheEntryId>,
-) -> Result<(CacheEntryKey, CompactCacheKey)>
+) -> Result<(CacheEntryKey, CompactCacheKey), AllocError>
     ensures ok { IfOk result (λ p. (p.0 ≡ entry_of key.now id) × (p.1 ≡ compact_of key.now)) }
-    ensures kind { IfErr result (λ e. e ≡ OutOfMemory) }
 {
     let entry = entry_for(key, id)?;
     let compact = key.to_compact()?;
@@ -185,7 +182,7 @@ fn finish_writer<S: Storage>(
         Ok(made) => made,
         Err(refused) => {
             writer.drop_write(storage);
-            return Err(refused);
+            return Err(Error::from(refused));
         }
     };
     let kind = weighed(writer.finish(storage)?, weight);
@@ -293,7 +290,7 @@ pub fn end_writer<S: Storage, E: EvictionManager>(
             // A storage that fails here too keeps a body which nothing tracks; that in memory never fails so.
             let _ = storage.purge(PurgeTarget::Active(&compact), PurgeType::Invalidation);
             EndedWrite {
-                end: WriteEnd::Withdrawn(refused),
+                end: WriteEnd::Withdrawn(Error::from(refused)),
                 entry: None,
             }
         }

@@ -6,13 +6,14 @@ ghost use Rattle.pcache_request.specs.Requests.{counts_hit, phase_found};
 
 use super::{Access, AskedLock, FoundReport, HttpCache, entry_for, replace_reader, take_lock_if};
 use crate::phase::{CachePhase, HitStatus};
-use pcache_base::error::Result;
+use pcache_base::error::{Error, Result};
 use pcache_base::key::CacheKey;
 use pcache_base::moment::Moment;
 use pcache_evict::eviction::EvictionManager;
 use pcache_lock::lock::CacheKeyLock;
 use pcache_meta::meta::CacheMeta;
 use pcache_store::storage::{HandleHit, Storage};
+use std::alloc::AllocError;
 
 // Records the use of a body that counts as accessed and is not treated as a miss. Returns the
 // access, if it was recorded.
@@ -22,7 +23,7 @@ fn note_access<S: Storage, E: EvictionManager>(
     meta: &CacheMeta,
     hit: &S::Hit,
     status: HitStatus,
-) -> Result<Option<Access>>
+) -> Result<Option<Access>, AllocError>
     ensures access { IfOk result (λ a. a ≡ cond (counts_hit status (S.Hit.reader hit.now))
         (Some (access_of S.guarantees.numbers key.now (S.Hit.reader hit.now))) None) }
     ensures tracked { OnOk result (E.tracked eviction.new
@@ -37,7 +38,6 @@ fn note_access<S: Storage, E: EvictionManager>(
     ensures limits { E.limits eviction.new ≡ E.limits eviction.old }
     ensures evicted { E.evicted eviction.new ≡ E.evicted eviction.old }
     ensures counts { OnErr result (counts_hit status (S.Hit.reader hit.now) ≡ true) }
-    ensures kind { IfErr result (λ e. e ≡ OutOfMemory) }
 {
     if !hit.should_count_access() || status.is_treated_as_miss() {
         return Ok(None);
@@ -78,7 +78,7 @@ impl<S: Storage> HttpCache<S> {
         meta: &CacheMeta,
         hit: &S::Hit,
         status: HitStatus,
-    ) -> Result<Option<Access>>
+    ) -> Result<Option<Access>, AllocError>
         requires { MayLookUp self.now.phase }
         ensures access { IfOk result (λ a.
             a ≡ access_by_hit S.guarantees.numbers status (S.Hit.reader hit.now) self.now) }
@@ -94,7 +94,6 @@ impl<S: Storage> HttpCache<S> {
         ensures evicted { E.evicted eviction.new ≡ E.evicted eviction.old }
         ensures counts { OnErr result
             (IsTrue (counts_found status (S.Hit.reader hit.now) self.now)) }
-        ensures kind { IfErr result (λ e. e ≡ OutOfMemory) }
     {
         let Some(key) = &self.key else { unreachable!() };
         if !self.uses.eviction {
@@ -241,7 +240,7 @@ impl<S: Storage> HttpCache<S> {
             Ok(access) => access,
             Err(refused) => {
                 hit.let_go(storage);
-                return Err(refused);
+                return Err(Error::from(refused));
             }
         };
         let asked = self.place_found(storage, lock, meta, hit, status, now);

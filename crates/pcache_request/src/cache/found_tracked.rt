@@ -1,19 +1,19 @@
 //! Taking the pair that a look-up found, where a use adds nothing to what the manager tracks.
-ghost use Rattle.std.specs.Prelude.{◌≡◌, IfErr, OnErr, OnOk, None, Some, cond, true, false};
+ghost use Rattle.std.specs.Prelude.{◌≡◌, OnErr, OnOk, None, Some, cond, true, false};
 ghost use Rattle.std.specs.FinMap.{contains_key};
-ghost use Rattle.pcache_base.specs.declared.error.ErrorType.TheVariants.{OutOfMemory};
 ghost use Rattle.pcache_request.specs.Reports.{IsKeptIn, IsUsedIn, access_of};
 ghost use Rattle.pcache_request.specs.Requests.{counts_hit};
 
 use super::{HttpCache, entry_for};
 use crate::phase::HitStatus;
-use pcache_base::error::Result;
+use pcache_base::error::{Error, Result};
 use pcache_base::key::CacheKey;
 use pcache_base::moment::Moment;
 use pcache_evict::eviction::{CacheEntryKey, EvictionManager};
 use pcache_lock::lock::CacheKeyLock;
 use pcache_meta::meta::CacheMeta;
 use pcache_store::storage::{HandleHit, Storage};
+use std::alloc::AllocError;
 
 // Records a use of an entry that is tracked. An access adds one that is not, which is taken out again: so an entry that is tracked,
 // as nearly all are, is looked up once.
@@ -22,14 +22,13 @@ fn use_tracked<E: EvictionManager>(
     entry: &CacheEntryKey,
     weight: usize,
     fresh_until: Moment,
-) -> Result<()>
+) -> Result<(), AllocError>
     ensures tracked { E.tracked eviction.new ≡ E.tracked eviction.old }
     ensures order { OnOk result (IsUsedIn (contains_key (E.tracked eviction.old) entry.now)
         (E.rules eviction.old) (E.shown eviction.old)
         (record { entry = entry.now; weight = weight }) (E.shown eviction.new)) }
     ensures limits { E.limits eviction.new ≡ E.limits eviction.old }
     ensures evicted { E.evicted eviction.new ≡ E.evicted eviction.old }
-    ensures kind { IfErr result (λ e. e ≡ OutOfMemory) }
 {
     let was_tracked = eviction.access(entry, weight, fresh_until)?;
     if !was_tracked {
@@ -45,7 +44,7 @@ fn note_use<S: Storage, E: EvictionManager>(
     meta: &CacheMeta,
     hit: &S::Hit,
     status: HitStatus,
-) -> Result<()>
+) -> Result<(), AllocError>
     ensures tracked { E.tracked eviction.new ≡ E.tracked eviction.old }
     ensures unused { counts_hit status (S.Hit.reader hit.now) ≡ false
         → eviction.new ≡ eviction.old }
@@ -56,7 +55,6 @@ fn note_use<S: Storage, E: EvictionManager>(
     ensures limits { E.limits eviction.new ≡ E.limits eviction.old }
     ensures evicted { E.evicted eviction.new ≡ E.evicted eviction.old }
     ensures counts { OnErr result (counts_hit status (S.Hit.reader hit.now) ≡ true) }
-    ensures kind { IfErr result (λ e. e ≡ OutOfMemory) }
 {
     if !hit.should_count_access() || status.is_treated_as_miss() {
         return Ok(());
@@ -71,8 +69,7 @@ fn note_use<S: Storage, E: EvictionManager>(
 }
 
 impl<S: Storage> HttpCache<S> {
-    ghost use Rattle.std.specs.Prelude.{◌≡◌, ◌⊎◌, IfErr, OnOk, OnErr, IsTrue, false};
-    ghost use Rattle.pcache_base.specs.declared.error.ErrorType.TheVariants.{OutOfMemory};
+    ghost use Rattle.std.specs.Prelude.{◌≡◌, ◌⊎◌, OnOk, OnErr, IsTrue, false};
     ghost use Rattle.pcache_request.specs.Looking.{TakesFound};
     ghost use Rattle.pcache_request.specs.Phases.{MayLookUp};
     ghost use Rattle.pcache_request.specs.Sides.{lock_side, store_side};
@@ -86,7 +83,7 @@ impl<S: Storage> HttpCache<S> {
         meta: &CacheMeta,
         hit: &S::Hit,
         status: HitStatus,
-    ) -> Result<()>
+    ) -> Result<(), AllocError>
         requires { MayLookUp self.now.phase }
         ensures tracked { E.tracked eviction.new ≡ E.tracked eviction.old }
         ensures unused { counts_found status (S.Hit.reader hit.now) self.now ≡ false
@@ -99,7 +96,6 @@ impl<S: Storage> HttpCache<S> {
         ensures evicted { E.evicted eviction.new ≡ E.evicted eviction.old }
         ensures counts { OnErr result
             (IsTrue (counts_found status (S.Hit.reader hit.now) self.now)) }
-        ensures kind { IfErr result (λ e. e ≡ OutOfMemory) }
     {
         let Some(key) = &self.key else { unreachable!() };
         if !self.uses.eviction {
@@ -139,7 +135,7 @@ impl<S: Storage> HttpCache<S> {
     {
         if let Err(refused) = self.use_found(eviction, &meta, &hit, status) {
             hit.let_go(storage);
-            return Err(refused);
+            return Err(Error::from(refused));
         }
         match self.place_found(storage, lock, meta, hit, status, now) {
             Ok(_asked) => Ok(()),

@@ -1,7 +1,7 @@
 //! The data of a store in memory, and its calls; it keeps no past.
 ghost use Rattle.std.specs.Prelude.{◌≡◌, ◌<◌, ◌^◌, ℕ, Option, Some, None, IsOk, IsSome, IfOk, IfErr, OnOk, OnErr, option_map, option_copied, is_some, false, true};
 ghost use Rattle.std.specs.FinMap as map;
-ghost use Rattle.pcache_base.specs.declared.error.ErrorType.TheVariants.{OutOfMemory, WriteRemoved};
+ghost use Rattle.pcache_base.specs.declared.error.ErrorType.TheVariants.{WriteRemoved};
 ghost use Rattle.pcache_base.specs.Key.{slot};
 ghost use Rattle.pcache_table.specs.Sharding.{part_of};
 ghost use Rattle.pcache_store.specs.declared.storage.PurgeOutcome.TheVariants.{Expired};
@@ -161,11 +161,10 @@ impl BareStore {
 
     /// The meta of what a look-up of the key finds, as it is kept: a copy of its bytes, which are not read. Fails only when
     /// memory runs out, and then something is there.
-    pub fn spelled_meta(&self, key: &CacheKey) -> Result<Option<SpelledMeta>>
+    pub fn spelled_meta(&self, key: &CacheKey) -> Result<Option<SpelledMeta>, AllocError>
         ensures found { IfOk result (λ m.
             m ≡ option_map (λ p. p.0) (find self.now (slot key.now))) }
         ensures something { OnErr result (IsSome (find self.now (slot key.now))) }
-        ensures kind { IfErr result (λ e. e ≡ OutOfMemory) }
     {
         let slot = key.slot();
         let Some(there) = self.slots.get(slot) else {
@@ -181,10 +180,9 @@ impl BareStore {
     }
 
     /// What a look-up of the key finds, if that is its complete body.
-    pub fn complete_body(&self, key: &CacheKey) -> Result<Option<FoundBody>>
+    pub fn complete_body(&self, key: &CacheKey) -> Result<Option<FoundBody>, AllocError>
         ensures found { IfOk result (λ f. f ≡ if_complete (find self.now (slot key.now))) }
         ensures something { OnErr result (IsSome (if_complete (find self.now (slot key.now)))) }
-        ensures kind { IfErr result (λ e. e ≡ OutOfMemory) }
     {
         let Some(there) = self.slots.get(key.slot()) else {
             return Ok(None);
@@ -199,11 +197,10 @@ impl BareStore {
     }
 
     // The meta of a write, as it is kept.
-    fn spelled_of(&self, slot: u128, number: u64) -> Result<Option<SpelledMeta>>
+    fn spelled_of(&self, slot: u128, number: u64) -> Result<Option<SpelledMeta>, AllocError>
         ensures found { IfOk result (λ m.
             m ≡ option_map (λ p. p.0) (found_part number (map.get self.now.writes number))) }
         ensures something { OnErr result (IsSome (map.get self.now.writes number)) }
-        ensures kind { IfErr result (λ e. e ≡ OutOfMemory) }
     {
         let Some(draft) = self.drafts.get(slot, number) else {
             return Ok(None);
@@ -224,14 +221,13 @@ impl BareStore {
         alloc: Global,
         slot: u128,
         number: u64,
-    ) -> Result<Option<(CacheMeta, MemHitHandler)>>
+    ) -> Result<Option<(CacheMeta, MemHitHandler)>, AllocError>
         ensures found { IfOk result (λ r. option_map (λ p. (p.0, reader_of p.1)) r
             ≡ found_part number (map.get self.old.writes number)) }
         ensures slot { IfOk result (λ r. option_map (λ p. slot_named p.1) r
             ≡ option_map (λ w. Some w.slot) (map.get self.old.writes number)) }
         ensures ok { OnOk result (self.new ≡ joined self.old number) }
         ensures something { OnErr result (IsSome (map.get self.old.writes number)) }
-        ensures kind { IfErr result (λ e. e ≡ OutOfMemory) }
         ensures err { OnErr result (self.new ≡ self.old) }
     {
         match self.drafts.follow(alloc, slot, number) {
@@ -374,12 +370,11 @@ impl BareStore {
         &mut self,
         alloc: Global,
         key: &CacheKey,
-    ) -> Result<Option<(CacheMeta, MemHitHandler)>>
+    ) -> Result<Option<(CacheMeta, MemHitHandler)>, AllocError>
         ensures found { IfOk result (λ r. option_map (λ p. (p.0, reader_of p.1)) r
             ≡ find self.old (slot key.now)) }
         ensures ok { OnOk result (self.new ≡ followed self.old (find self.old (slot key.now))) }
         ensures something { OnErr result (IsSome (find self.old (slot key.now))) }
-        ensures kind { IfErr result (λ e. e ≡ OutOfMemory) }
         ensures err { OnErr result (self.new ≡ self.old) }
     {
         let slot = key.slot();
@@ -402,7 +397,7 @@ impl BareStore {
         alloc: Global,
         key: &CacheKey,
         streaming_write_tag: Option<&[u8]>,
-    ) -> Result<Option<(CacheMeta, MemHitHandler)>>
+    ) -> Result<Option<(CacheMeta, MemHitHandler)>, AllocError>
         ensures found { IfOk result (λ r. option_map (λ p. (p.0, reader_of p.1)) r
             ≡ find_write self.old (slot key.now)
             (named_by (option_copied streaming_write_tag.entry))) }
@@ -411,7 +406,6 @@ impl BareStore {
             (named_by (option_copied streaming_write_tag.entry)))) }
         ensures something { OnErr result (IsSome (find_write self.old (slot key.now)
             (named_by (option_copied streaming_write_tag.entry)))) }
-        ensures kind { IfErr result (λ e. e ≡ OutOfMemory) }
         ensures err { OnErr result (self.new ≡ self.old) }
     {
         let Some(number) = number_named_by(streaming_write_tag) else {
@@ -471,11 +465,10 @@ impl BareStore {
     }
 
     /// Ends the freshness of a slot's complete body, and does nothing for no slot.
-    pub fn expire(&mut self, alloc: Global, slot: Option<u128>, now: Moment) -> Result<PurgeOutcome>
+    pub fn expire(&mut self, alloc: Global, slot: Option<u128>, now: Moment) -> Result<PurgeOutcome, AllocError>
         ensures answer { IfOk result (λ o. o ≡ expire_outcome self.old slot) }
         ensures ok { OnOk result (self.new ≡ expired_at now self.old slot) }
         ensures something { OnErr result (expire_outcome self.old slot ≡ Expired) }
-        ensures kind { IfErr result (λ e. e ≡ OutOfMemory) }
         ensures err { OnErr result (self.new ≡ self.old) }
     {
         let Some(slot) = slot else {
@@ -489,14 +482,13 @@ impl BareStore {
     }
 
     /// Sets the meta of a key's complete body, and returns whether there is one.
-    pub fn update_meta(&mut self, alloc: Global, key: &CacheKey, meta: &CacheMeta) -> Result<bool>
+    pub fn update_meta(&mut self, alloc: Global, key: &CacheKey, meta: &CacheMeta) -> Result<bool, AllocError>
         ensures there { IfOk result (λ b.
             b ≡ is_some (complete_body (map.get self.old.slots (slot key.now)))) }
         ensures ok { OnOk result (self.new ≡ meta_set meta.now self.old (slot key.now)) }
         ensures something { OnErr result (is_some
             (complete_body (map.get self.old.slots (slot key.now)))
             ≡ true) }
-        ensures kind { IfErr result (λ e. e ≡ OutOfMemory) }
         ensures err { OnErr result (self.new ≡ self.old) }
     {
         let slot = key.slot();

@@ -1,7 +1,6 @@
 //! The slot of a key.
-ghost use Rattle.std.specs.Prelude.{◌≡◌, ◌<◌, ◌^◌, ℕ, Option, Some, None, List, IfOk, IfErr, OnOk, OnErr, length, option_map, is_some, is_none, true};
+ghost use Rattle.std.specs.Prelude.{◌≡◌, ◌<◌, ◌^◌, ℕ, Option, Some, None, List, IfOk, OnOk, OnErr, length, option_map, is_some, is_none, true};
 ghost use Rattle.std.specs.FinMap as map;
-ghost use Rattle.pcache_base.specs.declared.error.ErrorType.TheVariants.{OutOfMemory};
 ghost use Rattle.pcache_meta.specs.Meta as meta_of;
 ghost use Rattle.pcache_table.specs.Numbers.{least};
 ghost use Rattle.pcache_store.specs.Kept.{head_size};
@@ -50,9 +49,8 @@ impl Body {
     }
 
     // The meta as it is kept: a copy of its bytes, which are not read.
-    pub(crate) fn spelled(&self) -> Result<SpelledMeta>
+    pub(crate) fn spelled(&self) -> Result<SpelledMeta, AllocError>
         ensures ok { IfOk result (λ m. m ≡ self.now.meta) }
-        ensures kind { IfErr result (λ e. e ≡ OutOfMemory) }
     {
         self.meta.copied()
     }
@@ -65,9 +63,8 @@ impl Body {
     }
 
     // Shares of the meta, which is not read, and of the bytes.
-    pub(crate) fn found(&self) -> Result<FoundBody>
+    pub(crate) fn found(&self) -> Result<FoundBody, AllocError>
         ensures ok { IfOk result (λ f. Some f ≡ found_body (Some self.now)) }
-        ensures kind { IfErr result (λ e. e ≡ OutOfMemory) }
     {
         let meta = self.meta.copied()?;
         let bytes = self.bytes.clone()?;
@@ -88,10 +85,9 @@ impl Body {
     }
 
     // Ends the freshness: the bytes of the meta are written again.
-    pub(crate) fn expire_at(&mut self, alloc: Global, now: Moment) -> Result<()>
+    pub(crate) fn expire_at(&mut self, alloc: Global, now: Moment) -> Result<(), AllocError>
         ensures ok { OnOk result (self.new
             ≡ record self.old { meta = meta_of.expired_at now self.old.meta }) }
-        ensures kind { IfErr result (λ e. e ≡ OutOfMemory) }
         ensures err { OnErr result (self.new ≡ self.old) }
     {
         let mut meta = self.meta.meta(alloc)?;
@@ -198,12 +194,11 @@ impl KeySlot {
     }
 
     // Ends the body's freshness, and returns whether there is a body.
-    pub(crate) fn expire(&mut self, alloc: Global, now: Moment) -> Result<bool>
+    pub(crate) fn expire(&mut self, alloc: Global, now: Moment) -> Result<bool, AllocError>
         ensures there { IfOk result (λ b. b ≡ is_some self.old.body) }
         ensures slot { OnOk result (self.new
             ≡ with_meta (meta_of.expired_at now) self.old self.old.body) }
         ensures something { OnErr result (is_some self.old.body ≡ true) }
-        ensures kind { IfErr result (λ e. e ≡ OutOfMemory) }
         ensures err { OnErr result (self.new ≡ self.old) }
     {
         let Some(body) = &mut self.body else {

@@ -1,6 +1,5 @@
 //! The record of a write.
-ghost use Rattle.std.specs.Prelude.{◌≡◌, ◌<◌, ◌≤◌, ◌+◌, ◌-◌, ◌^◌, ◌++◌, ◌&&◌, not, ℕ, Option, Some, None, List, IfOk, IfErr, OnOk, OnErr, length, drop, true, false};
-ghost use Rattle.pcache_base.specs.declared.error.ErrorType.TheVariants.{OutOfMemory};
+ghost use Rattle.std.specs.Prelude.{◌≡◌, ◌<◌, ◌≤◌, ◌+◌, ◌-◌, ◌^◌, ◌++◌, ◌&&◌, not, ℕ, Option, Some, None, List, IfOk, OnOk, OnErr, length, drop, true, false};
 ghost use Rattle.pcache_store.specs.Kept.{head_size};
 ghost use Rattle.pcache_store.specs.Store.{new_write, is_named};
 
@@ -58,9 +57,8 @@ impl Draft {
     }
 
     // The meta as it is kept: a copy of its bytes, which are not read.
-    pub(crate) fn spelled(&self) -> Result<SpelledMeta>
+    pub(crate) fn spelled(&self) -> Result<SpelledMeta, AllocError>
         ensures ok { IfOk result (λ m. m ≡ self.now.meta) }
-        ensures kind { IfErr result (λ e. e ≡ OutOfMemory) }
     {
         self.meta.copied()
     }
@@ -130,14 +128,13 @@ impl Draft {
 
     // Counts one more reader, and returns the meta, read back. The number of readers of one write, each of
     // which is kept somewhere, never reaches 2^64; before that memory would run out.
-    pub(crate) fn follow(&mut self, alloc: Global) -> Result<CacheMeta>
+    pub(crate) fn follow(&mut self, alloc: Global) -> Result<CacheMeta, AllocError>
         ensures meta { IfOk result (λ m. m ≡ self.old.meta) }
         ensures ok { OnOk result (self.new ≡ record self.old { readers = self.old.readers + 1 }) }
-        ensures kind { IfErr result (λ e. e ≡ OutOfMemory) }
         ensures err { OnErr result (self.new ≡ self.old) }
     {
         let Some(readers) = self.readers.checked_add(1) else {
-            return Err(Error::new(ErrorType::OutOfMemory));
+            return Err(AllocError);
         };
         self.text.settle(alloc)?;
         let meta = self.meta.meta(alloc)?;
@@ -165,10 +162,9 @@ impl Draft {
     }
 
     // The write as a complete body, with which it shares its bytes from now on.
-    pub(crate) fn to_body(&mut self, alloc: Global) -> Result<Body>
+    pub(crate) fn to_body(&mut self, alloc: Global) -> Result<Body, AllocError>
         ensures ok { IfOk result (λ b.
             b ≡ record { meta = self.old.meta; bytes = self.old.bytes }) }
-        ensures kind { IfErr result (λ e. e ≡ OutOfMemory) }
         ensures same { self.new ≡ self.old }
     {
         let meta = self.meta.copied()?;
@@ -177,9 +173,8 @@ impl Draft {
     }
 
     // The write as a complete body, for a write without readers: nobody else has its meta, which is moved and not copied.
-    pub(crate) fn into_body(self, alloc: Global) -> Result<Body>
+    pub(crate) fn into_body(self, alloc: Global) -> Result<Body, AllocError>
         ensures ok { IfOk result (λ b. b ≡ record { meta = self.meta; bytes = self.bytes }) }
-        ensures kind { IfErr result (λ e. e ≡ OutOfMemory) }
     {
         let Draft { meta, mut text, .. } = self;
         let bytes = text.share(alloc)?;

@@ -140,13 +140,12 @@ impl DraftTable {
         alloc: Global,
         slot: u128,
         number: u64,
-    ) -> Result<Option<(CacheMeta, u128)>>
+    ) -> Result<Option<(CacheMeta, u128)>, AllocError>
         ensures meta { IfOk result (λ m.
             m ≡ option_map (λ w. (w.meta, w.slot)) (map.get self.old number)) }
         ensures ok { OnOk result (self.new
             ≡ followed_on self.old number (map.get self.old number)) }
         ensures something { OnErr result (IsSome (map.get self.old number)) }
-        ensures kind { IfErr result (λ e. e ≡ OutOfMemory) }
         ensures err { OnErr result (self.new ≡ self.old) }
     {
         let number = number as u128;
@@ -176,12 +175,11 @@ impl DraftTable {
     }
 
     // Ends a write: its handler is gone. Returns its body, which shares its bytes; then its end is known.
-    pub(crate) fn end(&mut self, alloc: Global, slot: u128, number: u64) -> Result<Body>
+    pub(crate) fn end(&mut self, alloc: Global, slot: u128, number: u64) -> Result<Body, AllocError>
         requires { IsSome (map.get self.old number) }
         ensures body { IfOk result (λ b. IsBodyOf (map.get self.old number) b) }
         ensures gone { self.new
             ≡ ended_on (is_ok result) self.old number (map.get self.old number) }
-        ensures kind { IfErr result (λ e. e ≡ OutOfMemory) }
     {
         let number = number as u128;
         let place = place_of(&self.shards, slot, number);
@@ -249,13 +247,12 @@ fn follow_in(
     writes: &mut HashedTable<Draft>,
     alloc: Global,
     number: u128,
-) -> Result<Option<(CacheMeta, u128)>>
+) -> Result<Option<(CacheMeta, u128)>, AllocError>
     ensures meta { IfOk result (λ m.
         m ≡ option_map (λ w. (w.meta, w.slot)) (map.get writes.old number)) }
     ensures ok { OnOk result (writes.new
         ≡ followed_on writes.old number (map.get writes.old number)) }
     ensures something { OnErr result (IsSome (map.get writes.old number)) }
-    ensures kind { IfErr result (λ e. e ≡ OutOfMemory) }
     ensures err { OnErr result (writes.new ≡ writes.old) }
 {
     let Some(draft) = writes.get_mut(number) else {
@@ -303,14 +300,17 @@ fn land_in(writes: &mut HashedTable<Draft>, number: u128) -> usize
 
 // If the write has no reader, its meta and bytes move into the body; otherwise the body shares them, and its readers know
 // that it ended. Also returns how many records were removed.
-fn end_in(writes: &mut HashedTable<Draft>, alloc: Global, number: u128) -> (Result<Body>, usize)
+fn end_in(
+    writes: &mut HashedTable<Draft>,
+    alloc: Global,
+    number: u128,
+) -> (Result<Body, AllocError>, usize)
     requires { IsSome (map.get writes.old number) }
     ensures body { IfOk result.0 (λ b. IsBodyOf (map.get writes.old number) b) }
     ensures after { writes.new
         ≡ ended_on (is_ok result.0) writes.old number (map.get writes.old number) }
     ensures gone { one_if_some (map.get writes.new number) + result.1
         ≡ one_if_some (map.get writes.old number) }
-    ensures kind { IfErr result.0 (λ e. e ≡ OutOfMemory) }
 {
     let Some(draft) = writes.get_mut(number) else {
         unreachable!()

@@ -1,7 +1,6 @@
 //! The writes by number.
-ghost use Rattle.std.specs.Prelude.{◌≡◌, ◌<◌, ◌≤◌, ◌+◌, ◌-◌, ◌^◌, ◌++◌, ℕ, Option, Some, None, IsSome, IfSome, ◌↔◌, IfOk, IfErr, OnOk, OnErr, option_map, option_copied, is_ok, length};
+ghost use Rattle.std.specs.Prelude.{◌≡◌, ◌<◌, ◌≤◌, ◌+◌, ◌-◌, ◌^◌, ◌++◌, ℕ, Option, Some, None, IsSome, IfSome, ◌↔◌, IfOk, OnOk, OnErr, option_map, option_copied, is_ok, length};
 ghost use Rattle.std.specs.FinMap as map;
-ghost use Rattle.pcache_base.specs.declared.error.ErrorType.TheVariants.{OutOfMemory};
 ghost use Rattle.pcache_store.specs.Drafts.{IsBodyOf, ended_on};
 ghost use Rattle.pcache_store.specs.Shards.{of_shard};
 ghost use Rattle.pcache_store.specs.Store.{followed_on, left_on, wrote_on, grounded_on};
@@ -136,7 +135,7 @@ impl Drafts {
         alloc: Global,
         slot: u128,
         number: u64,
-    ) -> Result<Option<(CacheMeta, u128)>>
+    ) -> Result<Option<(CacheMeta, u128)>, AllocError>
         ensures meta { IfOk result (λ m.
             m ≡ option_map (λ w. (w.meta, w.slot)) (map.get self.old.writes number)) }
         ensures ok { OnOk result (self.new
@@ -145,7 +144,6 @@ impl Drafts {
                   (map.get self.old.writes number);
             }) }
         ensures something { OnErr result (IsSome (map.get self.old.writes number)) }
-        ensures kind { IfErr result (λ e. e ≡ OutOfMemory) }
         ensures err { OnErr result (self.new ≡ self.old) }
     {
         self.writes.follow(alloc, slot, number)
@@ -174,7 +172,7 @@ impl Drafts {
     }
 
     // Ends a write: its handler is gone. Returns its body, which shares its bytes; then its end is known.
-    pub(crate) fn end(&mut self, alloc: Global, slot: u128, number: u64) -> Result<Body>
+    pub(crate) fn end(&mut self, alloc: Global, slot: u128, number: u64) -> Result<Body, AllocError>
         requires { IsSome (map.get self.old.writes number) }
         ensures body { IfOk result (λ b. IsBodyOf (map.get self.old.writes number) b) }
         ensures gone { self.new
@@ -182,7 +180,6 @@ impl Drafts {
               writes = ended_on (is_ok result) self.old.writes number
                   (map.get self.old.writes number);
             } }
-        ensures kind { IfErr result (λ e. e ≡ OutOfMemory) }
     {
         self.writes.end(alloc, slot, number)
     }

@@ -1,6 +1,5 @@
 //! A complete body as a look-up finds it, before its meta is read.
-ghost use Rattle.std.specs.Prelude.{◌≡◌, IfOk, IfErr, length, false};
-ghost use Rattle.pcache_base.specs.declared.error.ErrorType.TheVariants.{OutOfMemory};
+ghost use Rattle.std.specs.Prelude.{◌≡◌, IfOk, length, false};
 ghost use Rattle.pcache_store.specs.Readers.{reader_of};
 ghost use Rattle.pcache_store.specs.Store.{Whole};
 
@@ -9,7 +8,7 @@ use bytes::Bytes;
 use pcache_base::error::Result;
 use pcache_meta::meta::CacheMeta;
 use pcache_meta::meta::spelled::SpelledMeta;
-use std::alloc::Global;
+use std::alloc::{AllocError, Global};
 use std::marker::Model;
 
 /// A complete body that a look-up finds, whose meta was not read yet: shares of what the store keeps. So it can be
@@ -41,9 +40,8 @@ impl FoundBody {
 
     /// Reads the meta, as `CacheMeta::deserialize` of its bytes, and returns it with a reader of the body. Fails only when memory
     /// runs out.
-    pub fn read(self, alloc: Global) -> Result<(CacheMeta, MemHitHandler)>
+    pub fn read(self, alloc: Global) -> Result<(CacheMeta, MemHitHandler), AllocError>
         ensures read { IfOk result (λ p. (p.0, reader_of p.1) ≡ self) }
-        ensures kind { IfErr result (λ e. e ≡ OutOfMemory) }
     {
         let FoundBody { meta, body } = self;
         let number = meta.entry_id();

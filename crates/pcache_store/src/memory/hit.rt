@@ -1,6 +1,6 @@
 //! Readers of the store in memory.
 ghost use Rattle.std.specs.Prelude.{◌≡◌, ◌≤◌, ◌<◌, ℕ, Option, Some, None, IsOk, IfOk, IfErr, OnOk, OnErr, length, slice_range, cond, false, true};
-ghost use Rattle.pcache_base.specs.declared.error.ErrorType.TheVariants.{OutOfMemory, InternalError};
+ghost use Rattle.pcache_base.specs.declared.error.ErrorType.TheVariants.{InternalError};
 ghost use Rattle.pcache_store.specs.Store.{Whole, sought};
 
 use crate::memory::MemCache;
@@ -194,14 +194,13 @@ impl MemHitHandler {
 
     /// `read_body` without the store: it gives what it would give with any store.
     /// Requires a reader of a complete body; ask `needs_no_store()`.
-    pub fn read_body_alone(&mut self) -> Result<Poll<Option<Bytes>>>
+    pub fn read_body_alone(&mut self) -> Result<Poll<Option<Bytes>>, AllocError>
         requires { needs_no_store (reader_of self.old) ≡ true }
         ensures read { IfOk result (λ p. (s : Store) → p ≡ read_of s (reader_of self.old)) }
         ensures ok { OnOk result ((s : Store)
             → reader_of self.new ≡ reader_after s (reader_of self.old)) }
         ensures something { OnErr result ((s : Store)
             → gives_piece (read_of s (reader_of self.old)) ≡ true) }
-        ensures kind { IfErr result (λ e. e ≡ OutOfMemory) }
         ensures err { OnErr result (reader_of self.new ≡ reader_of self.old) }
     {
         let MemHitHandler::Complete(hit) = self else {

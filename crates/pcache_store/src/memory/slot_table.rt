@@ -1,8 +1,7 @@
 //! The slots by key, in shards.
-ghost use Rattle.std.specs.Prelude.{◌≡◌, ◌<◌, ◌≤◌, ◌^◌, ◌-◌, ◌↔◌, ℕ, Option, Some, None, IsSome, IsTrue, IfOk, IfErr, OnOk, OnErr, option_copied, is_some, true, cond, ◌+◌};
+ghost use Rattle.std.specs.Prelude.{◌≡◌, ◌<◌, ◌≤◌, ◌^◌, ◌-◌, ◌↔◌, ℕ, Option, Some, None, IsSome, IsTrue, IfOk, OnOk, OnErr, option_copied, is_some, true, cond, ◌+◌};
 ghost use Rattle.std.specs.FinMap as map;
 ghost use Rattle.pcache_meta.specs.Meta as meta_of;
-ghost use Rattle.pcache_base.specs.declared.error.ErrorType.TheVariants.{OutOfMemory};
 ghost use Rattle.pcache_table.specs.Sharding.{part_of};
 ghost use Rattle.pcache_store.specs.Shards.{one_if_some};
 ghost use Rattle.pcache_store.specs.Store.{opened, shut_on, stored_on, complete_body, meta_changed_on, has_write, body_with, write_gone_on};
@@ -175,12 +174,11 @@ impl SlotTable {
     }
 
     // Ends the freshness of the complete body, and returns whether there is one.
-    pub(crate) fn expire(&mut self, alloc: Global, key: u128, now: Moment) -> Result<bool>
+    pub(crate) fn expire(&mut self, alloc: Global, key: u128, now: Moment) -> Result<bool, AllocError>
         ensures there { IfOk result (λ b. b ≡ is_some (complete_body (map.get self.old key))) }
         ensures slots { OnOk result (self.new
             ≡ meta_changed_on (meta_of.expired_at now) self.old key (map.get self.old key)) }
         ensures something { OnErr result (is_some (complete_body (map.get self.old key)) ≡ true) }
-        ensures kind { IfErr result (λ e. e ≡ OutOfMemory) }
         ensures err { OnErr result (self.new ≡ self.old) }
     {
         let _ = &self.shards; // for the prover: each of the 16 tables has its own keys
@@ -290,12 +288,11 @@ fn expire_in(
     alloc: Global,
     key: u128,
     now: Moment,
-) -> Result<bool>
+) -> Result<bool, AllocError>
     ensures there { IfOk result (λ b. b ≡ is_some (complete_body (map.get slots.old key))) }
     ensures slots { OnOk result (slots.new
         ≡ meta_changed_on (meta_of.expired_at now) slots.old key (map.get slots.old key)) }
     ensures something { OnErr result (is_some (complete_body (map.get slots.old key)) ≡ true) }
-    ensures kind { IfErr result (λ e. e ≡ OutOfMemory) }
     ensures err { OnErr result (slots.new ≡ slots.old) }
 {
     let Some(slot) = slots.get_mut(key) else {

@@ -1,9 +1,8 @@
 //! The slots by key.
-ghost use Rattle.std.specs.Prelude.{◌≡◌, ◌<◌, ◌^◌, ℕ, Option, Some, None, IsSome, IfOk, IfErr, OnOk, OnErr, option_map, option_copied, is_some, true};
+ghost use Rattle.std.specs.Prelude.{◌≡◌, ◌<◌, ◌^◌, ℕ, Option, Some, None, IsSome, IfOk, OnOk, OnErr, option_map, option_copied, is_some, true};
 ghost use Rattle.std.specs.FinMap as map;
 ghost use Rattle.pcache_meta.specs.Meta as meta_of;
 ghost use Rattle.pcache_base.specs.Totals.{total, share};
-ghost use Rattle.pcache_base.specs.declared.error.ErrorType.TheVariants.{OutOfMemory};
 ghost use Rattle.pcache_table.specs.Sharding.{part_of};
 ghost use Rattle.pcache_store.specs.Store.{Stored, opened, shut_on, stored_on, complete_body, meta_changed_on, is_untouched_in, has_write, has_body_of, write_gone_on, number_of_body};
 ghost use Rattle.pcache_store.specs.Totals.{body_count, body_size, body_len, one};
@@ -177,12 +176,11 @@ impl Slots {
     }
 
     // Ends the freshness of the complete body, and returns whether there is one.
-    pub(crate) fn expire(&mut self, alloc: Global, key: u128, now: Moment) -> Result<bool>
+    pub(crate) fn expire(&mut self, alloc: Global, key: u128, now: Moment) -> Result<bool, AllocError>
         ensures there { IfOk result (λ b. b ≡ is_some (complete_body (map.get self.old key))) }
         ensures slots { OnOk result (self.new
             ≡ meta_changed_on (meta_of.expired_at now) self.old key (map.get self.old key)) }
         ensures something { OnErr result (is_some (complete_body (map.get self.old key)) ≡ true) }
-        ensures kind { IfErr result (λ e. e ≡ OutOfMemory) }
         ensures err { OnErr result (self.new ≡ self.old) }
     {
         self.slots.expire(alloc, key, now)

@@ -1,7 +1,6 @@
 //! Calls that fill a key.
-ghost use Rattle.std.specs.Prelude.{◌≡◌, ◌+◌, ◌≤◌, ◌∷◌, ◌++◌, true, IfOk, IfErr, Some, [], length, vec_len};
+ghost use Rattle.std.specs.Prelude.{◌≡◌, ◌+◌, ◌≤◌, ◌∷◌, ◌++◌, true, IfOk, Some, [], length, vec_len};
 ghost use Rattle.std.specs.Vec.{vec_capacity};
-ghost use Rattle.pcache_base.specs.declared.error.ErrorType.TheVariants.{OutOfMemory};
 ghost use Rattle.pcache_lock.specs.declared.lock.status.LockStatus.TheVariants.{Done};
 ghost use Rattle.pcache_history.specs.Events.{evicted_by};
 ghost use Rattle.pcache_history.specs.Ongoing.{kind_of_reply, on_request, began, ended, is_done, row};
@@ -35,7 +34,7 @@ use pcache_put::boxed::Boxed;
 use pcache_request::cache::{FinishReport, HttpCache, WriteBegin, WriteEnd, WriteReport};
 use pcache_store::memory::MemCache;
 use pcache_store::storage::HandleMiss;
-use std::alloc::Global;
+use std::alloc::{AllocError, Global};
 
 /// Sets the meta of the response that is to be stored.
 pub(crate) fn meta(request: &mut OpenRequest, meta: &CacheMeta) -> Reply
@@ -139,9 +138,8 @@ fn begin_write(
 }
 
 // A copy of a meta, for an event.
-fn boxed_copy(alloc: Global, meta: &CacheMeta) -> Result<Boxed<CacheMeta>>
+fn boxed_copy(alloc: Global, meta: &CacheMeta) -> Result<Boxed<CacheMeta>, AllocError>
     ensures ok { IfOk result (λ copy. copy ≡ meta.now) }
-    ensures kind { IfErr result (λ e. e ≡ OutOfMemory) }
 {
     Boxed::new(alloc, meta.copied()?)
 }

@@ -1,5 +1,5 @@
 //! Calls that look a key up and take the found pair.
-ghost use Rattle.std.specs.Prelude.{◌≡◌, ◌+◌, ◌≤◌, ◌++◌, vec_len, IfOk, IfErr, IsSome, OnErr, Some, None, [], option_map};
+ghost use Rattle.std.specs.Prelude.{◌≡◌, ◌+◌, ◌≤◌, ◌++◌, vec_len, IfOk, IsSome, OnErr, Some, None, [], option_map};
 ghost use Rattle.std.specs.Vec.{vec_capacity};
 ghost use Rattle.pcache_base.specs.declared.error.ErrorType.TheVariants.{OutOfMemory};
 ghost use Rattle.pcache_store.specs.Readers.{reader_of};
@@ -34,7 +34,7 @@ use pcache_put::boxed::Boxed;
 use pcache_request::cache::{Access, AskedLock, FoundReport, HttpCache, LookUp, Witness};
 use pcache_request::phase::{CachePhase, HitStatus};
 use pcache_store::memory::{MemCache, MemHitHandler};
-use std::alloc::Global;
+use std::alloc::{AllocError, Global};
 
 /// Looks the request's key up.
 #[tactic(auto, using(crate::proofs::LockSteps::none_noted))]
@@ -116,11 +116,10 @@ fn look_up(
 }
 
 // The meta of what a look-up of the key finds, as the store keeps it: a copy of its bytes costs a fifth of a copy of the meta.
-fn kept_meta(alloc: Global, store: &MemCache, key: &CacheKey) -> Result<Option<Boxed<SpelledMeta>>>
+fn kept_meta(alloc: Global, store: &MemCache, key: &CacheKey) -> Result<Option<Boxed<SpelledMeta>>, AllocError>
     ensures found { IfOk result (λ m.
         m ≡ option_map (λ p. p.0) (found_for store.now.state (Some key.now))) }
     ensures something { OnErr result (IsSome (found_for store.now.state (Some key.now))) }
-    ensures kind { IfErr result (λ e. e ≡ OutOfMemory) }
 {
     match store.spelled_meta(key)? {
         Some(meta) => Ok(Some(Boxed::new(alloc, meta)?)),
@@ -210,10 +209,9 @@ impl Witness<MemCache> for LookNote {
 }
 
 // What a store has: this meta, and what the reader reads.
-fn answered(meta: Boxed<SpelledMeta>, hit: &MemHitHandler) -> Result<Answer>
+fn answered(meta: Boxed<SpelledMeta>, hit: &MemHitHandler) -> Result<Answer, AllocError>
     ensures answer { IfOk result (λ a.
         IsAnswered meta (reader_of hit.now) → pair_of a ≡ Some (meta, reader_of hit.now)) }
-    ensures kind { IfErr result (λ e. e ≡ OutOfMemory) }
 {
     match hit {
         MemHitHandler::Complete(hit) => Ok(Answer::Complete {

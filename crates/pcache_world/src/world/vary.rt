@@ -1,7 +1,6 @@
 //! Calls about the variants of a key, and the meta of a stale body that is still valid.
-ghost use Rattle.std.specs.Prelude.{◌≡◌, ◌+◌, ◌≤◌, ◌++◌, [], IfOk, IfErr, Some, vec_len};
+ghost use Rattle.std.specs.Prelude.{◌≡◌, ◌+◌, ◌≤◌, ◌++◌, [], IfOk, Some, vec_len};
 ghost use Rattle.std.specs.Vec.{vec_capacity};
-ghost use Rattle.pcache_base.specs.declared.error.ErrorType.TheVariants.{OutOfMemory};
 ghost use Rattle.pcache_history.specs.Due.{KeepsKey};
 ghost use Rattle.pcache_world.specs.PartFacts.{facts_in, no_facts};
 ghost use Rattle.pcache_lock.specs.declared.lock.status.LockStatus.TheVariants.{Done};
@@ -27,6 +26,7 @@ use pcache_meta::meta::CacheMeta;
 use pcache_put::boxed::Boxed;
 use pcache_request::cache::{HttpCache, Renewal};
 use pcache_store::memory::MemCache;
+use std::alloc::AllocError;
 
 /// Makes the next look-up search for this variance.
 pub(crate) fn vary(request: &mut OpenRequest, variance: HashBinary) -> Reply
@@ -85,9 +85,8 @@ pub(crate) type Spare = (CacheMeta, Boxed<CacheMeta>);
 
 /// The copies that a call needs. They are made before the call: a failure inside it is then the store's, after which the request is
 /// revalidated all the same, and the history needs no event to tell the two apart.
-pub(crate) fn spare_of(act: &Act) -> Result<Option<Spare>>
+pub(crate) fn spare_of(act: &Act) -> Result<Option<Spare>, AllocError>
     ensures ok { IfOk result (λ spare. spare ≡ spare_of act.now) }
-    ensures kind { IfErr result (λ e. e ≡ OutOfMemory) }
 {
     match act {
         Act::Request(RequestAct::Revalidate { meta }) => {

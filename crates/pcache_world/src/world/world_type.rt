@@ -25,7 +25,7 @@ use pcache_history::call::{Call, FilesAct, Reply};
 use pcache_history::entry::{Entry, Event, Events};
 use pcache_lock::lock::CacheLock;
 use pcache_store::memory::MemCache;
-use std::alloc::Global;
+use std::alloc::{AllocError, Global};
 use std::collections::BTreeMap;
 use std::marker::Model;
 use std::time::Duration;
@@ -224,13 +224,12 @@ impl<M: EvictionManager, P: PutPolicy> World<M, P> {
     }
 
     // A call of a request or a put.
-    fn step_over_parts(&mut self, call: Call) -> Result<Reply>
+    fn step_over_parts(&mut self, call: Call) -> Result<Reply, AllocError>
         requires parts { files_in call.act ≡ None }
         ensures ok { IfOk result (λ reply. Adds self.old call reply self.new) }
         ensures legal { HasLegal self.new }
         ensures puts { FollowPolicy P.says (reverse self.new.history) }
         ensures err { OnErr result (self.new ≡ self.old) }
-        ensures kind { IfErr result (λ e. e ≡ OutOfMemory) }
     {
         // For the prover: the number of requests is bounded, and so is that of their read locks.
         let _open = self.requests.len();
@@ -252,14 +251,13 @@ impl<M: EvictionManager, P: PutPolicy> World<M, P> {
     }
 
     // A save with no files.
-    fn save_nowhere(&mut self, call: Call) -> Result<Reply>
+    fn save_nowhere(&mut self, call: Call) -> Result<Reply, AllocError>
         requires save { files_in call.act ≡ Some Save }
         ensures files { IfOk result (λ reply. reply ≡ Refused Io) }
         ensures ok { IfOk result (λ reply. Adds self.old call reply self.new) }
         ensures legal { HasLegal self.new }
         ensures puts { FollowPolicy P.says (reverse self.new.history) }
         ensures err { OnErr result (self.new ≡ self.old) }
-        ensures kind { IfErr result (λ e. e ≡ OutOfMemory) }
     {
         make_ready(&mut self.history, &mut self.start, &self.parts)?;
         let noted = Reply::Refused(ErrorType::Io);
@@ -274,14 +272,13 @@ impl<M: EvictionManager, P: PutPolicy> World<M, P> {
     }
 
     // A load with no files.
-    fn load_nowhere(&mut self, call: Call) -> Result<Reply>
+    fn load_nowhere(&mut self, call: Call) -> Result<Reply, AllocError>
         requires load { files_in call.act ≡ Some Load }
         ensures files { IfOk result (λ reply. HasNoFiles (Some Load) reply) }
         ensures ok { IfOk result (λ reply. Adds self.old call reply self.new) }
         ensures legal { HasLegal self.new }
         ensures puts { FollowPolicy P.says (reverse self.new.history) }
         ensures err { OnErr result (self.new ≡ self.old) }
-        ensures kind { IfErr result (λ e. e ≡ OutOfMemory) }
     {
         self.history.reserve(1)?;
         let is_early = self.start.is_none();
@@ -443,14 +440,13 @@ fn make_ready<M: EvictionManager>(
     history: &mut Vec<Entry>,
     start: &mut Option<Vec<(CacheEntryKey, usize)>>,
     parts: &Parts<M>,
-) -> Result<()>
+) -> Result<(), AllocError>
     ensures same_history { history.new.items ≡ history.old.items }
     ensures same_start { started (option_map (λ v. v.items) start.new) parts.now.tracked
         ≡ started (option_map (λ v. v.items) start.old) parts.now.tracked }
     ensures err { OnErr result (start.new ≡ start.old) }
     ensures known { OnOk result (IsSome start.new) }
     ensures room { OnOk result (vec_len history.new < vec_capacity history.new) }
-    ensures kind { IfErr result (λ e. e ≡ OutOfMemory) }
 {
     history.reserve(1)?;
     // Not when the world is made, since that takes no memory.
