@@ -54,7 +54,7 @@ impl Body {
         ensures ok { IfOk result (λ m. m ≡ self.now.meta) }
         ensures kind { IfErr result (λ e. e ≡ OutOfMemory) }
     {
-        self.meta.copied()
+        Ok(self.meta.copied()?)
     }
 
     // The length of the text of its head, as it is kept.

@@ -62,7 +62,7 @@ impl Draft {
         ensures ok { IfOk result (λ m. m ≡ self.now.meta) }
         ensures kind { IfErr result (λ e. e ≡ OutOfMemory) }
     {
-        self.meta.copied()
+        Ok(self.meta.copied()?)
     }
 
     // The length of the text of its head, as it is kept.
