@@ -1,7 +1,6 @@
 -- What a reader of a head returned, as its callers see it.
 use Rattle.pcache_meta.specs.HeaderReading.{header_at, unordered_at}
-use Rattle.pcache_meta.specs.Reading.{GivesOrWants}
-use Rattle.pcache_meta.proofs.Words.{◌≡◌, ℕ, List, Some, refl, sym, ◌∙◌, same_Some, Header, SpellsHeader, IsHeaderText, Result, Ok, Err, IfOk, IfErr, FailsOrWants, ErrorType, InternalError, OutOfMemory}
+use Rattle.pcache_meta.proofs.Words.{◌≡◌, ℕ, List, Some, refl, sym, ◌∙◌, same_Some, Header, SpellsHeader, IsHeaderText, FailsOrWants, ErrorType, InternalError, OutOfMemory}
 use Rattle.pcache_meta.proofs.HeaderExact.{header_takes, header_again, unordered_again}
 
 -- a head that was read is spelled, and is the one that is
@@ -21,13 +20,8 @@ refused_for_form _ bytes h none never spelled = none
 pub kept_same : (bytes : List ℕ) (found h : Header) → unordered_at bytes ≡ Some found → SpellsHeader bytes h → found ≡ h
 kept_same bytes found h read spelled = same_Some found h (sym read ∙ unordered_again bytes h (header_again bytes h spelled))
 
-pub kept_ok : {T : Type 0} (view : T → Header) (r : Result T ErrorType) (bytes : List ℕ) (h : Header) → GivesOrWants view r (unordered_at bytes) → SpellsHeader bytes h → IfOk r (λ x. view x ≡ h)
-kept_ok view (Ok x) bytes h read spelled = kept_same bytes (view x) h read spelled
-kept_ok view (Err e) bytes h read spelled = tt
-
 -- reading such a text fails only when memory runs out
-pub kept_kind : {T : Type 0} (view : T → Header) (r : Result T ErrorType) (bytes : List ℕ) → GivesOrWants view r (unordered_at bytes) → IsHeaderText bytes → IfErr r (λ e. e ≡ OutOfMemory)
-kept_kind view (Ok x) bytes read text = tt
-kept_kind view (Err InternalError) bytes read text = let some = unordered_again bytes text.0 (header_again bytes text.0 text.1) in absurd (cc (read, some))
-kept_kind view (Err OutOfMemory) bytes read text = refl
-kept_kind view (Err _) bytes read text = absurd read
+pub kept_kind : (e : ErrorType) (bytes : List ℕ) → FailsOrWants e (unordered_at bytes) → IsHeaderText bytes → e ≡ OutOfMemory
+kept_kind InternalError bytes none text = let some = unordered_again bytes text.0 (header_again bytes text.0 text.1) in absurd (cc (none, some))
+kept_kind OutOfMemory bytes none text = refl
+kept_kind _ bytes none text = absurd none

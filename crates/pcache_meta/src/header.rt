@@ -1,11 +1,10 @@
 //! Heads of requests and responses.
-ghost use Rattle.std.specs.Prelude.{◌≡◌, IfOk, IfErr, []};
-ghost use Rattle.pcache_base.specs.declared.error.ErrorType.TheVariants.{OutOfMemory};
+ghost use Rattle.std.specs.Prelude.{◌≡◌, IfOk, []};
 
 use http::{Method, StatusCode};
 use http_header::HeaderMap;
 use pcache_base::error::Result;
-use std::alloc::Global;
+use std::alloc::{AllocError, Global};
 
 // Of our own, since the constants of `http::Version` state nothing.
 /// A version of HTTP.
@@ -52,9 +51,8 @@ impl ResponseHeader {
     }
 
     /// A copy of this head. Fails only when memory runs out.
-    pub fn copied(&self) -> Result<ResponseHeader>
+    pub fn copied(&self) -> Result<ResponseHeader, AllocError>
         ensures ok { IfOk result (λ copy. copy ≡ self.now) }
-        ensures kind { IfErr result (λ e. e ≡ OutOfMemory) }
     {
         Ok(ResponseHeader {
             version: self.version,

@@ -1,9 +1,8 @@
 //! What is known of a stored response: its times and its head.
-ghost use Rattle.std.specs.Prelude.{◌≡◌, ◌*◌, ◌-◌, ◌≤◌, ◌↔◌, IsTrue, IfOk, IfErr, Some, None};
+ghost use Rattle.std.specs.Prelude.{◌≡◌, ◌*◌, ◌-◌, ◌≤◌, ◌↔◌, IsTrue, IfOk, Some, None};
 ghost use Rattle.std.specs.Duration.{as_nanos};
 ghost use Rattle.pcache_meta.specs.Header.{shown, shown_fields};
 ghost use Rattle.pcache_meta.specs.Meta.{MayServeStale};
-ghost use Rattle.pcache_base.specs.declared.error.ErrorType.TheVariants.{OutOfMemory};
 
 pub mod codec;
 pub mod internal_meta;
@@ -16,6 +15,7 @@ use pcache_base::entry_id::CacheEntryId;
 use pcache_base::error::Result;
 use pcache_base::key::HashBinary;
 use pcache_base::moment::Moment;
+use std::alloc::AllocError;
 use std::marker::Model;
 use std::time::Duration;
 
@@ -311,9 +311,8 @@ impl CacheMeta {
     }
 
     /// A copy of the response's head. Fails only when memory runs out.
-    pub fn response_header_copy(&self) -> Result<ResponseHeader>
+    pub fn response_header_copy(&self) -> Result<ResponseHeader, AllocError>
         ensures ok { IfOk result (λ copy. shown copy ≡ self.now.header) }
-        ensures kind { IfErr result (λ e. e ≡ OutOfMemory) }
     {
         self.header.copied()
     }
@@ -326,9 +325,8 @@ impl CacheMeta {
     }
 
     /// A copy of this meta. Fails only when memory runs out.
-    pub fn copied(&self) -> Result<CacheMeta>
+    pub fn copied(&self) -> Result<CacheMeta, AllocError>
         ensures ok { IfOk result (λ copy. copy ≡ self.now) }
-        ensures kind { IfErr result (λ e. e ≡ OutOfMemory) }
     {
         Ok(CacheMeta {
             internal: self.internal,

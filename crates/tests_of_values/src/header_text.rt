@@ -4,12 +4,12 @@ use crate::heads::append;
 use crate::rows::{Desk, Told, number, play, rest, unescape, word};
 use http::StatusCode;
 use http_header::{HeaderMap, HeaderValue};
-use pcache_base::error::Result;
+use pcache_base::error::{Error, Result};
 use pcache_meta::header::{HttpVersion, ResponseHeader};
 use pcache_meta::header_text::form::is_header_text;
 use pcache_meta::header_text::reader::header_deserialize;
 use pcache_meta::header_text::writer::header_serialize;
-use std::alloc::Global;
+use std::alloc::{AllocError, Global};
 use std::fmt::Write;
 
 // The bytes of a text, and a head that is written.
@@ -98,17 +98,17 @@ fn tell_read(read: Result<ResponseHeader>, told: &mut Told) {
 
 fn tell_of(alloc: Global, header: &ResponseHeader, call: &'static str, told: &mut Told) {
     match word(call, 0) {
-        "copied" => tell_read(header.copied(), told),
+        "copied" => tell_read(header.copied().map_err(Error::from), told),
         "shown" => tell_head(header, told),
         "write" => tell_written(header_serialize(alloc, header), told),
         _ => are_told(String::new(alloc), call, told),
     }
 }
 
-fn tell_written(text: Result<Vec<u8>>, told: &mut Told) {
+fn tell_written(text: Result<Vec<u8>, AllocError>, told: &mut Told) {
     match text {
         Ok(text) => told.bytes(text.as_slice()),
-        Err(refused) => told.refused(&refused),
+        Err(refused) => told.refused(&Error::from(refused)),
     }
 }
 

@@ -2,14 +2,14 @@
 //! are hand-computed from the layout in docs/FORMATS.md.
 use crate::rows::{Desk, Told, number, play, rest, some_byte, some_number, unhex, word};
 use pcache_base::entry_id::CacheEntryId;
-use pcache_base::error::Result;
+use pcache_base::error::{Error, Result};
 use pcache_base::key::HashBinary;
 use pcache_base::moment::Moment;
 use pcache_meta::meta::codec::deserialize_internal;
 use pcache_meta::meta::internal_meta::{
     InternalMetaV0, InternalMetaV1, InternalMetaV2, InternalMetaV3,
 };
-use std::alloc::Global;
+use std::alloc::{AllocError, Global};
 
 // The bytes that are read.
 #[derive(Drop)]
@@ -62,10 +62,10 @@ fn written_and_read(alloc: Global, meta: &InternalMetaV3) -> Result<InternalMeta
     deserialize_internal(bytes.as_slice())
 }
 
-fn written(bytes: Result<Vec<u8>>, told: &mut Told) {
+fn written(bytes: Result<Vec<u8>, AllocError>, told: &mut Told) {
     match bytes {
         Ok(bytes) => told.hex(bytes.as_slice()),
-        Err(refused) => told.refused(&refused),
+        Err(refused) => told.refused(&Error::from(refused)),
     }
 }
 

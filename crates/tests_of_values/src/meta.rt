@@ -3,12 +3,12 @@
 use crate::heads::append;
 use crate::rows::{Desk, Told, number, play, rest, some_byte, unescape, unhex, word};
 use http::StatusCode;
-use pcache_base::error::{ErrorType, Result};
+use pcache_base::error::{Error, ErrorType, Result};
 use pcache_base::moment::Moment;
 use pcache_meta::header::{HttpVersion, ResponseHeader};
 use pcache_meta::meta::CacheMeta;
 use pcache_meta::meta::spelled::SpelledMeta;
-use std::alloc::Global;
+use std::alloc::{AllocError, Global};
 use std::fmt::Write;
 
 fn at(secs: u64) -> Moment {
@@ -167,7 +167,7 @@ fn tell_state(alloc: Global, meta: &CacheMeta, call: &'static str, told: &mut To
 fn tell_copy(alloc: Global, meta: &CacheMeta, call: &'static str, told: &mut Told) {
     match call {
         "copied-head" => tell_head(meta.response_header_copy(), told),
-        "copied" => tell_read(meta.copied(), told),
+        "copied" => tell_read(meta.copied().map_err(Error::from), told),
         "write" => tell_strings(meta.serialize(alloc), told),
         "again" => tell_again(written_and_read(alloc, meta), meta, told),
         "kept" => tell_kept(alloc, copy_kept(alloc, meta), told),
@@ -205,10 +205,10 @@ fn head(header: &ResponseHeader, told: &mut Told) {
     told.number(u64::from(header.status.as_u16()));
 }
 
-fn tell_head(header: Result<ResponseHeader>, told: &mut Told) {
+fn tell_head(header: Result<ResponseHeader, AllocError>, told: &mut Told) {
     match header {
         Ok(header) => head(&header, told),
-        Err(refused) => told.refused(&refused),
+        Err(refused) => told.refused(&Error::from(refused)),
     }
 }
 
@@ -219,10 +219,10 @@ fn tell_read(read: Result<CacheMeta>, told: &mut Told) {
     }
 }
 
-fn tell_strings(strings: Result<(Vec<u8>, Vec<u8>)>, told: &mut Told) {
+fn tell_strings(strings: Result<(Vec<u8>, Vec<u8>), AllocError>, told: &mut Told) {
     match strings {
         Ok((internal, header)) => tell_two(internal.as_slice(), header.as_slice(), told),
-        Err(refused) => told.refused(&refused),
+        Err(refused) => told.refused(&Error::from(refused)),
     }
 }
 
@@ -255,23 +255,23 @@ fn tell_again(read: Result<CacheMeta>, meta: &CacheMeta, told: &mut Told) {
     }
 }
 
-fn copy_kept(alloc: Global, meta: &CacheMeta) -> Result<SpelledMeta> {
+fn copy_kept(alloc: Global, meta: &CacheMeta) -> Result<SpelledMeta, AllocError> {
     SpelledMeta::new(alloc, meta)?.copied()
 }
 
 fn kept_and_read(alloc: Global, meta: &CacheMeta) -> Result<CacheMeta> {
-    copy_kept(alloc, meta)?.meta(alloc)
+    Ok(copy_kept(alloc, meta)?.meta(alloc)?)
 }
 
 // What is kept of the meta, once it was copied.
-fn tell_kept(alloc: Global, kept: Result<SpelledMeta>, told: &mut Told) {
+fn tell_kept(alloc: Global, kept: Result<SpelledMeta, AllocError>, told: &mut Told) {
     match kept {
         Ok(kept) => {
             let (internal, header) = kept.strings();
             tell_two(internal, header, told);
-            tell_read(kept.meta(alloc), told);
+            tell_read(kept.meta(alloc).map_err(Error::from), told);
         }
-        Err(refused) => told.refused(&refused),
+        Err(refused) => told.refused(&Error::from(refused)),
     }
 }
 

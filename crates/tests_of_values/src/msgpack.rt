@@ -5,6 +5,7 @@ use pcache_meta::msgpack::reader::Reader;
 use pcache_meta::msgpack::writer::{
     put_array, put_hash, put_nil, put_number, put_optional_hash, put_text,
 };
+use std::alloc::AllocError;
 
 // The bytes that are read, or were written.
 #[derive(Drop)]
@@ -61,14 +62,14 @@ fn tell_number(told: &mut Told, number: Result<u64>) {
 
 fn put(out: &mut Vec<u8>, call: &'static str) -> Result<()> {
     match word(call, 0) {
-        "put-number" => put_number(out, number(call, 1)),
+        "put-number" => Ok(put_number(out, number(call, 1))?),
         "put-array" => put_array(out, size(call, 1)),
-        "put-hashes" => put_nil_and_hashes(out, &hash()),
+        "put-hashes" => Ok(put_nil_and_hashes(out, &hash())?),
         _ => put_text(out, word(call, 1)),
     }
 }
 
-fn put_nil_and_hashes(out: &mut Vec<u8>, hash: &[u8; 16]) -> Result<()> {
+fn put_nil_and_hashes(out: &mut Vec<u8>, hash: &[u8; 16]) -> Result<(), AllocError> {
     put_nil(out)?;
     put_hash(out, hash)?;
     put_optional_hash(out, None)

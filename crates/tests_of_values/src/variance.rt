@@ -4,7 +4,7 @@ use crate::rows::{Desk, Told, play, rest, word};
 use pcache_base::error::Result;
 use pcache_base::key::HashBinary;
 use pcache_base::variance::VarianceBuilder;
-use std::alloc::Global;
+use std::alloc::{AllocError, Global};
 
 #[derive(Drop)]
 struct Builds {
@@ -49,7 +49,7 @@ fn add(
     kind: &str,
     name: &'static str,
     value: &'static [u8],
-) -> Result<()> {
+) -> Result<(), AllocError> {
     match kind {
         "lent" => builder.add_value(name, value),
         "value" => builder.add_owned_value(name, value.to_vec(alloc)?),

@@ -312,12 +312,15 @@ fn read_unordered(alloc: Global, text: Bytes, names: usize) -> Result<ResponseHe
 /// is made with room for so many names. Its
 /// values are parts of the text and no copies, so the text stays in memory as long as one of them does.
 /// Fails only when memory runs out.
-pub fn header_kept(alloc: Global, text: Bytes, names: usize) -> Result<ResponseHeader>
+pub fn header_kept(alloc: Global, text: Bytes, names: usize) -> Result<ResponseHeader, AllocError>
     requires { IsHeaderText text }
     ensures ok { (h : Header) → SpellsHeader text h → IfOk result (λ found. shown found ≡ h) }
-    ensures kind { IfErr result (λ e. e ≡ OutOfMemory) }
 {
-    read_unordered(alloc, text, names)
+    match read_unordered(alloc, text, names) {
+        Ok(head) => Ok(head),
+        Err(refused) if refused.etype() == ErrorType::OutOfMemory => Err(AllocError),
+        Err(_) => unreachable!(),
+    }
 }
 
 /// The head whose text all of the bytes are: its lines are grouped by name, in the order in which the

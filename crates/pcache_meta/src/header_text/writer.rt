@@ -1,10 +1,9 @@
 //! Writing the text of a head.
-ghost use Rattle.std.specs.Prelude.{◌≡◌, ◌++◌, All, OnOk, IfOk, IfErr};
+ghost use Rattle.std.specs.Prelude.{◌≡◌, ◌++◌, All, OnOk, IfOk};
 ghost use Rattle.http.specs.StatusCode.{IsStatusCode};
 ghost use Rattle.http_header.specs.HeaderMap.{pairs, IsHeaderMap};
 ghost use Rattle.pcache_meta.specs.Header.{shown};
 ghost use Rattle.pcache_meta.specs.HeaderText.{IsField, SpellsHeader, field_line, fields_text, header_text, header_written, line_end, shown_lines, status_text, version_text};
-ghost use Rattle.pcache_base.specs.declared.error.ErrorType.TheVariants.{OutOfMemory};
 
 use crate::header::{HttpVersion, ResponseHeader};
 use http::StatusCode;
@@ -104,10 +103,9 @@ fn write_header(alloc: Global, header: &ResponseHeader) -> Result<Vec<u8>, Alloc
 
 /// The text of a head: the line of version and status, and a line for each value, by name, in the
 /// map's order.
-pub fn header_serialize(alloc: Global, header: &ResponseHeader) -> Result<Vec<u8>>
+pub fn header_serialize(alloc: Global, header: &ResponseHeader) -> Result<Vec<u8>, AllocError>
     ensures written { IfOk result (λ v. v.items ≡ header_written (shown header.now)) }
     ensures spelled { IfOk result (λ v. SpellsHeader v.items (shown header.now)) }
-    ensures kind { IfErr result (λ e. e ≡ OutOfMemory) }
 {
     Ok(write_header(alloc, header)?)
 }

@@ -17,12 +17,12 @@ use crate::header_text::writer::header_serialize;
 use crate::meta::CacheMeta;
 use crate::meta::internal_meta::{InternalMetaV0, InternalMetaV1, InternalMetaV2, InternalMetaV3};
 use crate::msgpack::reader::{Reader, unreadable};
-use crate::msgpack::writer::{put_array, put_nil, put_number, put_optional_hash};
+use crate::msgpack::writer::{put_nil, put_number, put_optional_hash, put_short_array};
 use pcache_base::entry_id::CacheEntryId;
 use pcache_base::error::Result;
 use pcache_base::key::HashBinary;
 use pcache_base::moment::Moment;
-use std::alloc::Global;
+use std::alloc::{AllocError, Global};
 
 // The fewest bytes that a meta has. Nothing reads the nine that version 0 can be written with.
 const MIN_SIZE: usize = 10;
@@ -186,23 +186,21 @@ pub fn deserialize_internal(bytes: &[u8]) -> Result<InternalMetaV3>
 // ---- writing
 
 #[tactic(auto, unfolding(crate::specs::MetaWriting::moment_written))]
-fn put_moment(out: &mut Vec<u8>, moment: Moment) -> Result<()>
+fn put_moment(out: &mut Vec<u8>, moment: Moment) -> Result<(), AllocError>
     ensures written { OnOk result (out.new.items ≡ out.old.items ++ moment_written moment) }
     ensures range { OnOk result (IsMoment moment) }
-    ensures kind { IfErr result (λ e. e ≡ OutOfMemory) }
 {
-    put_array(out, 2)?;
+    put_short_array(out, 2)?;
     put_number(out, moment.secs())?;
     put_number(out, u64::from(moment.nanos()))?;
     Ok(())
 }
 
 #[tactic(auto, unfolding(crate::specs::Writing::optional_written))]
-fn put_optional_moment(out: &mut Vec<u8>, moment: Option<Moment>) -> Result<()>
+fn put_optional_moment(out: &mut Vec<u8>, moment: Option<Moment>) -> Result<(), AllocError>
     ensures written { OnOk result (out.new.items
         ≡ out.old.items ++ optional_written moment_written moment) }
     ensures range { OnOk result (IfSome moment IsMoment) }
-    ensures kind { IfErr result (λ e. e ≡ OutOfMemory) }
 {
     match moment {
         None => put_nil(out)?,
@@ -212,11 +210,10 @@ fn put_optional_moment(out: &mut Vec<u8>, moment: Option<Moment>) -> Result<()>
 }
 
 #[tactic(auto, unfolding(crate::specs::Writing::optional_written))]
-fn put_optional_number(out: &mut Vec<u8>, id: Option<CacheEntryId>) -> Result<()>
+fn put_optional_number(out: &mut Vec<u8>, id: Option<CacheEntryId>) -> Result<(), AllocError>
     ensures written { OnOk result (out.new.items
         ≡ out.old.items ++ optional_written number_written id) }
     ensures range { OnOk result (IfSome id (λ n. n < 2 ^ 64)) }
-    ensures kind { IfErr result (λ e. e ≡ OutOfMemory) }
 {
     match id {
         None => put_nil(out)?,
@@ -227,10 +224,9 @@ fn put_optional_number(out: &mut Vec<u8>, id: Option<CacheEntryId>) -> Result<()
 
 // The ninth item of version 2, if there is one.
 #[tactic(auto, unfolding(crate::specs::MetaWriting::last_written))]
-fn put_last_moment(out: &mut Vec<u8>, moment: Option<Moment>) -> Result<()>
+fn put_last_moment(out: &mut Vec<u8>, moment: Option<Moment>) -> Result<(), AllocError>
     ensures written { OnOk result (out.new.items ≡ out.old.items ++ last_written moment) }
     ensures range { OnOk result (IfSome moment IsMoment) }
-    ensures kind { IfErr result (λ e. e ≡ OutOfMemory) }
 {
     if let Some(moment) = moment {
         put_moment(out, moment)?;
@@ -240,10 +236,9 @@ fn put_last_moment(out: &mut Vec<u8>, moment: Option<Moment>) -> Result<()>
 
 // The items that versions 2 and 3 have alike.
 #[tactic(auto, unfolding(crate::specs::MetaWriting::items_written))]
-fn put_items(out: &mut Vec<u8>, meta: &InternalMetaV3) -> Result<()>
+fn put_items(out: &mut Vec<u8>, meta: &InternalMetaV3) -> Result<(), AllocError>
     ensures written { OnOk result (out.new.items ≡ out.old.items ++ items_written meta.now) }
     ensures range { OnOk result (AreItems meta.now) }
-    ensures kind { IfErr result (λ e. e ≡ OutOfMemory) }
 {
     put_moment(out, meta.fresh_until)?;
     put_moment(out, meta.created)?;
@@ -257,13 +252,12 @@ fn put_items(out: &mut Vec<u8>, meta: &InternalMetaV3) -> Result<()>
 
 // Writes version 3.
 #[tactic(auto, unfolding(crate::specs::MetaWriting::internal_written))]
-fn write_internal(alloc: Global, meta: &InternalMetaV3) -> Result<Vec<u8>>
+fn write_internal(alloc: Global, meta: &InternalMetaV3) -> Result<Vec<u8>, AllocError>
     ensures written { IfOk result (λ v. v.items ≡ internal_written meta.now) }
     ensures range { OnOk result (IsInternal meta.now) }
-    ensures kind { IfErr result (λ e. e ≡ OutOfMemory) }
 {
     let mut out = Vec::with_capacity(alloc, USUAL_SIZE)?;
-    put_array(&mut out, 10)?;
+    put_short_array(&mut out, 10)?;
     out.push(InternalMetaV3::VERSION)?;
     put_items(&mut out, meta)?;
     put_optional_moment(&mut out, meta.provenance)?;
@@ -273,14 +267,13 @@ fn write_internal(alloc: Global, meta: &InternalMetaV3) -> Result<Vec<u8>>
 
 // Writes version 2.
 #[tactic(auto, unfolding(crate::specs::MetaWriting::version2_written))]
-fn write_version2(alloc: Global, meta: &InternalMetaV2) -> Result<Vec<u8>>
+fn write_version2(alloc: Global, meta: &InternalMetaV2) -> Result<Vec<u8>, AllocError>
     ensures written { IfOk result (λ v. v.items ≡ version2_written meta.now) }
     ensures items { OnOk result (AreItems (of_version2 meta.now)) }
     ensures last { OnOk result (IfSome meta.now.provenance IsMoment) }
-    ensures kind { IfErr result (λ e. e ≡ OutOfMemory) }
 {
     let mut out = Vec::new(alloc);
-    put_array(&mut out, if meta.provenance.is_some() { 9 } else { 8 })?;
+    put_short_array(&mut out, if meta.provenance.is_some() { 9 } else { 8 })?;
     out.push(InternalMetaV2::VERSION)?;
     put_items(&mut out, &InternalMetaV3::from(*meta))?;
     put_last_moment(&mut out, meta.provenance)?;
@@ -295,7 +288,7 @@ fn put_old(
     created: Moment,
     stale_while_revalidate_sec: u32,
     stale_if_error_sec: u32,
-) -> Result<()>
+) -> Result<(), AllocError>
     ensures written { OnOk result (out.new.items ≡ out.old.items ++ old_written (record {
       fresh_until = fresh_until;
       created = created;
@@ -308,7 +301,6 @@ fn put_old(
       stale_while_revalidate_sec = stale_while_revalidate_sec;
       stale_if_error_sec = stale_if_error_sec;
     })) }
-    ensures kind { IfErr result (λ e. e ≡ OutOfMemory) }
 {
     put_moment(out, fresh_until)?;
     put_moment(out, created)?;
@@ -319,13 +311,12 @@ fn put_old(
 
 // Writes version 0.
 #[tactic(auto, unfolding(crate::specs::MetaWriting::version0_written))]
-fn write_version0(alloc: Global, meta: &InternalMetaV0) -> Result<Vec<u8>>
+fn write_version0(alloc: Global, meta: &InternalMetaV0) -> Result<Vec<u8>, AllocError>
     ensures written { IfOk result (λ v. v.items ≡ version0_written meta.now) }
     ensures range { OnOk result (IsOldInternal meta.now) }
-    ensures kind { IfErr result (λ e. e ≡ OutOfMemory) }
 {
     let mut out = Vec::new(alloc);
-    put_array(&mut out, 4)?;
+    put_short_array(&mut out, 4)?;
     put_old(
         &mut out,
         meta.fresh_until,
@@ -338,13 +329,12 @@ fn write_version0(alloc: Global, meta: &InternalMetaV0) -> Result<Vec<u8>>
 
 // Writes version 1.
 #[tactic(auto, unfolding(crate::specs::MetaWriting::version1_written))]
-fn write_version1(alloc: Global, meta: &InternalMetaV1) -> Result<Vec<u8>>
+fn write_version1(alloc: Global, meta: &InternalMetaV1) -> Result<Vec<u8>, AllocError>
     ensures written { IfOk result (λ v. v.items ≡ version1_written meta.now) }
     ensures range { OnOk result (IsOldInternal meta.now) }
-    ensures kind { IfErr result (λ e. e ≡ OutOfMemory) }
 {
     let mut out = Vec::new(alloc);
-    put_array(&mut out, 5)?;
+    put_short_array(&mut out, 5)?;
     out.push(InternalMetaV1::VERSION)?;
     put_old(
         &mut out,
@@ -358,10 +348,9 @@ fn write_version1(alloc: Global, meta: &InternalMetaV1) -> Result<Vec<u8>>
 
 impl InternalMetaV0 {
     /// The bytes of version 0. If they are fewer than ten, no reader accepts them.
-    pub fn serialize(&self, alloc: Global) -> Result<Vec<u8>>
+    pub fn serialize(&self, alloc: Global) -> Result<Vec<u8>, AllocError>
         ensures written { IfOk result (λ v. v.items ≡ version0_written self.now) }
         ensures spelled { IfOk result (λ v. InternalThen v.items (upgraded self.now) []) }
-        ensures kind { IfErr result (λ e. e ≡ OutOfMemory) }
     {
         write_version0(alloc, self)
     }
@@ -369,10 +358,9 @@ impl InternalMetaV0 {
 
 impl InternalMetaV1 {
     /// The bytes of version 1.
-    pub fn serialize(&self, alloc: Global) -> Result<Vec<u8>>
+    pub fn serialize(&self, alloc: Global) -> Result<Vec<u8>, AllocError>
         ensures written { IfOk result (λ v. v.items ≡ version1_written self.now) }
         ensures spelled { IfOk result (λ v. SpellsInternal v.items (upgraded self.now)) }
-        ensures kind { IfErr result (λ e. e ≡ OutOfMemory) }
     {
         write_version1(alloc, self)
     }
@@ -380,10 +368,9 @@ impl InternalMetaV1 {
 
 impl InternalMetaV2 {
     /// The bytes of version 2: the items that it names, each in its shortest form.
-    pub fn serialize(&self, alloc: Global) -> Result<Vec<u8>>
+    pub fn serialize(&self, alloc: Global) -> Result<Vec<u8>, AllocError>
         ensures written { IfOk result (λ v. v.items ≡ version2_written self.now) }
         ensures spelled { IfOk result (λ v. SpellsInternal v.items (of_version2 self.now)) }
-        ensures kind { IfErr result (λ e. e ≡ OutOfMemory) }
     {
         write_version2(alloc, self)
     }
@@ -391,10 +378,9 @@ impl InternalMetaV2 {
 
 impl InternalMetaV3 {
     /// The bytes of version 3: all ten items, each in its shortest form.
-    pub fn serialize(&self, alloc: Global) -> Result<Vec<u8>>
+    pub fn serialize(&self, alloc: Global) -> Result<Vec<u8>, AllocError>
         ensures written { IfOk result (λ v. v.items ≡ internal_written self.now) }
         ensures spelled { IfOk result (λ v. SpellsInternal v.items self.now) }
-        ensures kind { IfErr result (λ e. e ≡ OutOfMemory) }
     {
         write_internal(alloc, self)
     }
@@ -405,12 +391,11 @@ impl InternalMetaV3 {
 impl CacheMeta {
     /// The meta as two byte strings: what it says beside its head, in version 3, and the text of
     /// its head. The two read back as this meta. Fails only when memory runs out.
-    pub fn serialize(&self, alloc: Global) -> Result<(Vec<u8>, Vec<u8>)>
+    pub fn serialize(&self, alloc: Global) -> Result<(Vec<u8>, Vec<u8>), AllocError>
         ensures written_internal { IfOk result (λ p.
             p.0.items ≡ internal_written self.now.internal) }
         ensures written_header { IfOk result (λ p. p.1.items ≡ header_written self.now.header) }
         ensures spelled { IfOk result (λ p. SpellsMeta p.0.items p.1.items self.now) }
-        ensures kind { IfErr result (λ e. e ≡ OutOfMemory) }
     {
         let internal = self.internal.serialize(alloc)?;
         let header = header_serialize(alloc, &self.header)?;

@@ -1,10 +1,9 @@
 //! Metas kept as bytes.
-ghost use Rattle.std.specs.Prelude.{◌≡◌, ◌≤◌, length, take, drop, IfOk, IfErr};
+ghost use Rattle.std.specs.Prelude.{◌≡◌, ◌≤◌, length, take, drop, IfOk};
 ghost use Rattle.pcache_meta.specs.HeaderText.{header_written};
 ghost use Rattle.pcache_meta.specs.Meta.{with_entry_id};
 ghost use Rattle.pcache_meta.specs.MetaBytes.{SpellsMeta};
 ghost use Rattle.pcache_meta.specs.MetaWriting.{internal_written};
-ghost use Rattle.pcache_base.specs.declared.error.ErrorType.TheVariants.{OutOfMemory};
 
 use crate::header_text::reader::header_kept;
 use crate::header_text::writer::header_serialize;
@@ -13,8 +12,8 @@ use crate::meta::codec::deserialize_internal;
 use crate::meta::internal_meta::InternalMetaLatest;
 use bytes::Bytes;
 use pcache_base::entry_id::CacheEntryId;
-use pcache_base::error::{Error, ErrorType, Result};
-use std::alloc::Global;
+use pcache_base::error::Result;
+use std::alloc::{AllocError, Global};
 use std::marker::Model;
 
 /// A meta kept as the two byte strings that `CacheMeta::serialize` gives of it, one behind the other in
@@ -45,9 +44,8 @@ impl Model for SpelledMeta {
 
 impl SpelledMeta {
     /// Keeps the byte strings of a meta. Fails only when memory runs out.
-    pub fn new(alloc: Global, meta: &CacheMeta) -> Result<SpelledMeta>
+    pub fn new(alloc: Global, meta: &CacheMeta) -> Result<SpelledMeta, AllocError>
         ensures ok { IfOk result (λ kept. kept ≡ meta.now) }
-        ensures kind { IfErr result (λ e. e ≡ OutOfMemory) }
     {
         SpelledMeta::with_entry_id(alloc, meta, meta.entry_id())
     }
@@ -58,9 +56,8 @@ impl SpelledMeta {
         alloc: Global,
         meta: &CacheMeta,
         entry_id: Option<CacheEntryId>,
-    ) -> Result<SpelledMeta>
+    ) -> Result<SpelledMeta, AllocError>
         ensures ok { IfOk result (λ kept. kept ≡ with_entry_id entry_id meta.now) }
-        ensures kind { IfErr result (λ e. e ≡ OutOfMemory) }
     {
         let said = InternalMetaLatest {
             entry_id,
@@ -78,7 +75,7 @@ impl SpelledMeta {
                 names: meta.header.headers.keys_len(),
                 entry_id: said.entry_id,
             }),
-            Err(_) => Err(Error::new(ErrorType::OutOfMemory)),
+            Err(_) => Err(AllocError),
         }
     }
 
@@ -100,9 +97,8 @@ impl SpelledMeta {
 
     /// The meta, read back. Its values are parts of one copy of the head's text, which is its own: so many
     /// who read a meta at once do not meet at one count of owners. Fails only when memory runs out.
-    pub fn meta(&self, alloc: Global) -> Result<CacheMeta>
+    pub fn meta(&self, alloc: Global) -> Result<CacheMeta, AllocError>
         ensures ok { IfOk result (λ m. m ≡ self.now) }
-        ensures kind { IfErr result (λ e. e ≡ OutOfMemory) }
     {
         let (internal, head) = self.strings();
         let Ok(internal) = deserialize_internal(internal) else {
@@ -117,9 +113,8 @@ impl SpelledMeta {
 
     /// A copy of the same meta, which shares its text. Fails only when the text has as many owners as
     /// can be counted.
-    pub fn copied(&self) -> Result<SpelledMeta>
+    pub fn copied(&self) -> Result<SpelledMeta, AllocError>
         ensures ok { IfOk result (λ copy. copy ≡ self.now) }
-        ensures kind { IfErr result (λ e. e ≡ OutOfMemory) }
     {
         Ok(SpelledMeta {
             text: self.text.clone()?,

@@ -6,13 +6,13 @@ ghost use Rattle.pcache_base.specs.declared.error.ErrorType.TheVariants.{OutOfMe
 
 use pcache_base::error::{Error, ErrorType, Result};
 use pcache_base::key::HashBinary;
+use std::alloc::AllocError;
 
 /// Writes a number.
 #[tactic(auto, unfolding(crate::specs::Writing::number_written))]
-pub fn put_number(out: &mut Vec<u8>, n: u64) -> Result<()>
+pub fn put_number(out: &mut Vec<u8>, n: u64) -> Result<(), AllocError>
     ensures written { OnOk result (out.new.items ≡ out.old.items ++ number_written n) }
     ensures unwritten { OnErr result (out.new.items ≡ out.old.items) }
-    ensures kind { IfErr result (λ e. e ≡ OutOfMemory) }
 {
     if n < 1 << 7 {
         out.push(n as u8)?;
@@ -33,23 +33,35 @@ pub fn put_number(out: &mut Vec<u8>, n: u64) -> Result<()>
 
 /// Writes the head of an array of `n` items, which are to follow. Fails with `InternalError` for
 /// 2^32 items or more, which no form holds.
-#[tactic(auto, unfolding(crate::specs::Writing::array_written))]
 pub fn put_array(out: &mut Vec<u8>, n: usize) -> Result<()>
     ensures written { OnOk result (out.new.items ≡ out.old.items ++ array_written n) }
     ensures too_long { IsErrOf result InternalError ↔ (2 ^ 32 ≤ n) }
     ensures unwritten { OnErr result (out.new.items ≡ out.old.items) }
     ensures kinds { IfErr result (λ e. (e ≡ OutOfMemory) ⊎ (e ≡ InternalError)) }
 {
+    if n >= 1 << 32 {
+        return Err(Error::new(ErrorType::InternalError));
+    }
+    put_short_array(out, n)?;
+    Ok(())
+}
+
+/// Writes the head of an array of `n` items, fewer than 2^32, which are to follow. Fails only when
+/// memory runs out.
+#[tactic(auto, unfolding(crate::specs::Writing::array_written))]
+pub fn put_short_array(out: &mut Vec<u8>, n: usize) -> Result<(), AllocError>
+    requires { n < 2 ^ 32 }
+    ensures written { OnOk result (out.new.items ≡ out.old.items ++ array_written n) }
+    ensures unwritten { OnErr result (out.new.items ≡ out.old.items) }
+{
     if n < 16 {
         out.push(0x90 + n as u8)?;
     } else if n < 1 << 16 {
         let [a, b] = (n as u16).to_be_bytes();
         out.extend_from_slice(&[0xDC, a, b])?;
-    } else if n < 1 << 32 {
+    } else {
         let [a, b, c, d] = (n as u32).to_be_bytes();
         out.extend_from_slice(&[0xDD, a, b, c, d])?;
-    } else {
-        return Err(Error::new(ErrorType::InternalError));
     }
     Ok(())
 }
@@ -97,13 +109,12 @@ pub fn put_text(out: &mut Vec<u8>, text: &str) -> Result<()>
 
 // Writes the bytes of a hash; if memory runs out, only some of them.
 #[tactic(auto, unfolding(crate::specs::Writing::hash_written))]
-fn put_each(out: &mut Vec<u8>, hash: &HashBinary) -> Result<()>
+fn put_each(out: &mut Vec<u8>, hash: &HashBinary) -> Result<(), AllocError>
     ensures written { OnOk result (out.new.items ≡ out.old.items ++ hash_written hash.now) }
     ensures range { OnOk result (IsHash hash.now) }
     ensures kept { OnErr result (take (length out.old.items) out.new.items ≡ out.old.items) }
-    ensures kind { IfErr result (λ e. e ≡ OutOfMemory) }
 {
-    put_array(out, 16)?;
+    put_short_array(out, 16)?;
     'each: for b in hash {
         put_number(out, u64::from(*b))?;
     }
@@ -111,11 +122,10 @@ fn put_each(out: &mut Vec<u8>, hash: &HashBinary) -> Result<()>
 }
 
 /// Writes a hash, as an array of its bytes.
-pub fn put_hash(out: &mut Vec<u8>, hash: &HashBinary) -> Result<()>
+pub fn put_hash(out: &mut Vec<u8>, hash: &HashBinary) -> Result<(), AllocError>
     ensures written { OnOk result (out.new.items ≡ out.old.items ++ hash_written hash.now) }
     ensures range { OnOk result (IsHash hash.now) }
     ensures unwritten { OnErr result (out.new.items ≡ out.old.items) }
-    ensures kind { IfErr result (λ e. e ≡ OutOfMemory) }
 {
     let start = out.len();
     if let Err(refused) = put_each(out, hash) {
@@ -127,12 +137,11 @@ pub fn put_hash(out: &mut Vec<u8>, hash: &HashBinary) -> Result<()>
 
 /// Writes a hash, or nil.
 #[tactic(auto, unfolding(crate::specs::Writing::optional_written))]
-pub fn put_optional_hash(out: &mut Vec<u8>, hash: Option<HashBinary>) -> Result<()>
+pub fn put_optional_hash(out: &mut Vec<u8>, hash: Option<HashBinary>) -> Result<(), AllocError>
     ensures written { OnOk result (out.new.items
         ≡ out.old.items ++ optional_written hash_written hash) }
     ensures range { OnOk result (IfSome hash IsHash) }
     ensures unwritten { OnErr result (out.new.items ≡ out.old.items) }
-    ensures kind { IfErr result (λ e. e ≡ OutOfMemory) }
 {
     match hash {
         None => put_nil(out)?,
@@ -142,10 +151,9 @@ pub fn put_optional_hash(out: &mut Vec<u8>, hash: Option<HashBinary>) -> Result<
 }
 
 /// Writes nil.
-pub fn put_nil(out: &mut Vec<u8>) -> Result<()>
+pub fn put_nil(out: &mut Vec<u8>) -> Result<(), AllocError>
     ensures written { OnOk result (out.new.items ≡ out.old.items ++ 0xC0 ∷ []) }
     ensures unwritten { OnErr result (out.new.items ≡ out.old.items) }
-    ensures kind { IfErr result (λ e. e ≡ OutOfMemory) }
 {
     out.push(0xC0)?;
     Ok(())

@@ -60,7 +60,7 @@ impl Draft {
     pub(crate) fn spelled(&self) -> Result<SpelledMeta, AllocError>
         ensures ok { IfOk result (λ m. m ≡ self.now.meta) }
     {
-        self.meta.copied()
+        Ok(self.meta.copied()?)
     }
 
     // The length of the text of its head, as it is kept.

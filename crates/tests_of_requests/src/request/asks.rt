@@ -8,6 +8,7 @@ use pcache_lock::lock::LockWaitOutcome;
 use pcache_meta::header_text::reader::header_deserialize;
 use pcache_meta::header_text::writer::header_serialize;
 use pcache_store::storage::HandleHit;
+use std::alloc::AllocError;
 
 /// Writes what the row asks for, and returns whether it asks for anything.
 pub fn tell(parts: &mut Parts, cache: &mut Request, call: &'static str, told: &mut Told) -> bool {
@@ -378,7 +379,7 @@ fn is_the_merged(alloc: Global, merged: Result<ResponseHeader>) -> bool {
     }
 }
 
-fn is_text(text: Result<Vec<u8>>, wanted: &[u8]) -> bool {
+fn is_text(text: Result<Vec<u8>, AllocError>, wanted: &[u8]) -> bool {
     match text {
         Ok(text) => text.as_slice() == wanted,
         Err(_refused) => false,

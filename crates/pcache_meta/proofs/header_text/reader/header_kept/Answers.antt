@@ -1,9 +1,12 @@
-use Rattle.pcache_meta.proofs.Words.{shown}
-use Rattle.pcache_meta.proofs.HeaderResults.{kept_ok, kept_kind}
+use Rattle.pcache_meta.proofs.Words.{◌∙◌, shown}
+use Rattle.pcache_meta.proofs.HeaderResults.{kept_same, kept_kind}
 use Rattle.pcache_meta.proofs.header_text.reader.header_kept.Goals as goal
 
-pub returns-clause-ok : goal.returns-clause-ok
-returns-clause-ok c = λ h spelled. kept_ok shown c.read_unordered.result c.args.text h c.read_unordered.ensures spelled
+pub unreachable-requires : goal.unreachable-requires
+unreachable-requires c =
+    let is = kept_kind c.in-Err.refused c.args.text c.in-Err.ensures c.requires in
+    let differs = rw (c.etype.ensures ∙ is) at c.if-eq.ensures in
+    absurd (cc differs)
 
-pub returns-clause-kind : goal.returns-clause-kind
-returns-clause-kind c = kept_kind shown c.read_unordered.result c.args.text c.read_unordered.ensures c.requires
+pub returns-in-Ok : goal.returns-in-Ok
+returns-in-Ok c = record { ok = λ h spelled. kept_same c.args.text (shown c.in-Ok.head) h c.in-Ok.ensures spelled }
