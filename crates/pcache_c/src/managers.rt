@@ -4,7 +4,7 @@ ghost use Rattle.pcache_c.specs.Codes.{OnGood, code_in, hash_at, hashes_at, mome
 ghost use Rattle.pcache_c.specs.Handles.{AsksOf, ChangesOf, IsSame, OnHandle, OnKind, Turns};
 ghost use Rattle.pcache_c.specs.Managers.{Accesses, Admits, HandsFirst, Increments, IsFileOf, Loads, LoadsInto, MakesList, MakesShards, OnEntry, Peeks, Removes, Saves, SaysTotals, Shows, WritesTag, as_manager, list_saved, managing, with_list, with_shards};
 
-use crate::codes::{BAD_HANDLE, BAD_VALUE, NONE, OK, WRONG_CALL, WRONG_KIND, code_of};
+use crate::codes::{BAD_HANDLE, BAD_VALUE, NO_MEMORY, NONE, OK, WRONG_CALL, WRONG_KIND, code_of};
 use crate::entries::{PcacheEntry, entry_from};
 use crate::handle::PcacheHandle;
 use crate::hashes::{copy_out, hash_from};
@@ -54,7 +54,7 @@ impl<M: EvictionManager> Managed<M> {
                 self.waiting = VecDeque::from(out);
                 OK
             }
-            Err(e) => code_of(e),
+            Err(refused) => code_of(refused.into()),
         }
     }
 
@@ -71,7 +71,7 @@ impl<M: EvictionManager> Managed<M> {
                 self.waiting = VecDeque::from(out);
                 OK
             }
-            Err(e) => code_of(e),
+            Err(refused) => code_of(refused.into()),
         }
     }
 
@@ -91,7 +91,7 @@ impl<M: EvictionManager> Managed<M> {
                 *was = u32::from(found);
                 OK
             }
-            Err(e) => code_of(e),
+            Err(refused) => code_of(refused.into()),
         }
     }
 
@@ -230,7 +230,7 @@ pub extern "C" fn pcache_simple_lru_new(
     };
     match simple_lru::Manager::new_with_watermark(alloc, seed, limit, watermark_of(watermark)) {
         Ok(manager) => handle.fill(alloc, Object::Simple(Managed::new(alloc, manager))),
-        Err(e) => code_of(e),
+        Err(_) => NO_MEMORY,
     }
 }
 
@@ -254,7 +254,7 @@ pub extern "C" fn pcache_sharded_lru_new(
         alloc, seed, limit, 0, watermark,
     ) {
         Ok(manager) => handle.fill(alloc, Object::Sharded(Managed::new(alloc, manager))),
-        Err(e) => code_of(e),
+        Err(_) => NO_MEMORY,
     }
 }
 

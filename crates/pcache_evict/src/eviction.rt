@@ -1,16 +1,15 @@
 //! What an eviction manager is: it tracks the entries of a cache with their weights, and decides
 //! which of them leave when there are too many.
-ghost use Rattle.std.specs.Prelude.{◌≡◌, ◌^◌, ◌-◌, IfOk, IfErr, IsOk, IsTrue, OnErr, OnOk, min};
+ghost use Rattle.std.specs.Prelude.{◌≡◌, ◌^◌, ◌-◌, IfOk, IsOk, IsTrue, OnErr, OnOk, min};
 ghost use Rattle.std.specs.FinMap as map;
 ghost use Rattle.std.specs.List.{IsDistinct};
 ghost use Rattle.std.specs.Map.{keys_of};
-ghost use Rattle.pcache_base.specs.declared.error.ErrorType.TheVariants.{OutOfMemory};
 ghost use Rattle.pcache_evict.specs.Entry.{entry_cmp, entry_eq};
 ghost use Rattle.pcache_evict.specs.Policy.{AllowAsMuch, Rules, Shown};
 ghost use Rattle.pcache_evict.specs.Tracked.{Tracked, Limits, Evicted, IsFair, IsWithin, weight, without, added, incremented, evicted_with};
 
-use pcache_base::error::Result;
 use pcache_base::moment::Moment;
+use std::alloc::AllocError;
 
 mod entry_key;
 pub mod ordered;
@@ -65,10 +64,9 @@ pub trait EvictionManager: Drop {
         ensures { result ≡ (evicted self.now).count };
 
     /// The entries with their weights, each once.
-    fn entries(&self) -> Result<Vec<(CacheEntryKey, usize)>>
+    fn entries(&self) -> Result<Vec<(CacheEntryKey, usize)>, AllocError>
         ensures all { IfOk result (λ all. map.from_entries all.items ≡ tracked self.now) }
-        ensures once { IfOk result (λ all. IsDistinct entry_eq (keys_of all.items)) }
-        ensures kind { IfErr result (λ e. e ≡ OutOfMemory) };
+        ensures once { IfOk result (λ all. IsDistinct entry_eq (keys_of all.items)) };
 
     /// Sets the weight of an entry, and evicts entries only until the limits hold. The entry itself
     /// may be evicted. Returns the evicted entries; `fresh_until` is when the entry goes stale.
@@ -77,7 +75,7 @@ pub trait EvictionManager: Drop {
         item: CacheEntryKey,
         size: usize,
         fresh_until: Moment,
-    ) -> Result<Vec<CacheEntryKey>>
+    ) -> Result<Vec<CacheEntryKey>, AllocError>
         ensures limits { limits self.new ≡ limits self.old }
         ensures fair { IfOk result (λ out. IsFair (limits self.old)
             (map.insert (tracked self.old) item size) out.items) }
@@ -88,7 +86,6 @@ pub trait EvictionManager: Drop {
         ensures rules { AllowAsMuch (rules self.new) (rules self.old) }
         ensures order { IfOk result (λ out. (rules self.old).Admits (limits self.old)
             (shown self.old) item size (shown self.new) out.items) }
-        ensures kind { IfErr result (λ e. e ≡ OutOfMemory) }
         ensures err { OnErr result (tracked self.new ≡ tracked self.old) }
         ensures err_evicted { OnErr result (evicted self.new ≡ evicted self.old) };
 
@@ -100,7 +97,7 @@ pub trait EvictionManager: Drop {
         item: &CacheEntryKey,
         delta: usize,
         max_weight: Option<usize>,
-    ) -> Result<Vec<CacheEntryKey>>
+    ) -> Result<Vec<CacheEntryKey>, AllocError>
         ensures limits { limits self.new ≡ limits self.old }
         ensures fair { IfOk result (λ out. IsFair (limits self.old)
             (incremented (tracked self.old) item.now delta max_weight) out.items) }
@@ -115,7 +112,6 @@ pub trait EvictionManager: Drop {
         ensures rules { AllowAsMuch (rules self.new) (rules self.old) }
         ensures order { IfOk result (λ out. (rules self.old).Increments (limits self.old)
             (shown self.old) item.now delta max_weight (shown self.new) out.items) }
-        ensures kind { IfErr result (λ e. e ≡ OutOfMemory) }
         ensures err { OnErr result (tracked self.new ≡ tracked self.old) }
         ensures err_evicted { OnErr result (evicted self.new ≡ evicted self.old) };
 
@@ -130,7 +126,12 @@ pub trait EvictionManager: Drop {
     /// Records a use of an entry and returns whether it was tracked. One that was not is added with
     /// this weight; nothing is evicted, even if the limits no longer hold. Does not fail if the
     /// entry is tracked.
-    fn access(&mut self, item: &CacheEntryKey, size: usize, fresh_until: Moment) -> Result<bool>
+    fn access(
+        &mut self,
+        item: &CacheEntryKey,
+        size: usize,
+        fresh_until: Moment,
+    ) -> Result<bool, AllocError>
         ensures limits { limits self.new ≡ limits self.old }
         ensures was { IfOk result (λ was. was ≡ map.contains_key (tracked self.old) item.now) }
         ensures ok { OnOk result (tracked self.new ≡ added (tracked self.old) item.now size) }
@@ -139,7 +140,6 @@ pub trait EvictionManager: Drop {
         ensures order { OnOk result ((rules self.old).Accesses (shown self.old) item.now size
             (shown self.new)) }
         ensures evicted { evicted self.new ≡ evicted self.old }
-        ensures kind { IfErr result (λ e. e ≡ OutOfMemory) }
         ensures err { OnErr result (tracked self.new ≡ tracked self.old) };
 
     /// Whether an entry is tracked. That does not count as a use.
@@ -175,7 +175,7 @@ impl EvictionManager for Box<dyn EvictionManager + Send> {
         (**self).evicted_items()
     }
 
-    fn entries(&self) -> Result<Vec<(CacheEntryKey, usize)>> {
+    fn entries(&self) -> Result<Vec<(CacheEntryKey, usize)>, AllocError> {
         (**self).entries()
     }
 
@@ -184,7 +184,7 @@ impl EvictionManager for Box<dyn EvictionManager + Send> {
         item: CacheEntryKey,
         size: usize,
         fresh_until: Moment,
-    ) -> Result<Vec<CacheEntryKey>> {
+    ) -> Result<Vec<CacheEntryKey>, AllocError> {
         (**self).admit(item, size, fresh_until)
     }
 
@@ -193,7 +193,7 @@ impl EvictionManager for Box<dyn EvictionManager + Send> {
         item: &CacheEntryKey,
         delta: usize,
         max_weight: Option<usize>,
-    ) -> Result<Vec<CacheEntryKey>> {
+    ) -> Result<Vec<CacheEntryKey>, AllocError> {
         (**self).increment_weight(item, delta, max_weight)
     }
 
@@ -201,7 +201,12 @@ impl EvictionManager for Box<dyn EvictionManager + Send> {
         (**self).remove(item);
     }
 
-    fn access(&mut self, item: &CacheEntryKey, size: usize, fresh_until: Moment) -> Result<bool> {
+    fn access(
+        &mut self,
+        item: &CacheEntryKey,
+        size: usize,
+        fresh_until: Moment,
+    ) -> Result<bool, AllocError> {
         (**self).access(item, size, fresh_until)
     }
 

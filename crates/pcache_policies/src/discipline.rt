@@ -1,8 +1,7 @@
 //! What a manager asks of its queue: which entries go next, what a use makes of one, and where a new
 //! one comes in.
-ghost use Rattle.std.specs.Prelude.{◌≡◌, ◌++◌, ◌+◌, ◌≤◌, ◌<◌, ◌^◌, [], true, false, None, length, IfOk, IfErr, OnOk, OnErr};
+ghost use Rattle.std.specs.Prelude.{◌≡◌, ◌++◌, ◌+◌, ◌≤◌, ◌<◌, ◌^◌, [], true, false, None, length, IfOk, OnOk, OnErr};
 ghost use Rattle.std.specs.Vec.{vec_capacity};
-ghost use Rattle.pcache_base.specs.declared.error.ErrorType.TheVariants.{OutOfMemory};
 ghost use Rattle.pcache_evict.specs.Tracked.{limits_of};
 ghost use Rattle.pcache_evict.specs.Recency.{weight};
 ghost use Rattle.pcache_evict.specs.Listed.{map_of};
@@ -12,9 +11,8 @@ ghost use Rattle.pcache_policies.specs.Ring.{going};
 ghost use Rattle.pcache_policies.specs.Managed.{Way, Lawful, entries_in};
 
 use crate::queue::Seen;
-use pcache_base::error::Result;
 use pcache_evict::eviction::CacheEntryKey;
-use std::alloc::Global;
+use std::alloc::{AllocError, Global};
 
 /// A queue of entries with weights that goes by a policy.
 ///
@@ -45,9 +43,8 @@ pub trait Discipline<S>: Drop {
         ensures { Lawful way };
 
     /// No entries.
-    fn new(alloc: Global, seed: S) -> Result<Self>
-        ensures ok { IfOk result (λ made. order made ≡ way.none) }
-        ensures kind { IfErr result (λ e. e ≡ OutOfMemory) };
+    fn new(alloc: Global, seed: S) -> Result<Self, AllocError>
+        ensures ok { IfOk result (λ made. order made ≡ way.none) };
 
     /// The number of entries.
     fn len(&self) -> usize
@@ -65,10 +62,9 @@ pub trait Discipline<S>: Drop {
         ensures once { IsOnce (way.whole (order self.now)) };
 
     /// Adds copies of the entries with their weights, the newest first.
-    fn copy_into(&self, list: &mut Vec<(CacheEntryKey, usize)>) -> Result<()>
+    fn copy_into(&self, list: &mut Vec<(CacheEntryKey, usize)>) -> Result<(), AllocError>
         ensures ok { OnOk result
-            (list.new.items ≡ list.old.items ++ entries_in way (order self.now)) }
-        ensures kind { IfErr result (λ e. e ≡ OutOfMemory) };
+            (list.new.items ≡ list.old.items ++ entries_in way (order self.now)) };
 
     /// Sets what is known of an entry in place.
     fn set(&mut self, item: &CacheEntryKey, seen: Seen)
@@ -91,10 +87,9 @@ pub trait Discipline<S>: Drop {
         ensures { result ≡ way.is_known item.now (order self.now) };
 
     /// Counts the entries that were chosen but did not go as others.
-    fn settle(&mut self) -> Result<()>
+    fn settle(&mut self) -> Result<(), AllocError>
         ensures order { order self.new ≡ order self.old }
-        ensures ok { OnOk result (leaving self.new ≡ []) }
-        ensures kind { IfErr result (λ e. e ≡ OutOfMemory) };
+        ensures ok { OnOk result (leaving self.new ≡ []) };
 
     /// Chooses entries to go until `count` more entries of this total weight fit or no entry is left,
     /// and makes a vector with room for the keys of all of them and of one more.
@@ -105,7 +100,7 @@ pub trait Discipline<S>: Drop {
         count: usize,
         limit: usize,
         watermark: Option<usize>,
-    ) -> Result<Vec<CacheEntryKey>>
+    ) -> Result<Vec<CacheEntryKey>, AllocError>
         requires { count < 2 ^ 63 }
         ensures room { IfOk result (λ out. way.MakesRoom (limits_of way.policy limit watermark)
             size count (order self.old) (going (leaving self.new)) (left self.new)) }
@@ -114,8 +109,7 @@ pub trait Discipline<S>: Drop {
         ensures heavy { IfOk result (λ out. weight (entries_in way (order self.old))
             ≡ weight (entries_in way (left self.new)) + weight (plain (leaving self.new))) }
         ensures same { map_of (entries_in way (order self.new))
-            ≡ map_of (entries_in way (order self.old)) }
-        ensures kind { IfErr result (λ e. e ≡ OutOfMemory) };
+            ≡ map_of (entries_in way (order self.old)) };
 
     /// Whether one more entry of this weight fits beside those that were not chosen.
     fn has_room(&self, size: usize, limit: usize, watermark: Option<usize>) -> bool
@@ -127,11 +121,10 @@ pub trait Discipline<S>: Drop {
             (entries_in way (left self.now)) };
 
     /// Adds a new entry, as one whose key was remembered or not.
-    fn enter(&mut self, item: CacheEntryKey, size: usize, known: bool) -> Result<()>
+    fn enter(&mut self, item: CacheEntryKey, size: usize, known: bool) -> Result<(), AllocError>
         requires { seen_of item (way.whole (order self.old)) ≡ None }
         ensures ok { OnOk result (left self.new ≡ way.entered known item size (left self.old)) }
         ensures leaving { OnOk result (leaving self.new ≡ leaving self.old) }
-        ensures kind { IfErr result (λ e. e ≡ OutOfMemory) }
         ensures err { OnErr result (map_of (entries_in way (order self.new))
             ≡ map_of (entries_in way (order self.old))) };
 

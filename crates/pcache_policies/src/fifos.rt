@@ -1,7 +1,6 @@
 //! A small and a main queue, and ghosts: how S3-FIFO goes.
-ghost use Rattle.std.specs.Prelude.{◌≡◌, ◌≢◌, ◌+◌, ◌≤◌, ◌<◌, ◌^◌, Some, None, ◌∷◌, [], true, false, length, OnOk, OnErr, IfOk, IfErr};
+ghost use Rattle.std.specs.Prelude.{◌≡◌, ◌≢◌, ◌+◌, ◌≤◌, ◌<◌, ◌^◌, Some, None, ◌∷◌, [], true, false, length, OnOk, OnErr, IfOk};
 ghost use Rattle.std.specs.Vec.{vec_capacity};
-ghost use Rattle.pcache_base.specs.declared.error.ErrorType.TheVariants.{OutOfMemory};
 ghost use Rattle.pcache_evict.specs.declared.eviction.policy.EvictionPolicy.TheVariants.{S3Fifo};
 ghost use Rattle.pcache_evict.specs.Tracked.{limits_of};
 ghost use Rattle.pcache_policies.specs.Queue.{IsOnce, seen_of};
@@ -13,9 +12,8 @@ use crate::discipline::Discipline;
 use crate::ghosts::Ghosts;
 use crate::queue::{MOST_USES, Seen};
 use crate::ring::Ring;
-use pcache_base::error::Result;
 use pcache_evict::eviction::CacheEntryKey;
-use std::alloc::Global;
+use std::alloc::{AllocError, Global};
 use std::hash::BuildHasher;
 use std::marker::Model;
 
@@ -66,7 +64,7 @@ impl<S: BuildHasher + Copy + Drop> Discipline<S> for Fifos<S> {
 
     fn laws() {}
 
-    fn new(alloc: Global, seed: S) -> Result<Self> {
+    fn new(alloc: Global, seed: S) -> Result<Self, AllocError> {
         Ok(Fifos {
             ring: Ring::new(alloc, seed)?,
             ghosts: Ghosts::new(alloc, seed)?,
@@ -85,7 +83,7 @@ impl<S: BuildHasher + Copy + Drop> Discipline<S> for Fifos<S> {
         self.ring.get(item)
     }
 
-    fn copy_into(&self, list: &mut Vec<(CacheEntryKey, usize)>) -> Result<()> {
+    fn copy_into(&self, list: &mut Vec<(CacheEntryKey, usize)>) -> Result<(), AllocError> {
         self.ring.copy_into(list)
     }
 
@@ -113,7 +111,7 @@ impl<S: BuildHasher + Copy + Drop> Discipline<S> for Fifos<S> {
         false
     }
 
-    fn settle(&mut self) -> Result<()> {
+    fn settle(&mut self) -> Result<(), AllocError> {
         self.ring.settle()
     }
 
@@ -124,7 +122,7 @@ impl<S: BuildHasher + Copy + Drop> Discipline<S> for Fifos<S> {
         count: usize,
         limit: usize,
         watermark: Option<usize>,
-    ) -> Result<Vec<CacheEntryKey>> {
+    ) -> Result<Vec<CacheEntryKey>, AllocError> {
         self.ring.len(); // for the prover: its contract says that no entry occurs twice
         self.ring.settle()?;
         self.make_room(size, count, limit, watermark)?;
@@ -135,7 +133,7 @@ impl<S: BuildHasher + Copy + Drop> Discipline<S> for Fifos<S> {
         self.ring.has_room(size, 1, limit, watermark)
     }
 
-    fn enter(&mut self, item: CacheEntryKey, size: usize, _known: bool) -> Result<()> {
+    fn enter(&mut self, item: CacheEntryKey, size: usize, _known: bool) -> Result<(), AllocError> {
         // After room was made, as in the paper.
         if self.ghosts.has(&item) {
             self.ghosts.forget(&item);
@@ -164,13 +162,12 @@ impl<S: BuildHasher + Copy + Drop> Fifos<S> {
         count: usize,
         limit: usize,
         watermark: Option<usize>,
-    ) -> Result<()>
+    ) -> Result<(), AllocError>
         requires none { self.old.ring.leaving ≡ [] }
         requires few { count < 2 ^ 63 }
         ensures ok { OnOk result
             (Chooses (limits_of S3Fifo limit watermark) size count self.old self.new) }
         ensures same { SameEntries self.old.ring self.new.ring }
-        ensures kind { IfErr result (λ e. e ≡ OutOfMemory) }
     {
         while !self.ring.has_room(size, count, limit, watermark) {
             if !self.step(limit)? {
@@ -181,9 +178,8 @@ impl<S: BuildHasher + Copy + Drop> Fifos<S> {
     }
 
     // Looks at one entry, and returns whether there was one.
-    fn step(&mut self, limit: usize) -> Result<bool>
+    fn step(&mut self, limit: usize) -> Result<bool, AllocError>
         ensures ok { IfOk result (λ more. Steps limit self.old more self.new) }
-        ensures kind { IfErr result (λ e. e ≡ OutOfMemory) }
         ensures err { OnErr result (self.new.ring ≡ self.old.ring) }
         ensures once { IsOnce (all self.old.ring) }
     {
@@ -214,10 +210,9 @@ impl<S: BuildHasher + Copy + Drop> Fifos<S> {
     }
 
     // The oldest entry of the small queue moves to the main one, or is chosen to go.
-    fn look_at_small(&mut self) -> Result<()>
+    fn look_at_small(&mut self) -> Result<(), AllocError>
         requires { self.old.ring.ahead ≢ [] }
         ensures ok { OnOk result (LooksAtSmall self.old self.new) }
-        ensures kind { IfErr result (λ e. e ≡ OutOfMemory) }
         ensures err { OnErr result (self.new.ring ≡ self.old.ring) }
     {
         let Some((key, seen)) = self.ring.oldest_ahead()? else {
@@ -234,9 +229,8 @@ impl<S: BuildHasher + Copy + Drop> Fifos<S> {
     }
 
     // The oldest entry of the main queue becomes its newest, or is chosen to go.
-    fn look_at_main(&mut self) -> Result<bool>
+    fn look_at_main(&mut self) -> Result<bool, AllocError>
         ensures ok { IfOk result (λ more. LooksAtMain self.old more self.new) }
-        ensures kind { IfErr result (λ e. e ≡ OutOfMemory) }
         ensures err { OnErr result (self.new.ring ≡ self.old.ring) }
     {
         let Some((key, seen)) = self.ring.oldest_passed()? else {

@@ -1,6 +1,5 @@
 //! The eviction manager of every policy here, over a queue that goes by the policy.
-ghost use Rattle.std.specs.Prelude.{◌≡◌, ◌-◌, ◌^◌, true, false, None, Some, is_some, length, OnOk, OnErr, IfOk, IfErr, IsOk, IsSome, min};
-ghost use Rattle.pcache_base.specs.declared.error.ErrorType.TheVariants.{OutOfMemory};
+ghost use Rattle.std.specs.Prelude.{◌≡◌, ◌-◌, ◌^◌, true, false, None, Some, is_some, length, OnOk, OnErr, IfOk, IsOk, IsSome, min};
 ghost use Rattle.pcache_evict.specs.Tracked.{raised};
 ghost use Rattle.pcache_evict.specs.Recency.{weight, IsWithinAsList};
 ghost use Rattle.pcache_policies.specs.Queue.{IsOnce, seen_of};
@@ -9,11 +8,10 @@ ghost use Rattle.pcache_policies.specs.Managed.{entries_in, accessed, empty_mana
 use crate::discipline::Discipline;
 use crate::evictions::{Evictions, let_go, raised_weight};
 use crate::queue::Seen;
-use pcache_base::error::Result;
 use pcache_base::moment::Moment;
 use pcache_base::seed::Seed;
 use pcache_evict::eviction::{CacheEntryKey, EvictionManager};
-use std::alloc::Global;
+use std::alloc::{AllocError, Global};
 use std::marker::{Model, PhantomData};
 
 /// Entries with weights in a queue, which goes by its policy, and limits on the sum of the weights and
@@ -49,9 +47,8 @@ impl<Q: Discipline<S>, S> Model for Manager<Q, S> {
 impl<Q: Discipline<S>, S> Manager<Q, S> {
     /// An empty manager whose entries weigh at most `limit` after each eviction. Its lists hash under the
     /// seed, on which no result depends.
-    pub fn new(alloc: Global, seed: S, limit: usize) -> Result<Manager<Q, S>>
+    pub fn new(alloc: Global, seed: S, limit: usize) -> Result<Manager<Q, S>, AllocError>
         ensures ok { IfOk result (λ m. m ≡ empty_manager Q.way limit None) }
-        ensures kind { IfErr result (λ e. e ≡ OutOfMemory) }
     {
         Manager::new_with_watermark(alloc, seed, limit, None)
     }
@@ -63,9 +60,8 @@ impl<Q: Discipline<S>, S> Manager<Q, S> {
         seed: S,
         limit: usize,
         items_watermark: Option<usize>,
-    ) -> Result<Manager<Q, S>>
+    ) -> Result<Manager<Q, S>, AllocError>
         ensures ok { IfOk result (λ m. m ≡ empty_manager Q.way limit items_watermark) }
-        ensures kind { IfErr result (λ e. e ≡ OutOfMemory) }
     {
         Ok(Manager {
             alloc,
@@ -108,10 +104,9 @@ impl<Q: Discipline<S>, S> Manager<Q, S> {
     }
 
     /// The entries with their weights, the newest first.
-    pub fn entries(&self) -> Result<Vec<(CacheEntryKey, usize)>>
+    pub fn entries(&self) -> Result<Vec<(CacheEntryKey, usize)>, AllocError>
         ensures ok { IfOk result (λ list. list.items ≡ entries_in Q.way self.now.order) }
         ensures once { IsOnce (Q.way.whole self.now.order) }
-        ensures kind { IfErr result (λ e. e ≡ OutOfMemory) }
     {
         let mut list = Vec::with_capacity(self.alloc, self.queue.len())?;
         self.queue.copy_into(&mut list)?;
@@ -133,11 +128,10 @@ impl<Q: Discipline<S>, S> Manager<Q, S> {
         item: CacheEntryKey,
         size: usize,
         _fresh_until: Moment,
-    ) -> Result<Vec<CacheEntryKey>>
+    ) -> Result<Vec<CacheEntryKey>, AllocError>
         ensures ok { IfOk result (λ out. Admission Q.way (seen_of item (Q.way.whole self.old.order))
             self.old item size self.new out.items) }
         ensures once { IsOnce (Q.way.whole self.old.order) }
-        ensures kind { IfErr result (λ e. e ≡ OutOfMemory) }
         ensures err { OnErr result (HasFailed Q.way self.old self.new) }
     {
         match self.queue.get(&item) {
@@ -155,7 +149,7 @@ impl<Q: Discipline<S>, S> Manager<Q, S> {
         item: &CacheEntryKey,
         delta: usize,
         max_weight: Option<usize>,
-    ) -> Result<Vec<CacheEntryKey>>
+    ) -> Result<Vec<CacheEntryKey>, AllocError>
         ensures ok { IfOk result (λ out.
             Increment Q.way (seen_of item.now (Q.way.whole self.old.order))
             self.old item.now delta max_weight self.new out.items) }
@@ -165,7 +159,6 @@ impl<Q: Discipline<S>, S> Manager<Q, S> {
             (record v { weight = raised delta max_weight (Some v.weight) }) self.old.order))
             → IsOk result }
         ensures once { IsOnce (Q.way.whole self.old.order) }
-        ensures kind { IfErr result (λ e. e ≡ OutOfMemory) }
         ensures err { OnErr result (HasFailed Q.way self.old self.new) }
     {
         match self.queue.get(item) {
@@ -195,7 +188,7 @@ impl<Q: Discipline<S>, S> Manager<Q, S> {
         item: &CacheEntryKey,
         size: usize,
         _fresh_until: Moment,
-    ) -> Result<bool>
+    ) -> Result<bool, AllocError>
         ensures was { IfOk result (λ was.
             was ≡ is_some (seen_of item.now (Q.way.whole self.old.order))) }
         ensures ok { OnOk result (self.new
@@ -205,7 +198,6 @@ impl<Q: Discipline<S>, S> Manager<Q, S> {
             }) }
         ensures there { IsSome (seen_of item.now (Q.way.whole self.old.order)) → IsOk result }
         ensures once { IsOnce (Q.way.whole self.old.order) }
-        ensures kind { IfErr result (λ e. e ≡ OutOfMemory) }
         ensures err { OnErr result (HasFailed Q.way self.old self.new) }
     {
         let Some(seen) = self.queue.get(item) else {
@@ -216,7 +208,7 @@ impl<Q: Discipline<S>, S> Manager<Q, S> {
     }
 
     // Adds a new entry.
-    fn add(&mut self, item: &CacheEntryKey, size: usize) -> Result<bool>
+    fn add(&mut self, item: &CacheEntryKey, size: usize) -> Result<bool, AllocError>
         requires { seen_of item.now (Q.way.whole self.old.order) ≡ None }
         ensures was { IfOk result (λ was. was ≡ false) }
         ensures ok { OnOk result (self.new
@@ -224,7 +216,6 @@ impl<Q: Discipline<S>, S> Manager<Q, S> {
               order = Q.way.entered (Q.way.is_known item.now self.old.order) item.now
                   size self.old.order;
             }) }
-        ensures kind { IfErr result (λ e. e ≡ OutOfMemory) }
         ensures err { OnErr result (HasFailed Q.way self.old self.new) }
     {
         let copy = item.copied()?;
@@ -236,10 +227,13 @@ impl<Q: Discipline<S>, S> Manager<Q, S> {
 
     // Makes room, and then adds a new entry; if there is no room although no entry is left, it goes
     // itself.
-    fn admit_new(&mut self, item: CacheEntryKey, size: usize) -> Result<Vec<CacheEntryKey>>
+    fn admit_new(
+        &mut self,
+        item: CacheEntryKey,
+        size: usize,
+    ) -> Result<Vec<CacheEntryKey>, AllocError>
         requires { seen_of item (Q.way.whole self.old.order) ≡ None }
         ensures ok { IfOk result (λ out. Admits Q.way self.old item size self.new out.items) }
-        ensures kind { IfErr result (λ e. e ≡ OutOfMemory) }
         ensures err { OnErr result (HasFailed Q.way self.old self.new) }
     {
         Q::laws(); // for the prover: the way is `Lawful`
@@ -264,11 +258,10 @@ impl<Q: Discipline<S>, S> Manager<Q, S> {
         item: &CacheEntryKey,
         before: Seen,
         size: usize,
-    ) -> Result<Vec<CacheEntryKey>>
+    ) -> Result<Vec<CacheEntryKey>, AllocError>
         requires { seen_of item.now (Q.way.whole self.old.order) ≡ Some before }
         ensures ok { IfOk result (λ out. KeepsLimits Q.way self.old
             (Q.way.readmitted item.now before size self.old.order) self.new out.items) }
-        ensures kind { IfErr result (λ e. e ≡ OutOfMemory) }
         ensures err { OnErr result (HasFailed Q.way self.old self.new) }
     {
         Q::laws(); // for the prover: the way is `Lawful`
@@ -283,14 +276,13 @@ impl<Q: Discipline<S>, S> Manager<Q, S> {
         item: &CacheEntryKey,
         before: Seen,
         after: Seen,
-    ) -> Result<Vec<CacheEntryKey>>
+    ) -> Result<Vec<CacheEntryKey>, AllocError>
         requires { seen_of item.now (Q.way.whole self.old.order) ≡ Some before }
         ensures ok { IfOk result (λ out. KeepsLimits Q.way self.old
             (Q.way.reseen_in item.now after self.old.order) self.new out.items) }
         ensures within { IsWithinAsList self.old.limits
             (entries_in Q.way (Q.way.reseen_in item.now after self.old.order))
             → IsOk result }
-        ensures kind { IfErr result (λ e. e ≡ OutOfMemory) }
         ensures err { OnErr result (HasFailed Q.way self.old self.new) }
     {
         Q::laws(); // for the prover: the way is `Lawful`
@@ -319,13 +311,12 @@ impl<Q: Discipline<S>, S> Manager<Q, S> {
         &mut self,
         item: &CacheEntryKey,
         before: Seen,
-    ) -> Result<Vec<CacheEntryKey>>
+    ) -> Result<Vec<CacheEntryKey>, AllocError>
         requires { IsSome (seen_of item.now (Q.way.whole self.old.order)) }
         ensures ok { IfOk result (λ out.
             KeepsLimits Q.way self.old self.old.order self.new out.items) }
         ensures within { IsWithinAsList self.old.limits (entries_in Q.way self.old.order)
             → IsOk result }
-        ensures kind { IfErr result (λ e. e ≡ OutOfMemory) }
         ensures err { OnErr result (HasFailedWith Q.way item.now before self.old self.new) }
     {
         Q::laws(); // for the prover: the way is `Lawful`
@@ -339,12 +330,11 @@ impl<Q: Discipline<S>, S> Manager<Q, S> {
     }
 
     // Lets entries go until the limits hold.
-    fn keep_limits(&mut self) -> Result<Vec<CacheEntryKey>>
+    fn keep_limits(&mut self) -> Result<Vec<CacheEntryKey>, AllocError>
         ensures ok { IfOk result (λ out.
             KeepsLimits Q.way self.old self.old.order self.new out.items) }
         ensures within { IsWithinAsList self.old.limits (entries_in Q.way self.old.order)
             → IsOk result }
-        ensures kind { IfErr result (λ e. e ≡ OutOfMemory) }
         ensures err { OnErr result (HasFailed Q.way self.old self.new) }
     {
         Q::laws(); // for the prover: the way is `Lawful`
@@ -400,7 +390,7 @@ impl<Q: Discipline<S>, S> EvictionManager for Manager<Q, S> {
         Manager::evicted_items(self)
     }
 
-    fn entries(&self) -> Result<Vec<(CacheEntryKey, usize)>> {
+    fn entries(&self) -> Result<Vec<(CacheEntryKey, usize)>, AllocError> {
         let all = Manager::entries(self)?;
         Ok(all)
     }
@@ -411,7 +401,7 @@ impl<Q: Discipline<S>, S> EvictionManager for Manager<Q, S> {
         item: CacheEntryKey,
         size: usize,
         fresh_until: Moment,
-    ) -> Result<Vec<CacheEntryKey>> {
+    ) -> Result<Vec<CacheEntryKey>, AllocError> {
         Q::laws(); // for the prover: the way is `Lawful`
         let out = Manager::admit(self, item, size, fresh_until)?;
         Ok(out)
@@ -423,7 +413,7 @@ impl<Q: Discipline<S>, S> EvictionManager for Manager<Q, S> {
         item: &CacheEntryKey,
         delta: usize,
         max_weight: Option<usize>,
-    ) -> Result<Vec<CacheEntryKey>> {
+    ) -> Result<Vec<CacheEntryKey>, AllocError> {
         Q::laws(); // for the prover: the way is `Lawful`
         let out = Manager::increment_weight(self, item, delta, max_weight)?;
         Ok(out)
@@ -436,7 +426,12 @@ impl<Q: Discipline<S>, S> EvictionManager for Manager<Q, S> {
     }
 
     #[tactic(auto, using(crate::proofs::Rules::same_rules))]
-    fn access(&mut self, item: &CacheEntryKey, size: usize, fresh_until: Moment) -> Result<bool> {
+    fn access(
+        &mut self,
+        item: &CacheEntryKey,
+        size: usize,
+        fresh_until: Moment,
+    ) -> Result<bool, AllocError> {
         Q::laws(); // for the prover: the way is `Lawful`
         let was = Manager::access(self, item, size, fresh_until)?;
         Ok(was)

@@ -6,10 +6,9 @@ use crate::discipline::Discipline;
 use crate::manager;
 use crate::queue::{Queue, Seen};
 use crate::ring::Ring;
-use pcache_base::error::Result;
 use pcache_base::seed::Seed;
 use pcache_evict::eviction::CacheEntryKey;
-use std::alloc::Global;
+use std::alloc::{AllocError, Global};
 use std::hash::BuildHasher;
 use std::marker::PhantomData;
 
@@ -62,7 +61,7 @@ impl<U: Uses, S: BuildHasher + Copy + Drop> Discipline<S> for Turns<U, S> {
 
     fn laws() {}
 
-    fn new(alloc: Global, seed: S) -> Result<Self> {
+    fn new(alloc: Global, seed: S) -> Result<Self, AllocError> {
         Ok(Turns {
             ring: Ring::new(alloc, seed)?,
             uses: PhantomData,
@@ -81,7 +80,7 @@ impl<U: Uses, S: BuildHasher + Copy + Drop> Discipline<S> for Turns<U, S> {
         self.ring.get(item)
     }
 
-    fn copy_into(&self, list: &mut Vec<(CacheEntryKey, usize)>) -> Result<()> {
+    fn copy_into(&self, list: &mut Vec<(CacheEntryKey, usize)>) -> Result<(), AllocError> {
         self.ring.copy_in_turn(list)
     }
 
@@ -106,7 +105,7 @@ impl<U: Uses, S: BuildHasher + Copy + Drop> Discipline<S> for Turns<U, S> {
         false
     }
 
-    fn settle(&mut self) -> Result<()> {
+    fn settle(&mut self) -> Result<(), AllocError> {
         self.ring.settle()
     }
 
@@ -117,7 +116,7 @@ impl<U: Uses, S: BuildHasher + Copy + Drop> Discipline<S> for Turns<U, S> {
         count: usize,
         limit: usize,
         watermark: Option<usize>,
-    ) -> Result<Vec<CacheEntryKey>> {
+    ) -> Result<Vec<CacheEntryKey>, AllocError> {
         self.ring.len(); // for the prover: its contract says that no entry occurs twice
         let out = self.ring.prepare(alloc, size, count, limit, watermark);
         self.ring.leaving_len(); // for the prover: as above
@@ -128,7 +127,7 @@ impl<U: Uses, S: BuildHasher + Copy + Drop> Discipline<S> for Turns<U, S> {
         self.ring.has_room(size, 1, limit, watermark)
     }
 
-    fn enter(&mut self, item: CacheEntryKey, size: usize, _known: bool) -> Result<()> {
+    fn enter(&mut self, item: CacheEntryKey, size: usize, _known: bool) -> Result<(), AllocError> {
         Ok(self.ring.add_passed(item, size)?)
     }
 

@@ -2,10 +2,10 @@
 
 use crate::discipline::Discipline;
 use crate::manager::Manager;
-use pcache_base::error::Result;
 use pcache_base::moment::Moment;
 use pcache_evict::eviction::CacheEntryKey;
 use pcache_evict::eviction::ordered::OrderedManager;
+use std::alloc::AllocError;
 
 impl<Q: Discipline<S>, S> OrderedManager for Manager<Q, S> {
     ghost use Rattle.std.specs.Prelude.{refl};
@@ -24,7 +24,7 @@ impl<Q: Discipline<S>, S> OrderedManager for Manager<Q, S> {
         item: CacheEntryKey,
         size: usize,
         fresh_until: Moment,
-    ) -> Result<Vec<CacheEntryKey>> {
+    ) -> Result<Vec<CacheEntryKey>, AllocError> {
         Q::laws(); // for the prover: the way is `Lawful`
         let out = Manager::admit(self, item, size, fresh_until)?;
         Ok(out)
@@ -35,7 +35,7 @@ impl<Q: Discipline<S>, S> OrderedManager for Manager<Q, S> {
         item: &CacheEntryKey,
         delta: usize,
         max_weight: Option<usize>,
-    ) -> Result<Vec<CacheEntryKey>> {
+    ) -> Result<Vec<CacheEntryKey>, AllocError> {
         Q::laws(); // for the prover: the way is `Lawful`
         let out = Manager::increment_weight(self, item, delta, max_weight)?;
         Ok(out)
@@ -51,7 +51,7 @@ impl<Q: Discipline<S>, S> OrderedManager for Manager<Q, S> {
         item: &CacheEntryKey,
         size: usize,
         fresh_until: Moment,
-    ) -> Result<bool> {
+    ) -> Result<bool, AllocError> {
         Q::laws(); // for the prover: the way is `Lawful`
         let was = Manager::access(self, item, size, fresh_until)?;
         Ok(was)

@@ -1,14 +1,12 @@
 //! Entries in the order in which they came in.
-ghost use Rattle.std.specs.Prelude.{◌≡◌, ◌↔◌, IsTrue, ◌∷◌, ◌++◌, ◌*◌, ◌≤◌, ◌<◌, ◌^◌, ◌-◌, [], true, false, None, Some, is_some, length, take, IsSome, OnOk, OnErr, IfOk, IfErr, IfSome, IfNone};
+ghost use Rattle.std.specs.Prelude.{◌≡◌, ◌↔◌, IsTrue, ◌∷◌, ◌++◌, ◌*◌, ◌≤◌, ◌<◌, ◌^◌, ◌-◌, [], true, false, None, Some, is_some, length, take, IsSome, OnOk, OnErr, IfOk, IfSome, IfNone};
 ghost use Rattle.std.specs.Map.{set_value};
-ghost use Rattle.pcache_base.specs.declared.error.ErrorType.TheVariants.{OutOfMemory};
 ghost use Rattle.lru.specs.LruCache.{last_entry, lru_cache};
 ghost use Rattle.pcache_evict.specs.Entry.{entry_eq};
 ghost use Rattle.pcache_evict.specs.Recency.{weight};
 ghost use Rattle.pcache_policies.specs.Queue.{Queue, IsOnce, plain, seen_of, rest_of, reseen, unused, used, reused};
 
 use lru::LruCache;
-use pcache_base::error::Result;
 use pcache_evict::eviction::CacheEntryKey;
 use std::alloc::{AllocError, Global};
 use std::hash::BuildHasher;
@@ -146,9 +144,8 @@ impl<S: BuildHasher + Copy + Drop> Queue<S> {
     }
 
     /// A copy of the oldest entry.
-    pub(crate) fn oldest(&self) -> Result<Option<(CacheEntryKey, Seen)>>
+    pub(crate) fn oldest(&self) -> Result<Option<(CacheEntryKey, Seen)>, AllocError>
         ensures ok { IfOk result (λ entry. entry ≡ last_entry self.now) }
-        ensures kind { IfErr result (λ e. e ≡ OutOfMemory) }
     {
         match self.cache.peek_lru() {
             Some((key, seen)) => Ok(Some((key.copied()?, *seen))),
@@ -218,9 +215,8 @@ impl<S: BuildHasher + Copy + Drop> Queue<S> {
     }
 
     /// Adds copies of the entries with their weights, the newest first.
-    pub(crate) fn copy_into(&self, all: &mut Vec<(CacheEntryKey, usize)>) -> Result<()>
+    pub(crate) fn copy_into(&self, all: &mut Vec<(CacheEntryKey, usize)>) -> Result<(), AllocError>
         ensures ok { OnOk result (all.new.items ≡ all.old.items ++ plain self.now) }
-        ensures kind { IfErr result (λ e. e ≡ OutOfMemory) }
     {
         for (key, seen) in self.cache.iter() {
             push_copy(all, key, seen.weight)?;
@@ -230,9 +226,12 @@ impl<S: BuildHasher + Copy + Drop> Queue<S> {
 }
 
 /// Adds a copy of an entry.
-fn push_copy(all: &mut Vec<(CacheEntryKey, usize)>, key: &CacheEntryKey, size: usize) -> Result<()>
+fn push_copy(
+    all: &mut Vec<(CacheEntryKey, usize)>,
+    key: &CacheEntryKey,
+    size: usize,
+) -> Result<(), AllocError>
     ensures ok { OnOk result (all.new.items ≡ all.old.items ++ (key.now, size) ∷ []) }
-    ensures kind { IfErr result (λ e. e ≡ OutOfMemory) }
 {
     all.push((key.copied()?, size))?;
     Ok(())

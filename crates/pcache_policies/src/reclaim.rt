@@ -1,7 +1,6 @@
 //! The two queues of 2Q with ghosts: how 2Q goes.
-ghost use Rattle.std.specs.Prelude.{◌≡◌, ◌≢◌, ◌+◌, ◌≤◌, ◌<◌, ◌^◌, None, [], true, false, length, OnOk, OnErr, IfOk, IfErr};
+ghost use Rattle.std.specs.Prelude.{◌≡◌, ◌≢◌, ◌+◌, ◌≤◌, ◌<◌, ◌^◌, None, [], true, false, length, OnOk, OnErr, IfOk};
 ghost use Rattle.std.specs.Vec.{vec_capacity};
-ghost use Rattle.pcache_base.specs.declared.error.ErrorType.TheVariants.{OutOfMemory};
 ghost use Rattle.pcache_evict.specs.declared.eviction.policy.EvictionPolicy.TheVariants.{TwoQueues};
 ghost use Rattle.pcache_evict.specs.Tracked.{limits_of};
 ghost use Rattle.pcache_policies.specs.Queue.{IsOnce, seen_of};
@@ -14,9 +13,8 @@ use crate::discipline::Discipline;
 use crate::ghosts::Ghosts;
 use crate::queue::Seen;
 use crate::ring::Ring;
-use pcache_base::error::Result;
 use pcache_evict::eviction::CacheEntryKey;
-use std::alloc::Global;
+use std::alloc::{AllocError, Global};
 use std::hash::BuildHasher;
 use std::marker::Model;
 
@@ -66,7 +64,7 @@ impl<S: BuildHasher + Copy + Drop> Discipline<S> for Queues<S> {
 
     fn laws() {}
 
-    fn new(alloc: Global, seed: S) -> Result<Self> {
+    fn new(alloc: Global, seed: S) -> Result<Self, AllocError> {
         Ok(Queues {
             ring: Ring::new(alloc, seed)?,
             ghosts: Ghosts::new(alloc, seed)?,
@@ -85,7 +83,7 @@ impl<S: BuildHasher + Copy + Drop> Discipline<S> for Queues<S> {
         self.ring.get(item)
     }
 
-    fn copy_into(&self, list: &mut Vec<(CacheEntryKey, usize)>) -> Result<()> {
+    fn copy_into(&self, list: &mut Vec<(CacheEntryKey, usize)>) -> Result<(), AllocError> {
         self.ring.copy_into(list)
     }
 
@@ -110,7 +108,7 @@ impl<S: BuildHasher + Copy + Drop> Discipline<S> for Queues<S> {
         self.ghosts.has(item)
     }
 
-    fn settle(&mut self) -> Result<()> {
+    fn settle(&mut self) -> Result<(), AllocError> {
         self.ring.settle()
     }
 
@@ -121,7 +119,7 @@ impl<S: BuildHasher + Copy + Drop> Discipline<S> for Queues<S> {
         count: usize,
         limit: usize,
         watermark: Option<usize>,
-    ) -> Result<Vec<CacheEntryKey>> {
+    ) -> Result<Vec<CacheEntryKey>, AllocError> {
         self.ring.len(); // for the prover: its contract says that no entry occurs twice
         self.ring.settle()?;
         self.make_room(size, count, limit, watermark)?;
@@ -132,7 +130,7 @@ impl<S: BuildHasher + Copy + Drop> Discipline<S> for Queues<S> {
         self.ring.has_room(size, 1, limit, watermark)
     }
 
-    fn enter(&mut self, item: CacheEntryKey, size: usize, known: bool) -> Result<()> {
+    fn enter(&mut self, item: CacheEntryKey, size: usize, known: bool) -> Result<(), AllocError> {
         if known {
             self.ghosts.forget(&item);
             self.ring.add_ahead(item, size)?;
@@ -173,13 +171,12 @@ impl<S: BuildHasher + Copy + Drop> Queues<S> {
         count: usize,
         limit: usize,
         watermark: Option<usize>,
-    ) -> Result<()>
+    ) -> Result<(), AllocError>
         requires none { self.old.ring.leaving ≡ [] }
         requires few { count < 2 ^ 63 }
         ensures ok { OnOk result
             (Chooses (limits_of TwoQueues limit watermark) size count self.old self.new) }
         ensures same { SameEntries self.old.ring self.new.ring }
-        ensures kind { IfErr result (λ e. e ≡ OutOfMemory) }
     {
         while !self.ring.has_room(size, count, limit, watermark) {
             if !self.step(limit)? {
@@ -190,9 +187,8 @@ impl<S: BuildHasher + Copy + Drop> Queues<S> {
     }
 
     // Chooses one entry, and returns whether there was one.
-    fn step(&mut self, limit: usize) -> Result<bool>
+    fn step(&mut self, limit: usize) -> Result<bool, AllocError>
         ensures ok { IfOk result (λ more. Steps limit self.old more self.new) }
-        ensures kind { IfErr result (λ e. e ≡ OutOfMemory) }
         ensures err { OnErr result (self.new.ring ≡ self.old.ring) }
         ensures once { IsOnce (all self.old.ring) }
     {
@@ -223,10 +219,9 @@ impl<S: BuildHasher + Copy + Drop> Queues<S> {
     }
 
     // The oldest new entry is chosen to go, and leaves its ghost.
-    fn choose_incoming(&mut self) -> Result<()>
+    fn choose_incoming(&mut self) -> Result<(), AllocError>
         requires { self.old.ring.passed ≢ [] }
         ensures ok { OnOk result (Leaves self.old self.new) }
-        ensures kind { IfErr result (λ e. e ≡ OutOfMemory) }
         ensures err { OnErr result (self.new.ring ≡ self.old.ring) }
     {
         let Some((key, seen)) = self.ring.oldest_passed()? else {
@@ -239,11 +234,10 @@ impl<S: BuildHasher + Copy + Drop> Queues<S> {
     }
 
     // The oldest entry of the main queue is chosen to go, if there is one.
-    fn choose_main(&mut self, limit: usize) -> Result<bool>
+    fn choose_main(&mut self, limit: usize) -> Result<bool, AllocError>
         requires next { IsMainNext limit (left_of self.old) }
         requires none { self.old.ring.ahead ≡ [] → self.old.ring.passed ≡ [] }
         ensures ok { IfOk result (λ more. Steps limit self.old more self.new) }
-        ensures kind { IfErr result (λ e. e ≡ OutOfMemory) }
         ensures err { OnErr result (self.new.ring ≡ self.old.ring) }
     {
         let Some((key, seen)) = self.ring.oldest_ahead()? else {

@@ -1,7 +1,6 @@
 //! A list of entries with a hand, in three queues.
-ghost use Rattle.std.specs.Prelude.{◌≡◌, ◌≢◌, ◌↔◌, IsTrue, Some, ◌∷◌, ◌++◌, ◌+◌, ◌≤◌, ◌<◌, ◌^◌, ◌-◌, [], true, false, None, is_some, length, IsSome, OnOk, OnErr, IfOk, IfErr, IfSome, IfNone};
+ghost use Rattle.std.specs.Prelude.{◌≡◌, ◌≢◌, ◌↔◌, IsTrue, Some, ◌∷◌, ◌++◌, ◌+◌, ◌≤◌, ◌<◌, ◌^◌, ◌-◌, [], true, false, None, is_some, length, IsSome, OnOk, OnErr, IfOk, IfSome, IfNone};
 ghost use Rattle.std.specs.Vec.{vec_capacity};
-ghost use Rattle.pcache_base.specs.declared.error.ErrorType.TheVariants.{OutOfMemory};
 ghost use Rattle.lru.specs.LruCache.{last_entry};
 ghost use Rattle.pcache_evict.specs.declared.eviction.entry_key.CacheEntryKey.{CacheEntryKey};
 ghost use Rattle.pcache_evict.specs.declared.eviction.policy.EvictionPolicy.{EvictionPolicy};
@@ -14,7 +13,6 @@ ghost use Rattle.pcache_policies.specs.Sieve.{entered, entries, turned, MakesRoo
 ghost use Rattle.pcache_policies.specs.Ring.{Ring, ring, all, shown, in_turn, left_of, Steps, Chooses, SameEntries, chosen};
 
 use crate::queue::{Queue, Seen};
-use pcache_base::error::Result;
 use pcache_evict::eviction::CacheEntryKey;
 use std::alloc::{AllocError, Global};
 use std::hash::BuildHasher;
@@ -160,10 +158,9 @@ impl<S: BuildHasher + Copy + Drop> Ring<S> {
     }
 
     /// Counts the entries that were chosen but did not go as passed.
-    pub(crate) fn settle(&mut self) -> Result<()>
+    pub(crate) fn settle(&mut self) -> Result<(), AllocError>
         ensures shown { shown self.new ≡ shown self.old }
         ensures ok { OnOk result (self.new.leaving ≡ []) }
-        ensures kind { IfErr result (λ e. e ≡ OutOfMemory) }
     {
         // Here and not where the call failed, since a push may want memory.
         while self.settle_one()? {}
@@ -171,12 +168,11 @@ impl<S: BuildHasher + Copy + Drop> Ring<S> {
     }
 
     // One entry that was chosen counts as passed, if there is one.
-    fn settle_one(&mut self) -> Result<bool>
+    fn settle_one(&mut self) -> Result<bool, AllocError>
         ensures shown { shown self.new ≡ shown self.old }
         ensures more { IfOk result (λ more.
             more ≡ true → length self.new.leaving < length self.old.leaving) }
         ensures none { IfOk result (λ more. more ≡ false → self.new.leaving ≡ []) }
-        ensures kind { IfErr result (λ e. e ≡ OutOfMemory) }
     {
         let Some((key, seen)) = self.leaving.oldest()? else {
             return Ok(false);
@@ -194,14 +190,13 @@ impl<S: BuildHasher + Copy + Drop> Ring<S> {
         count: usize,
         limit: usize,
         watermark: Option<usize>,
-    ) -> Result<()>
+    ) -> Result<(), AllocError>
         requires none { self.old.leaving ≡ [] }
         requires few { count < 2 ^ 63 }
         ensures ok { (policy : EvictionPolicy)
             → OnOk result (Chooses (limits_of policy limit watermark) size count self.old
             self.new) }
         ensures same { SameEntries self.old self.new }
-        ensures kind { IfErr result (λ e. e ≡ OutOfMemory) }
     {
         while !self.has_room(size, count, limit, watermark) {
             if !self.step()? {
@@ -220,7 +215,7 @@ impl<S: BuildHasher + Copy + Drop> Ring<S> {
         count: usize,
         limit: usize,
         watermark: Option<usize>,
-    ) -> Result<Vec<CacheEntryKey>>
+    ) -> Result<Vec<CacheEntryKey>, AllocError>
         requires { count < 2 ^ 63 }
         ensures room { (policy : EvictionPolicy) → IfOk result (λ out.
             MakesRoom (limits_of policy limit watermark) size count
@@ -229,7 +224,6 @@ impl<S: BuildHasher + Copy + Drop> Ring<S> {
             (out.items ≡ []) × (length self.new.leaving + 1 ≤ vec_capacity out)) }
         ensures same { SameEntries self.old self.new }
         ensures once { IfOk result (λ out. IsOnce (all self.new)) }
-        ensures kind { IfErr result (λ e. e ≡ OutOfMemory) }
     {
         self.settle()?;
         self.make_room(size, count, limit, watermark)?;
@@ -238,9 +232,8 @@ impl<S: BuildHasher + Copy + Drop> Ring<S> {
 
     // The hand looks at one entry, or turns from the newest to the oldest. Returns whether there was
     // one.
-    fn step(&mut self) -> Result<bool>
+    fn step(&mut self) -> Result<bool, AllocError>
         ensures ok { IfOk result (λ more. Steps self.old more self.new) }
-        ensures kind { IfErr result (λ e. e ≡ OutOfMemory) }
         ensures err { OnErr result (self.new ≡ self.old) }
         ensures once { IsOnce (all self.old) }
     {
@@ -328,17 +321,15 @@ impl<S: BuildHasher + Copy + Drop> Ring<S> {
     }
 
     /// A copy of the oldest entry ahead.
-    pub(crate) fn oldest_ahead(&self) -> Result<Option<(CacheEntryKey, Seen)>>
+    pub(crate) fn oldest_ahead(&self) -> Result<Option<(CacheEntryKey, Seen)>, AllocError>
         ensures ok { IfOk result (λ entry. entry ≡ last_entry self.now.ahead) }
-        ensures kind { IfErr result (λ e. e ≡ OutOfMemory) }
     {
         self.ahead.oldest()
     }
 
     /// A copy of the oldest entry that was passed.
-    pub(crate) fn oldest_passed(&self) -> Result<Option<(CacheEntryKey, Seen)>>
+    pub(crate) fn oldest_passed(&self) -> Result<Option<(CacheEntryKey, Seen)>, AllocError>
         ensures ok { IfOk result (λ entry. entry ≡ last_entry self.now.passed) }
-        ensures kind { IfErr result (λ e. e ≡ OutOfMemory) }
     {
         self.passed.oldest()
     }
@@ -482,10 +473,12 @@ impl<S: BuildHasher + Copy + Drop> Ring<S> {
     }
 
     /// Adds copies of the entries with their weights, those first that were passed.
-    pub(crate) fn copy_in_turn(&self, list: &mut Vec<(CacheEntryKey, usize)>) -> Result<()>
+    pub(crate) fn copy_in_turn(
+        &self,
+        list: &mut Vec<(CacheEntryKey, usize)>,
+    ) -> Result<(), AllocError>
         ensures ok { OnOk result
             (list.new.items ≡ list.old.items ++ plain (in_turn (shown self.now))) }
-        ensures kind { IfErr result (λ e. e ≡ OutOfMemory) }
     {
         self.leaving.copy_into(list)?;
         self.passed.copy_into(list)?;
@@ -493,9 +486,8 @@ impl<S: BuildHasher + Copy + Drop> Ring<S> {
     }
 
     /// Adds copies of the entries with their weights, the newest first.
-    pub(crate) fn copy_into(&self, list: &mut Vec<(CacheEntryKey, usize)>) -> Result<()>
+    pub(crate) fn copy_into(&self, list: &mut Vec<(CacheEntryKey, usize)>) -> Result<(), AllocError>
         ensures ok { OnOk result (list.new.items ≡ list.old.items ++ plain (all self.now)) }
-        ensures kind { IfErr result (λ e. e ≡ OutOfMemory) }
     {
         self.ahead.copy_into(list)?;
         self.leaving.copy_into(list)?;

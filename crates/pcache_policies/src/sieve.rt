@@ -5,10 +5,9 @@ use crate::discipline::Discipline;
 use crate::manager;
 use crate::queue::Seen;
 use crate::ring::Ring;
-use pcache_base::error::Result;
 use pcache_base::seed::Seed;
 use pcache_evict::eviction::CacheEntryKey;
-use std::alloc::Global;
+use std::alloc::{AllocError, Global};
 use std::hash::BuildHasher;
 use std::marker::Model;
 
@@ -55,7 +54,7 @@ impl<S: BuildHasher + Copy + Drop> Discipline<S> for Hand<S> {
 
     fn laws() {}
 
-    fn new(alloc: Global, seed: S) -> Result<Self> {
+    fn new(alloc: Global, seed: S) -> Result<Self, AllocError> {
         Ok(Hand {
             ring: Ring::new(alloc, seed)?,
         })
@@ -73,7 +72,7 @@ impl<S: BuildHasher + Copy + Drop> Discipline<S> for Hand<S> {
         self.ring.get(item)
     }
 
-    fn copy_into(&self, list: &mut Vec<(CacheEntryKey, usize)>) -> Result<()> {
+    fn copy_into(&self, list: &mut Vec<(CacheEntryKey, usize)>) -> Result<(), AllocError> {
         self.ring.copy_into(list)
     }
 
@@ -99,7 +98,7 @@ impl<S: BuildHasher + Copy + Drop> Discipline<S> for Hand<S> {
         false
     }
 
-    fn settle(&mut self) -> Result<()> {
+    fn settle(&mut self) -> Result<(), AllocError> {
         self.ring.settle()
     }
 
@@ -110,7 +109,7 @@ impl<S: BuildHasher + Copy + Drop> Discipline<S> for Hand<S> {
         count: usize,
         limit: usize,
         watermark: Option<usize>,
-    ) -> Result<Vec<CacheEntryKey>> {
+    ) -> Result<Vec<CacheEntryKey>, AllocError> {
         self.ring.len(); // for the prover: its contract says that no entry occurs twice
         let out = self.ring.prepare(alloc, size, count, limit, watermark)?;
         Ok(out)
@@ -120,7 +119,7 @@ impl<S: BuildHasher + Copy + Drop> Discipline<S> for Hand<S> {
         self.ring.has_room(size, 1, limit, watermark)
     }
 
-    fn enter(&mut self, item: CacheEntryKey, size: usize, _known: bool) -> Result<()> {
+    fn enter(&mut self, item: CacheEntryKey, size: usize, _known: bool) -> Result<(), AllocError> {
         Ok(self.ring.enter(item, size)?)
     }
 

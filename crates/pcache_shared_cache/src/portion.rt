@@ -2,9 +2,9 @@
 ghost use Rattle.std.specs.Prelude.{◌≡◌, ◌↔◌, IsTrue};
 ghost use Rattle.pcache_evict.specs.Tracked.{limits_of};
 
-use pcache_base::error::Result;
 use pcache_base::moment::Moment;
 use pcache_evict::eviction::{CacheEntryKey, EvictionManager, EvictionPolicy};
+use std::alloc::AllocError;
 use std::marker::Model;
 
 /// An eviction manager, together with its limits as numbers and the name of its policy, for which a
@@ -133,7 +133,7 @@ impl<M: EvictionManager> EvictionManager for Portion<M> {
         self.manager.evicted_items()
     }
 
-    fn entries(&self) -> Result<Vec<(CacheEntryKey, usize)>> {
+    fn entries(&self) -> Result<Vec<(CacheEntryKey, usize)>, AllocError> {
         self.manager.entries()
     }
 
@@ -142,7 +142,7 @@ impl<M: EvictionManager> EvictionManager for Portion<M> {
         item: CacheEntryKey,
         size: usize,
         fresh_until: Moment,
-    ) -> Result<Vec<CacheEntryKey>> {
+    ) -> Result<Vec<CacheEntryKey>, AllocError> {
         self.manager.admit(item, size, fresh_until)
     }
 
@@ -151,7 +151,7 @@ impl<M: EvictionManager> EvictionManager for Portion<M> {
         item: &CacheEntryKey,
         delta: usize,
         max_weight: Option<usize>,
-    ) -> Result<Vec<CacheEntryKey>> {
+    ) -> Result<Vec<CacheEntryKey>, AllocError> {
         self.manager.increment_weight(item, delta, max_weight)
     }
 
@@ -159,7 +159,12 @@ impl<M: EvictionManager> EvictionManager for Portion<M> {
         self.manager.remove(item);
     }
 
-    fn access(&mut self, item: &CacheEntryKey, size: usize, fresh_until: Moment) -> Result<bool> {
+    fn access(
+        &mut self,
+        item: &CacheEntryKey,
+        size: usize,
+        fresh_until: Moment,
+    ) -> Result<bool, AllocError> {
         self.manager.access(item, size, fresh_until)
     }
 

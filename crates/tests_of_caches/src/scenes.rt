@@ -6,12 +6,11 @@
 use crate::requests::{OfTest, list_of};
 use crate::room::Room;
 use crate::rows::play;
-use pcache_base::error::Result;
 use pcache_base::seed::Seed;
 use pcache_cache::{Cache, Weighing};
 use pcache_evict::eviction::{EvictionManager, sharded_lru, simple_lru};
 use pcache_policies::{s3_fifo, sieve};
-use std::alloc::Global;
+use std::alloc::{AllocError, Global};
 use std::process::Abort;
 use std::time::Duration;
 use test_rows::{Desk, Told, other_seed, size, some_size, word};
@@ -68,13 +67,13 @@ impl Desk for Scene {
 fn tell_over<M: EvictionManager>(
     alloc: Global,
     seed: Seed,
-    manager: Result<M>,
+    manager: Result<M, AllocError>,
     row: &'static str,
     told: &mut Told,
 ) {
     match manager {
         Ok(manager) => tell_in(cache_of(alloc, seed, manager, row), row, told),
-        Err(refused) => told.refused(&refused),
+        Err(refused) => told.refused(&refused.into()),
     }
 }
 

@@ -12,7 +12,7 @@ use pcache_lock::lock::CacheLock;
 use pcache_request::cache::*;
 use pcache_request::phase::*;
 use pcache_store::storage::{HandleHit, HandleMiss};
-use std::alloc::Global;
+use std::alloc::{AllocError, Global};
 use std::time::Duration;
 
 mod handed;
@@ -55,7 +55,7 @@ impl<M: EvictionManager> EvictionManager for Noting<M> {
         self.list.evicted_items()
     }
 
-    fn entries(&self) -> Result<Vec<(CacheEntryKey, usize)>> {
+    fn entries(&self) -> Result<Vec<(CacheEntryKey, usize)>, AllocError> {
         self.list.entries()
     }
 
@@ -64,7 +64,7 @@ impl<M: EvictionManager> EvictionManager for Noting<M> {
         item: CacheEntryKey,
         size: usize,
         fresh_until: Moment,
-    ) -> Result<Vec<CacheEntryKey>> {
+    ) -> Result<Vec<CacheEntryKey>, AllocError> {
         self.admitted = Some(fresh_until);
         self.list.admit(item, size, fresh_until)
     }
@@ -74,7 +74,7 @@ impl<M: EvictionManager> EvictionManager for Noting<M> {
         item: &CacheEntryKey,
         delta: usize,
         max_weight: Option<usize>,
-    ) -> Result<Vec<CacheEntryKey>> {
+    ) -> Result<Vec<CacheEntryKey>, AllocError> {
         self.list.increment_weight(item, delta, max_weight)
     }
 
@@ -82,7 +82,12 @@ impl<M: EvictionManager> EvictionManager for Noting<M> {
         self.list.remove(item);
     }
 
-    fn access(&mut self, item: &CacheEntryKey, size: usize, fresh_until: Moment) -> Result<bool> {
+    fn access(
+        &mut self,
+        item: &CacheEntryKey,
+        size: usize,
+        fresh_until: Moment,
+    ) -> Result<bool, AllocError> {
         self.accessed = Some(fresh_until);
         self.list.access(item, size, fresh_until)
     }

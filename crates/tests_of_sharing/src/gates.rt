@@ -12,7 +12,7 @@ use pcache_evict::eviction::simple_lru::Manager;
 use pcache_evict::eviction::{CacheEntryKey, EvictionManager, EvictionPolicy};
 use pcache_request::HitStatus;
 use pcache_shared_cache::{Portion, SharedCache};
-use std::alloc::Global;
+use std::alloc::{AllocError, Global};
 use std::sync::atomic::{AtomicU64, Ordering};
 use std::sync::{Arc, Wait};
 use std::test::Fail;
@@ -120,7 +120,7 @@ impl<M: EvictionManager> EvictionManager for Gated<M> {
         self.list.evicted_items()
     }
 
-    fn entries(&self) -> Result<Vec<(CacheEntryKey, usize)>> {
+    fn entries(&self) -> Result<Vec<(CacheEntryKey, usize)>, AllocError> {
         self.list.entries()
     }
 
@@ -129,7 +129,7 @@ impl<M: EvictionManager> EvictionManager for Gated<M> {
         item: CacheEntryKey,
         size: usize,
         fresh_until: Moment,
-    ) -> Result<Vec<CacheEntryKey>> {
+    ) -> Result<Vec<CacheEntryKey>, AllocError> {
         self.gate.pass();
         self.list.admit(item, size, fresh_until)
     }
@@ -139,7 +139,7 @@ impl<M: EvictionManager> EvictionManager for Gated<M> {
         item: &CacheEntryKey,
         delta: usize,
         max_weight: Option<usize>,
-    ) -> Result<Vec<CacheEntryKey>> {
+    ) -> Result<Vec<CacheEntryKey>, AllocError> {
         self.list.increment_weight(item, delta, max_weight)
     }
 
@@ -147,7 +147,12 @@ impl<M: EvictionManager> EvictionManager for Gated<M> {
         self.list.remove(item);
     }
 
-    fn access(&mut self, item: &CacheEntryKey, size: usize, fresh_until: Moment) -> Result<bool> {
+    fn access(
+        &mut self,
+        item: &CacheEntryKey,
+        size: usize,
+        fresh_until: Moment,
+    ) -> Result<bool, AllocError> {
         self.list.access(item, size, fresh_until)
     }
 

@@ -1,12 +1,11 @@
 //! What runs do not call of the managers.
-use pcache_base::error::Result;
 use pcache_base::key::CompactCacheKey;
 use pcache_base::moment::Moment;
 use pcache_base::seed::Seed;
 use pcache_base::text::Text;
 use pcache_evict::eviction::{CacheEntryKey, EvictionManager};
 use pcache_policies::{clock, fifo, s3_fifo, sieve, two_queues};
-use std::alloc::Global;
+use std::alloc::{AllocError, Global};
 
 const NEVER_READ: Moment = Moment::EPOCH;
 
@@ -19,7 +18,7 @@ fn entry(alloc: Global, name: u8) -> CacheEntryKey {
 }
 
 // Whether exactly this entry was evicted, or none.
-fn is_gone(gone: Result<Vec<CacheEntryKey>>, entry: Option<&CacheEntryKey>) -> bool {
+fn is_gone(gone: Result<Vec<CacheEntryKey>, AllocError>, entry: Option<&CacheEntryKey>) -> bool {
     match gone {
         Ok(gone) => gone.first() == entry && gone.len() < 2,
         Err(_refused) => false,
@@ -54,7 +53,7 @@ fn is_emptied<E: EvictionManager>(manager: &mut E, b: &CacheEntryKey) -> bool {
 }
 
 // Whether a manager with room for a weight of 4, and for two entries, does all that.
-fn is_one<E: EvictionManager>(alloc: Global, manager: Result<E>) -> bool {
+fn is_one<E: EvictionManager>(alloc: Global, manager: Result<E, AllocError>) -> bool {
     let (a, b) = (entry(alloc, b'a'), entry(alloc, b'b'));
     match manager {
         Ok(mut manager) => {

@@ -4,12 +4,11 @@
 //! A row tells which entries were evicted, `+` or `-` if an entry that was used or looked for was tracked or not, then the list, and
 //! then the totals.
 use crate::rows::{Told, size, some_number, some_size, word};
-use pcache_base::error::Result;
 use pcache_base::key::CompactCacheKey;
 use pcache_base::moment::Moment;
 use pcache_base::text::Text;
 use pcache_evict::eviction::{CacheEntryId, CacheEntryKey, EvictionManager};
-use std::alloc::Global;
+use std::alloc::{AllocError, Global};
 
 /// The end of freshness that managers do not read.
 pub const NEVER_READ: Moment = Moment::EPOCH;
@@ -92,21 +91,21 @@ fn take_of<E: EvictionManager>(
     }
 }
 
-fn tell_used(was_there: Result<bool>, told: &mut Told) {
+fn tell_used(was_there: Result<bool, AllocError>, told: &mut Told) {
     match was_there {
         Ok(was_there) => told.say(if was_there { "+" } else { "-" }),
-        Err(refused) => told.refused(&refused),
+        Err(refused) => told.refused(&refused.into()),
     }
 }
 
-fn tell_gone(gone: Result<Vec<CacheEntryKey>>, told: &mut Told) {
+fn tell_gone(gone: Result<Vec<CacheEntryKey>, AllocError>, told: &mut Told) {
     match gone {
         Ok(gone) => {
             for entry in gone.as_slice() {
                 tell_name(entry, told);
             }
         }
-        Err(refused) => told.refused(&refused),
+        Err(refused) => told.refused(&refused.into()),
     }
 }
 
@@ -124,7 +123,7 @@ pub fn tell_name(entry: &CacheEntryKey, told: &mut Told) {
     }
 }
 
-fn tell_list(entries: Result<Vec<(CacheEntryKey, usize)>>, told: &mut Told) {
+fn tell_list(entries: Result<Vec<(CacheEntryKey, usize)>, AllocError>, told: &mut Told) {
     match entries {
         Ok(entries) => {
             for (entry, weight) in entries.as_slice() {
@@ -133,7 +132,7 @@ fn tell_list(entries: Result<Vec<(CacheEntryKey, usize)>>, told: &mut Told) {
                 tell_weight(entry, *weight, told);
             }
         }
-        Err(refused) => told.refused(&refused),
+        Err(refused) => told.refused(&refused.into()),
     }
 }
 
@@ -158,13 +157,18 @@ fn tell_totals<E: EvictionManager>(manager: &E, told: &mut Told) {
 }
 
 /// Makes the calls of a row over a manager that was just made.
-pub fn take_over<E: Kept>(alloc: Global, made: Result<E>, row: &'static str, told: &mut Told) {
+pub fn take_over<E: Kept>(
+    alloc: Global,
+    made: Result<E, AllocError>,
+    row: &'static str,
+    told: &mut Told,
+) {
     match made {
         Ok(mut manager) => {
             let calls = row.split_once(": ").unwrap_or(("", row)).1;
             take_all(alloc, &mut manager, calls, told);
         }
-        Err(refused) => told.refused(&refused),
+        Err(refused) => told.refused(&refused.into()),
     }
 }
 

@@ -1,11 +1,10 @@
 //! The manager with one list.
 use crate::managers::{COUNTED, EVICTED, Kept, NEVER_READ, entry_named, key_of, take_over};
 use crate::rows::{Desk, Told, other_seed, play, size, some_size, word};
-use pcache_base::error::Result;
 use pcache_base::seed::Seed;
 use pcache_evict::eviction::simple_lru::Manager;
 use pcache_evict::eviction::{CacheEntryId, CacheEntryKey, EvictionManager};
-use std::alloc::Global;
+use std::alloc::{AllocError, Global};
 use std::process::Abort;
 
 impl Kept for Manager {
@@ -95,7 +94,7 @@ fn tags_of_one_key_are_told_apart(rt: HostRuntime) {
 type Boxed = Box<dyn EvictionManager + Send>;
 
 // Whether exactly this entry was evicted, or none.
-fn is_gone(gone: Result<Vec<CacheEntryKey>>, entry: Option<&CacheEntryKey>) -> bool {
+fn is_gone(gone: Result<Vec<CacheEntryKey>, AllocError>, entry: Option<&CacheEntryKey>) -> bool {
     match gone {
         Ok(gone) => gone.first() == entry && gone.len() < 2,
         Err(_refused) => false,

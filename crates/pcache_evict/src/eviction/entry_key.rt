@@ -1,14 +1,13 @@
 //! The keys of entries that eviction managers know.
-ghost use Rattle.std.specs.Prelude.{◌≡◌, ◌++◌, ℕ, IfOk, IfErr, None, Some, refl};
+ghost use Rattle.std.specs.Prelude.{◌≡◌, ◌++◌, ℕ, IfOk, None, Some, refl};
 ghost use Rattle.std.specs.List.{fold};
 ghost use Rattle.std.specs.Cmp.{partial_equiv_from_equiv};
 ghost use Rattle.pcache_base.specs.Key.{number_of};
-ghost use Rattle.pcache_base.specs.declared.error.ErrorType.TheVariants.{OutOfMemory};
 ghost use Rattle.pcache_evict.specs.Entry.{compact_writes, id_writes};
 
 use pcache_base::entry_id::CacheEntryId;
-use pcache_base::error::Result;
 use pcache_base::key::{CompactCacheKey, HashBinary};
+use std::alloc::AllocError;
 use std::cmp::Ordering;
 use std::fmt;
 use std::hash::{Hash, Hasher};
@@ -110,9 +109,8 @@ impl CacheEntryKey {
     }
 
     /// A copy of this key. Fails only when memory runs out.
-    pub fn copied(&self) -> Result<CacheEntryKey>
+    pub fn copied(&self) -> Result<CacheEntryKey, AllocError>
         ensures ok { IfOk result (λ copy. copy ≡ self.now) }
-        ensures kind { IfErr result (λ e. e ≡ OutOfMemory) }
     {
         match self {
             CacheEntryKey::KeyOnly(key) => Ok(CacheEntryKey::KeyOnly(key.copied()?)),
@@ -260,9 +258,8 @@ impl<'a> CacheEntryKeyRef<'a> {
     }
 
     /// An owned key of the same entry. Fails only when memory runs out.
-    pub fn copied(&self) -> Result<CacheEntryKey>
+    pub fn copied(&self) -> Result<CacheEntryKey, AllocError>
         ensures ok { IfOk result (λ copy. copy ≡ referred self.now) }
-        ensures kind { IfErr result (λ e. e ≡ OutOfMemory) }
     {
         match self {
             CacheEntryKeyRef::KeyOnly(key) => Ok(CacheEntryKey::KeyOnly(key.copied()?)),

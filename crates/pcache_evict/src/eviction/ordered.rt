@@ -1,14 +1,13 @@
 //! Managers whose order of entries is promised, and not only that evictions are fair.
-ghost use Rattle.std.specs.Prelude.{◌≡◌, IfOk, IfErr, IsOk, IsTrue, OnErr, OnOk};
+ghost use Rattle.std.specs.Prelude.{◌≡◌, IfOk, IsOk, IsTrue, OnErr, OnOk};
 ghost use Rattle.std.specs.FinMap as map;
-ghost use Rattle.pcache_base.specs.declared.error.ErrorType.TheVariants.{OutOfMemory};
 ghost use Rattle.pcache_evict.specs.Tracked.{IsFair, IsWithin, without, added, incremented, evicted_with};
 ghost use Rattle.pcache_evict.specs.Listed.{map_of};
 ghost use Rattle.pcache_evict.specs.Policy.{Policy};
 
 use super::{CacheEntryKey, EvictionManager, sharded_lru, simple_lru};
-use pcache_base::error::Result;
 use pcache_base::moment::Moment;
+use std::alloc::AllocError;
 use std::hash::BuildHasher;
 
 /// A manager that orders its entries by a policy.
@@ -32,7 +31,7 @@ pub trait OrderedManager: EvictionManager {
         item: CacheEntryKey,
         size: usize,
         fresh_until: Moment,
-    ) -> Result<Vec<CacheEntryKey>>
+    ) -> Result<Vec<CacheEntryKey>, AllocError>
         ensures order { IfOk result (λ out. policy.Admits (Self.limits self.old)
             (order self.old) item size (order self.new) out.items) }
         ensures limits { Self.limits self.new ≡ Self.limits self.old }
@@ -43,7 +42,6 @@ pub trait OrderedManager: EvictionManager {
         ensures evicted { IfOk result (λ out. Self.evicted self.new
             ≡ evicted_with (Self.evicted self.old)
             (map.insert (Self.tracked self.old) item size) out.items) }
-        ensures kind { IfErr result (λ e. e ≡ OutOfMemory) }
         ensures err { OnErr result (Self.tracked self.new ≡ Self.tracked self.old) }
         ensures err_evicted { OnErr result (Self.evicted self.new ≡ Self.evicted self.old) };
 
@@ -53,7 +51,7 @@ pub trait OrderedManager: EvictionManager {
         item: &CacheEntryKey,
         delta: usize,
         max_weight: Option<usize>,
-    ) -> Result<Vec<CacheEntryKey>>
+    ) -> Result<Vec<CacheEntryKey>, AllocError>
         ensures order { IfOk result (λ out. policy.Increments (Self.limits self.old)
             (order self.old) item.now delta max_weight (order self.new) out.items) }
         ensures limits { Self.limits self.new ≡ Self.limits self.old }
@@ -68,7 +66,6 @@ pub trait OrderedManager: EvictionManager {
             → IsWithin (Self.limits self.old)
             (incremented (Self.tracked self.old) item.now delta max_weight)
             → IsOk result }
-        ensures kind { IfErr result (λ e. e ≡ OutOfMemory) }
         ensures err { OnErr result (Self.tracked self.new ≡ Self.tracked self.old) }
         ensures err_evicted { OnErr result (Self.evicted self.new ≡ Self.evicted self.old) };
 
@@ -85,7 +82,7 @@ pub trait OrderedManager: EvictionManager {
         item: &CacheEntryKey,
         size: usize,
         fresh_until: Moment,
-    ) -> Result<bool>
+    ) -> Result<bool, AllocError>
         ensures order { OnOk result (policy.Accesses (order self.old) item.now size
             (order self.new)) }
         ensures limits { Self.limits self.new ≡ Self.limits self.old }
@@ -95,7 +92,6 @@ pub trait OrderedManager: EvictionManager {
             ≡ added (Self.tracked self.old) item.now size) }
         ensures there { IsTrue (map.contains_key (Self.tracked self.old) item.now) → IsOk result }
         ensures evicted { Self.evicted self.new ≡ Self.evicted self.old }
-        ensures kind { IfErr result (λ e. e ≡ OutOfMemory) }
         ensures err { OnErr result (Self.tracked self.new ≡ Self.tracked self.old) };
 
     /// The map has the entries of the order.
@@ -120,7 +116,7 @@ impl<S: BuildHasher + Copy + Drop> OrderedManager for simple_lru::Manager<S> {
         item: CacheEntryKey,
         size: usize,
         fresh_until: Moment,
-    ) -> Result<Vec<CacheEntryKey>> {
+    ) -> Result<Vec<CacheEntryKey>, AllocError> {
         let out = simple_lru::Manager::admit(self, item, size, fresh_until)?;
         Ok(out)
     }
@@ -130,7 +126,7 @@ impl<S: BuildHasher + Copy + Drop> OrderedManager for simple_lru::Manager<S> {
         item: &CacheEntryKey,
         delta: usize,
         max_weight: Option<usize>,
-    ) -> Result<Vec<CacheEntryKey>> {
+    ) -> Result<Vec<CacheEntryKey>, AllocError> {
         let out = simple_lru::Manager::increment_weight(self, item, delta, max_weight)?;
         Ok(out)
     }
@@ -144,7 +140,7 @@ impl<S: BuildHasher + Copy + Drop> OrderedManager for simple_lru::Manager<S> {
         item: &CacheEntryKey,
         size: usize,
         fresh_until: Moment,
-    ) -> Result<bool> {
+    ) -> Result<bool, AllocError> {
         let was = simple_lru::Manager::access(self, item, size, fresh_until)?;
         Ok(was)
     }
@@ -168,7 +164,7 @@ impl<const N: usize, S: BuildHasher + Copy + Drop> OrderedManager for sharded_lr
         item: CacheEntryKey,
         size: usize,
         fresh_until: Moment,
-    ) -> Result<Vec<CacheEntryKey>> {
+    ) -> Result<Vec<CacheEntryKey>, AllocError> {
         let out = sharded_lru::Manager::admit(self, item, size, fresh_until)?;
         Ok(out)
     }
@@ -178,7 +174,7 @@ impl<const N: usize, S: BuildHasher + Copy + Drop> OrderedManager for sharded_lr
         item: &CacheEntryKey,
         delta: usize,
         max_weight: Option<usize>,
-    ) -> Result<Vec<CacheEntryKey>> {
+    ) -> Result<Vec<CacheEntryKey>, AllocError> {
         let out = sharded_lru::Manager::increment_weight(self, item, delta, max_weight)?;
         Ok(out)
     }
@@ -192,7 +188,7 @@ impl<const N: usize, S: BuildHasher + Copy + Drop> OrderedManager for sharded_lr
         item: &CacheEntryKey,
         size: usize,
         fresh_until: Moment,
-    ) -> Result<bool> {
+    ) -> Result<bool, AllocError> {
         let was = sharded_lru::Manager::access(self, item, size, fresh_until)?;
         Ok(was)
     }

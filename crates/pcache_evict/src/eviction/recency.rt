@@ -1,7 +1,6 @@
 //! Entries with their weights in the order of their last use.
-ghost use Rattle.std.specs.Prelude.{◌≡◌, ◌∷◌, ◌++◌, ◌+◌, ◌-◌, ◌<◌, ◌≤◌, ◌^◌, [], true, false, None, is_some, length, OnOk, OnErr, IfOk, IfErr, IfSome, IfNone, IsSome, min, option_copied};
+ghost use Rattle.std.specs.Prelude.{◌≡◌, ◌∷◌, ◌++◌, ◌+◌, ◌-◌, ◌<◌, ◌≤◌, ◌^◌, [], true, false, None, is_some, length, OnOk, OnErr, IfOk, IfSome, IfNone, IsSome, min, option_copied};
 ghost use Rattle.std.specs.Vec.{vec_capacity};
-ghost use Rattle.pcache_base.specs.declared.error.ErrorType.TheVariants.{OutOfMemory};
 ghost use Rattle.lru.specs.LruCache.{lru_cache, put_entries};
 ghost use Rattle.pcache_evict.specs.declared.eviction.policy.EvictionPolicy.{EvictionPolicy};
 ghost use Rattle.pcache_evict.specs.declared.eviction.policy.EvictionPolicy.TheVariants.{Lru};
@@ -14,7 +13,6 @@ ghost use Rattle.pcache_evict.specs.Chain.{IsWithinTotals, Walks};
 
 use super::CacheEntryKey;
 use lru::{Iter, LruCache};
-use pcache_base::error::Result;
 use std::alloc::{AllocError, Global};
 use std::hash::BuildHasher;
 use std::marker::Model;
@@ -182,10 +180,9 @@ impl<S: BuildHasher + Copy + Drop> RecencyList<S> {
     }
 
     /// Adds a new entry at the back.
-    pub(super) fn push_last(&mut self, item: CacheEntryKey, size: usize) -> Result<()>
+    pub(super) fn push_last(&mut self, item: CacheEntryKey, size: usize) -> Result<(), AllocError>
         requires { weight_of item self.old ≡ None }
         ensures ok { OnOk result (self.new ≡ self.old ++ (item, size) ∷ []) }
-        ensures kind { IfErr result (λ e. e ≡ OutOfMemory) }
         ensures err { OnErr result (self.new ≡ self.old) }
     {
         let copy = item.copied()?;
@@ -197,22 +194,23 @@ impl<S: BuildHasher + Copy + Drop> RecencyList<S> {
 
     /// Adds an entry that was read from a file: a new one at the back; one that the list has moves
     /// to the front, with the new weight.
-    pub(super) fn load(&mut self, item: CacheEntryKey, size: usize) -> Result<()>
+    pub(super) fn load(&mut self, item: CacheEntryKey, size: usize) -> Result<(), AllocError>
         ensures ok { OnOk result (self.new ≡ loaded item size self.old) }
-        ensures kind { IfErr result (λ e. e ≡ OutOfMemory) }
         ensures err { OnErr result (self.new ≡ self.old) }
     {
         if self.weight_of(&item).is_some() {
-            return Ok(self.put(item, size)?);
+            return self.put(item, size);
         }
         self.push_last(item, size)
     }
 
     /// Adds entries that were read from a file, one after the other. A failed call leaves some of
     /// them added.
-    pub(super) fn load_all(&mut self, entries: Vec<(CacheEntryKey, usize)>) -> Result<()>
+    pub(super) fn load_all(
+        &mut self,
+        entries: Vec<(CacheEntryKey, usize)>,
+    ) -> Result<(), AllocError>
         ensures ok { OnOk result (self.new ≡ loaded_all entries.items self.old) }
-        ensures kind { IfErr result (λ e. e ≡ OutOfMemory) }
     {
         for (item, size) in entries {
             self.load(item, size)?;
@@ -221,9 +219,8 @@ impl<S: BuildHasher + Copy + Drop> RecencyList<S> {
     }
 
     /// A copy of this list.
-    pub(super) fn copied(&self, alloc: Global) -> Result<RecencyList<S>>
+    pub(super) fn copied(&self, alloc: Global) -> Result<RecencyList<S>, AllocError>
         ensures ok { IfOk result (λ copy. copy ≡ self.now) }
-        ensures kind { IfErr result (λ e. e ≡ OutOfMemory) }
     {
         let mut copy = RecencyList::new(alloc, self.seed)?;
         let mut left = self.iter();
@@ -243,9 +240,8 @@ impl<S: BuildHasher + Copy + Drop> RecencyList<S> {
     }
 
     /// The entries with their weights, most recent first.
-    pub(super) fn entries(&self, alloc: Global) -> Result<Vec<(CacheEntryKey, usize)>>
+    pub(super) fn entries(&self, alloc: Global) -> Result<Vec<(CacheEntryKey, usize)>, AllocError>
         ensures ok { IfOk result (λ all. all.items ≡ self.now) }
-        ensures kind { IfErr result (λ e. e ≡ OutOfMemory) }
         ensures once { IsOnce self.now }
     {
         let mut all = Vec::with_capacity(alloc, self.cache.len())?;
@@ -254,9 +250,8 @@ impl<S: BuildHasher + Copy + Drop> RecencyList<S> {
     }
 
     /// Adds copies of the entries with their weights, most recent first.
-    pub(super) fn copy_into(&self, all: &mut Vec<(CacheEntryKey, usize)>) -> Result<()>
+    pub(super) fn copy_into(&self, all: &mut Vec<(CacheEntryKey, usize)>) -> Result<(), AllocError>
         ensures ok { OnOk result (all.new.items ≡ all.old.items ++ self.now) }
-        ensures kind { IfErr result (λ e. e ≡ OutOfMemory) }
     {
         for (key, size) in self.cache.iter() {
             push_copy(all, key, *size)?;
@@ -484,9 +479,12 @@ fn raise_in<S: BuildHasher>(
 }
 
 /// Adds a copy of an entry.
-fn push_copy(all: &mut Vec<(CacheEntryKey, usize)>, key: &CacheEntryKey, size: usize) -> Result<()>
+fn push_copy(
+    all: &mut Vec<(CacheEntryKey, usize)>,
+    key: &CacheEntryKey,
+    size: usize,
+) -> Result<(), AllocError>
     ensures ok { OnOk result (all.new.items ≡ all.old.items ++ (key.now, size) ∷ []) }
-    ensures kind { IfErr result (λ e. e ≡ OutOfMemory) }
 {
     all.push((key.copied()?, size))?;
     Ok(())

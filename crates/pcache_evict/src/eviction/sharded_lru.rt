@@ -1,8 +1,7 @@
 //! An eviction manager that keeps its entries in shards, and evicts the least recently used ones of
 //! each.
-ghost use Rattle.std.specs.Prelude.{◌≡◌, ◌-◌, ◌^◌, ◌<◌, [], None, is_some, length, OnOk, OnErr, IfOk, IfErr, IsOk, IsSome, IsTrue, min, option_copied};
+ghost use Rattle.std.specs.Prelude.{◌≡◌, ◌-◌, ◌^◌, ◌<◌, [], None, is_some, length, OnOk, OnErr, IfOk, IsOk, IsSome, IsTrue, min, option_copied};
 ghost use Rattle.std.specs.Vec.{vec_capacity};
-ghost use Rattle.pcache_base.specs.declared.error.ErrorType.TheVariants.{OutOfMemory};
 ghost use Rattle.pcache_evict.specs.Tracked.{raised};
 ghost use Rattle.pcache_evict.specs.Recency.{IsWithinAsList, weight, weight_of, others, moved, accessed};
 ghost use Rattle.pcache_evict.specs.Listed.{IsEnough};
@@ -13,7 +12,6 @@ use super::recency::raised_weight;
 use super::shards::RecencyShards;
 use super::{CacheEntryKey, EvictionManager};
 use lru::Iter;
-use pcache_base::error::Result;
 use pcache_base::moment::Moment;
 use pcache_base::seed::Seed;
 use std::alloc::{AllocError, Global};
@@ -60,10 +58,9 @@ impl<const N: usize, S: BuildHasher + Copy + Drop> Manager<N, S> {
         seed: S,
         limit: usize,
         capacity: usize,
-    ) -> Result<Manager<N, S>>
+    ) -> Result<Manager<N, S>, AllocError>
         requires { 0 < N }
         ensures ok { IfOk result (λ m. m ≡ empty_shards N limit None) }
-        ensures kind { IfErr result (λ e. e ≡ OutOfMemory) }
     {
         Manager::with_capacity_and_watermark(alloc, seed, limit, capacity, None)
     }
@@ -76,10 +73,9 @@ impl<const N: usize, S: BuildHasher + Copy + Drop> Manager<N, S> {
         limit: usize,
         _capacity: usize,
         watermark: Option<usize>,
-    ) -> Result<Manager<N, S>>
+    ) -> Result<Manager<N, S>, AllocError>
         requires { 0 < N }
         ensures ok { IfOk result (λ m. m ≡ empty_shards N limit watermark) }
-        ensures kind { IfErr result (λ e. e ≡ OutOfMemory) }
     {
         Ok(Manager {
             alloc,
@@ -195,10 +191,9 @@ impl<const N: usize, S: BuildHasher + Copy + Drop> Manager<N, S> {
     }
 
     /// The entries with their weights: shard by shard, and in a shard most recent first.
-    pub fn entries(&self) -> Result<Vec<(CacheEntryKey, usize)>>
+    pub fn entries(&self) -> Result<Vec<(CacheEntryKey, usize)>, AllocError>
         ensures ok { IfOk result (λ entries. entries.items ≡ all self.now.shards) }
         ensures placed { ArePlaced N self.now.shards }
-        ensures kind { IfErr result (λ e. e ≡ OutOfMemory) }
     {
         self.shards.entries(self.alloc)
     }
@@ -220,14 +215,13 @@ impl<const N: usize, S: BuildHasher + Copy + Drop> Manager<N, S> {
         item: CacheEntryKey,
         size: usize,
         _fresh_until: Moment,
-    ) -> Result<Vec<CacheEntryKey>>
+    ) -> Result<Vec<CacheEntryKey>, AllocError>
         ensures ok { IfOk result (λ out. Runs N self.old
             (in_shard N item (moved item size) self.old.shards) self.new out.items) }
         ensures placed { ArePlaced N self.old.shards }
-        ensures kind { IfErr result (λ e. e ≡ OutOfMemory) }
         ensures err { OnErr result (self.new ≡ self.old) }
     {
-        Ok(self.put_and_evict(item, size)?)
+        self.put_and_evict(item, size)
     }
 
     /// Adds to the weight of an entry, up to `max_weight` (the largest `usize` if that is `None`),
@@ -239,7 +233,7 @@ impl<const N: usize, S: BuildHasher + Copy + Drop> Manager<N, S> {
         item: &CacheEntryKey,
         delta: usize,
         max_weight: Option<usize>,
-    ) -> Result<Vec<CacheEntryKey>>
+    ) -> Result<Vec<CacheEntryKey>, AllocError>
         ensures ok { IfOk result (λ out. Runs N self.old
             (in_shard N item.now (grown item.now delta max_weight) self.old.shards) self.new
             out.items) }
@@ -248,16 +242,15 @@ impl<const N: usize, S: BuildHasher + Copy + Drop> Manager<N, S> {
             (all (in_shard N item.now (grown item.now delta max_weight) self.old.shards))
             → IsOk result }
         ensures placed { ArePlaced N self.old.shards }
-        ensures kind { IfErr result (λ e. e ≡ OutOfMemory) }
         ensures err { OnErr result (self.new ≡ self.old) }
     {
         let present = self.peek_weight(item);
         let size = raised_weight(present, delta, max_weight);
         if present.is_some() {
-            return Ok(self.set_and_evict(item, size)?);
+            return self.set_and_evict(item, size);
         }
         let copy = item.copied()?;
-        Ok(self.put_and_evict(copy, size)?)
+        self.put_and_evict(copy, size)
     }
 
     /// Removes an entry, if it is tracked. That is no eviction.
@@ -278,7 +271,7 @@ impl<const N: usize, S: BuildHasher + Copy + Drop> Manager<N, S> {
         item: &CacheEntryKey,
         size: usize,
         _fresh_until: Moment,
-    ) -> Result<bool>
+    ) -> Result<bool, AllocError>
         ensures was { IfOk result (λ was.
             was ≡ is_some (weight_of item.now (list_at self.old.shards (shard_of N item.now)))) }
         ensures ok { OnOk result (self.new
@@ -289,7 +282,6 @@ impl<const N: usize, S: BuildHasher + Copy + Drop> Manager<N, S> {
         ensures there { IsSome (weight_of item.now (list_at self.old.shards (shard_of N item.now)))
             → IsOk result }
         ensures placed { ArePlaced N self.old.shards }
-        ensures kind { IfErr result (λ e. e ≡ OutOfMemory) }
         ensures err { OnErr result (self.new ≡ self.old) }
     {
         self.shards.len(); // for the prover: each of the `N` lists has its own entries
@@ -304,10 +296,9 @@ impl<const N: usize, S: BuildHasher + Copy + Drop> Manager<N, S> {
     /// Adds entries that were read from a file, one after the other: a new one at the back of its
     /// list; one that is tracked is unchanged. Nothing is evicted, and a failed call changes
     /// nothing (own).
-    pub fn load_entries(&mut self, entries: Vec<(CacheEntryKey, usize)>) -> Result<()>
+    pub fn load_entries(&mut self, entries: Vec<(CacheEntryKey, usize)>) -> Result<(), AllocError>
         ensures ok { OnOk result (self.new
             ≡ record self.old { shards = added_last_all N entries.items self.old.shards }) }
-        ensures kind { IfErr result (λ e. e ≡ OutOfMemory) }
         ensures err { OnErr result (self.new ≡ self.old) }
     {
         self.shards.join_all(self.alloc, entries)
@@ -429,7 +420,7 @@ impl<const N: usize, S: BuildHasher + Copy + Drop> EvictionManager for Manager<N
         Manager::evicted_items(self)
     }
 
-    fn entries(&self) -> Result<Vec<(CacheEntryKey, usize)>> {
+    fn entries(&self) -> Result<Vec<(CacheEntryKey, usize)>, AllocError> {
         let all = Manager::entries(self)?;
         Ok(all)
     }
@@ -440,7 +431,7 @@ impl<const N: usize, S: BuildHasher + Copy + Drop> EvictionManager for Manager<N
         item: CacheEntryKey,
         size: usize,
         fresh_until: Moment,
-    ) -> Result<Vec<CacheEntryKey>> {
+    ) -> Result<Vec<CacheEntryKey>, AllocError> {
         let out = Manager::admit(self, item, size, fresh_until)?;
         Ok(out)
     }
@@ -451,7 +442,7 @@ impl<const N: usize, S: BuildHasher + Copy + Drop> EvictionManager for Manager<N
         item: &CacheEntryKey,
         delta: usize,
         max_weight: Option<usize>,
-    ) -> Result<Vec<CacheEntryKey>> {
+    ) -> Result<Vec<CacheEntryKey>, AllocError> {
         let out = Manager::increment_weight(self, item, delta, max_weight)?;
         Ok(out)
     }
@@ -462,7 +453,12 @@ impl<const N: usize, S: BuildHasher + Copy + Drop> EvictionManager for Manager<N
     }
 
     #[tactic(auto, using(crate::proofs::Rules::same_rules))]
-    fn access(&mut self, item: &CacheEntryKey, size: usize, fresh_until: Moment) -> Result<bool> {
+    fn access(
+        &mut self,
+        item: &CacheEntryKey,
+        size: usize,
+        fresh_until: Moment,
+    ) -> Result<bool, AllocError> {
         let was = Manager::access(self, item, size, fresh_until)?;
         Ok(was)
     }

@@ -1,7 +1,6 @@
 //! Recency lists in shards.
-ghost use Rattle.std.specs.Prelude.{◌≡◌, ◌↔◌, ◌∷◌, ◌++◌, ◌+◌, ◌-◌, ◌<◌, ◌≤◌, ◌^◌, IsTrue, ℕ, [], true, false, None, is_some, length, OnOk, OnErr, IfOk, IfErr, IfSome, IfNone, IsSome, List, min, slice_set, take, unwrap_or};
+ghost use Rattle.std.specs.Prelude.{◌≡◌, ◌↔◌, ◌∷◌, ◌++◌, ◌+◌, ◌-◌, ◌<◌, ◌≤◌, ◌^◌, IsTrue, ℕ, [], true, false, None, is_some, length, OnOk, OnErr, IfOk, IfSome, IfNone, IsSome, List, min, slice_set, take, unwrap_or};
 ghost use Rattle.std.specs.Vec.{vec_capacity};
-ghost use Rattle.pcache_base.specs.declared.error.ErrorType.TheVariants.{OutOfMemory};
 ghost use Rattle.pcache_evict.specs.declared.eviction.policy.EvictionPolicy.TheVariants.{ShardedLru};
 ghost use Rattle.pcache_evict.specs.Tracked.{limits_of};
 ghost use Rattle.pcache_evict.specs.Recency.{Recency, weight, weight_of, others, moved, IsWithinAsList};
@@ -11,7 +10,6 @@ ghost use Rattle.pcache_evict.specs.Chain.{span, chain, Pops, Walks, RoomFor, Is
 
 use super::CacheEntryKey;
 use super::recency::{RecencyList, Walk, exceeds};
-use pcache_base::error::{Error, ErrorType, Result};
 use pcache_base::key::CacheHashKey;
 use std::alloc::{AllocError, Global};
 use std::hash::BuildHasher;
@@ -186,9 +184,8 @@ impl<S: BuildHasher + Copy + Drop, const N: usize> RecencyShards<S, N> {
         &mut self,
         alloc: Global,
         entries: Vec<(CacheEntryKey, usize)>,
-    ) -> Result<()>
+    ) -> Result<(), AllocError>
         ensures ok { OnOk result (self.new ≡ added_last_all N entries.items self.old) }
-        ensures kind { IfErr result (λ e. e ≡ OutOfMemory) }
         ensures err { OnErr result (self.new ≡ self.old) }
     {
         // Entries only come in at the backs, so that the lists can be cut back without memory. A
@@ -213,9 +210,8 @@ impl<S: BuildHasher + Copy + Drop, const N: usize> RecencyShards<S, N> {
     }
 
     /// Adds entries until an addition fails.
-    fn join_each(&mut self, entries: Vec<(CacheEntryKey, usize)>) -> Result<()>
+    fn join_each(&mut self, entries: Vec<(CacheEntryKey, usize)>) -> Result<(), AllocError>
         ensures ok { OnOk result (self.new ≡ added_last_all N entries.items self.old) }
-        ensures kind { IfErr result (λ e. e ≡ OutOfMemory) }
         ensures longer { AreLonger self.old self.new }
     {
         for (item, size) in entries {
@@ -225,9 +221,8 @@ impl<S: BuildHasher + Copy + Drop, const N: usize> RecencyShards<S, N> {
     }
 
     /// Adds an entry at the back of its list; one that is tracked is unchanged.
-    fn join(&mut self, item: CacheEntryKey, size: usize) -> Result<()>
+    fn join(&mut self, item: CacheEntryKey, size: usize) -> Result<(), AllocError>
         ensures ok { OnOk result (self.new ≡ in_shard N item (added_last item size) self.old) }
-        ensures kind { IfErr result (λ e. e ≡ OutOfMemory) }
         ensures err { OnErr result (self.new ≡ self.old) }
         ensures placed { ArePlaced N self.old }
     {
@@ -240,15 +235,14 @@ impl<S: BuildHasher + Copy + Drop, const N: usize> RecencyShards<S, N> {
     }
 
     /// Adds a new entry at the back of its list.
-    fn push_last(&mut self, item: CacheEntryKey, size: usize) -> Result<()>
+    fn push_last(&mut self, item: CacheEntryKey, size: usize) -> Result<(), AllocError>
         requires { weight_of item (list_at self.old (shard_of N item)) ≡ None }
         ensures ok { OnOk result (self.new
             ≡ in_shard N item (λ l. l ++ (item, size) ∷ []) self.old) }
-        ensures kind { IfErr result (λ e. e ≡ OutOfMemory) }
         ensures err { OnErr result (self.new ≡ self.old) }
     {
         if is_full(self.items) {
-            return Err(Error::new(ErrorType::OutOfMemory));
+            return Err(AllocError);
         }
         let shard = self.place_of(&item);
         let list = &mut self.lists[shard];
@@ -300,9 +294,8 @@ impl<S: BuildHasher + Copy + Drop, const N: usize> RecencyShards<S, N> {
     }
 
     /// The entries with their weights: shard by shard, and in a shard most recent first.
-    pub(super) fn entries(&self, alloc: Global) -> Result<Vec<(CacheEntryKey, usize)>>
+    pub(super) fn entries(&self, alloc: Global) -> Result<Vec<(CacheEntryKey, usize)>, AllocError>
         ensures ok { IfOk result (λ entries. entries.items ≡ all self.now) }
-        ensures kind { IfErr result (λ e. e ≡ OutOfMemory) }
         ensures placed { ArePlaced N self.now }
     {
         let mut entries = Vec::with_capacity(alloc, self.items)?;

@@ -1,14 +1,12 @@
 //! An eviction manager that evicts the least recently used entries.
-ghost use Rattle.std.specs.Prelude.{◌≡◌, ◌-◌, ◌^◌, [], None, is_some, length, OnOk, OnErr, IfOk, IfErr, IsOk, IsSome, min};
+ghost use Rattle.std.specs.Prelude.{◌≡◌, ◌-◌, ◌^◌, [], None, is_some, length, OnOk, OnErr, IfOk, IsOk, IsSome, min};
 ghost use Rattle.std.specs.Vec.{vec_capacity};
-ghost use Rattle.pcache_base.specs.declared.error.ErrorType.TheVariants.{OutOfMemory};
 ghost use Rattle.pcache_evict.specs.Recency.{IsWithinAsList, weight, weight_of, others, moved, incremented, accessed, loaded, loaded_all};
 ghost use Rattle.pcache_evict.specs.Listed.{Listed, empty_list, Moves, IsEnough, IsOnce};
 
 use super::recency::{RecencyList, raised_weight};
 use super::{CacheEntryKey, EvictionManager};
 use lru::Iter;
-use pcache_base::error::Result;
 use pcache_base::moment::Moment;
 use pcache_base::seed::Seed;
 use std::alloc::{AllocError, Global};
@@ -47,9 +45,8 @@ impl<S: BuildHasher> Model for Manager<S> {
 impl<S: BuildHasher + Copy + Drop> Manager<S> {
     /// An empty manager whose entries weigh at most `limit` after each eviction. Its table of entries
     /// hashes under the seed, on which no result depends.
-    pub fn new(alloc: Global, seed: S, limit: usize) -> Result<Manager<S>>
+    pub fn new(alloc: Global, seed: S, limit: usize) -> Result<Manager<S>, AllocError>
         ensures ok { IfOk result (λ m. m ≡ empty_list limit None) }
-        ensures kind { IfErr result (λ e. e ≡ OutOfMemory) }
     {
         Manager::new_with_watermark(alloc, seed, limit, None)
     }
@@ -61,9 +58,8 @@ impl<S: BuildHasher + Copy + Drop> Manager<S> {
         seed: S,
         limit: usize,
         items_watermark: Option<usize>,
-    ) -> Result<Manager<S>>
+    ) -> Result<Manager<S>, AllocError>
         ensures ok { IfOk result (λ m. m ≡ empty_list limit items_watermark) }
-        ensures kind { IfErr result (λ e. e ≡ OutOfMemory) }
     {
         Ok(Manager {
             alloc,
@@ -106,10 +102,9 @@ impl<S: BuildHasher + Copy + Drop> Manager<S> {
     }
 
     /// The entries with their weights, most recent first.
-    pub fn entries(&self) -> Result<Vec<(CacheEntryKey, usize)>>
+    pub fn entries(&self) -> Result<Vec<(CacheEntryKey, usize)>, AllocError>
         ensures ok { IfOk result (λ all. all.items ≡ self.now.entries) }
         ensures once { IsOnce self.now.entries }
-        ensures kind { IfErr result (λ e. e ≡ OutOfMemory) }
     {
         self.list.entries(self.alloc)
     }
@@ -129,13 +124,12 @@ impl<S: BuildHasher + Copy + Drop> Manager<S> {
         item: CacheEntryKey,
         size: usize,
         _fresh_until: Moment,
-    ) -> Result<Vec<CacheEntryKey>>
+    ) -> Result<Vec<CacheEntryKey>, AllocError>
         ensures ok { IfOk result (λ out. Moves self.old
             (moved item size self.old.entries) self.new out.items) }
-        ensures kind { IfErr result (λ e. e ≡ OutOfMemory) }
         ensures err { OnErr result (self.new ≡ self.old) }
     {
-        Ok(self.put_and_evict(item, size)?)
+        self.put_and_evict(item, size)
     }
 
     /// Adds to the weight of an entry, up to `max_weight` (the largest `usize` if that is `None`),
@@ -146,7 +140,7 @@ impl<S: BuildHasher + Copy + Drop> Manager<S> {
         item: &CacheEntryKey,
         delta: usize,
         max_weight: Option<usize>,
-    ) -> Result<Vec<CacheEntryKey>>
+    ) -> Result<Vec<CacheEntryKey>, AllocError>
         ensures ok { IfOk result (λ out. Moves self.old
             (incremented item.now delta max_weight self.old.entries) self.new out.items) }
         ensures within { IsSome (weight_of item.now self.old.entries)
@@ -154,7 +148,6 @@ impl<S: BuildHasher + Copy + Drop> Manager<S> {
             (incremented item.now delta max_weight self.old.entries)
             → IsOk result }
         ensures once { IsOnce self.old.entries }
-        ensures kind { IfErr result (λ e. e ≡ OutOfMemory) }
         ensures err { OnErr result (self.new ≡ self.old) }
     {
         if self.list.allows(delta, 0, self.limit, self.watermark)
@@ -172,7 +165,7 @@ impl<S: BuildHasher + Copy + Drop> Manager<S> {
             }
         }
         let copy = item.copied()?;
-        Ok(self.put_and_evict(copy, size)?)
+        self.put_and_evict(copy, size)
     }
 
     /// Removes an entry, if it is tracked. That is no eviction.
@@ -191,12 +184,11 @@ impl<S: BuildHasher + Copy + Drop> Manager<S> {
         item: &CacheEntryKey,
         size: usize,
         _fresh_until: Moment,
-    ) -> Result<bool>
+    ) -> Result<bool, AllocError>
         ensures was { IfOk result (λ was. was ≡ is_some (weight_of item.now self.old.entries)) }
         ensures ok { OnOk result (self.new
             ≡ record self.old { entries = accessed item.now size self.old.entries }) }
         ensures there { IsSome (weight_of item.now self.old.entries) → IsOk result }
-        ensures kind { IfErr result (λ e. e ≡ OutOfMemory) }
         ensures err { OnErr result (self.new ≡ self.old) }
     {
         if self.list.promote(item) {
@@ -209,14 +201,13 @@ impl<S: BuildHasher + Copy + Drop> Manager<S> {
 
     /// Adds an entry that was read from a file: a new one at the back; one that is tracked moves to
     /// the front, with the new weight. Nothing is evicted (own).
-    pub fn load_entry(&mut self, item: CacheEntryKey, size: usize) -> Result<()>
+    pub fn load_entry(&mut self, item: CacheEntryKey, size: usize) -> Result<(), AllocError>
         ensures ok { OnOk result (self.new
             ≡ record self.old { entries = loaded item size self.old.entries }) }
-        ensures kind { IfErr result (λ e. e ≡ OutOfMemory) }
         ensures err { OnErr result (self.new ≡ self.old) }
     {
         if self.list.weight_of(&item).is_some() {
-            return Ok(self.list.put(item, size)?);
+            return self.list.put(item, size);
         }
         self.list.push_last(item, size)
     }
@@ -224,10 +215,9 @@ impl<S: BuildHasher + Copy + Drop> Manager<S> {
     /// Adds entries that were read from a file, one after the other, each as `load_entry` does.
     /// They are added to a copy of the list, which then replaces it, so that a failed call changes
     /// nothing (own).
-    pub fn load_entries(&mut self, entries: Vec<(CacheEntryKey, usize)>) -> Result<()>
+    pub fn load_entries(&mut self, entries: Vec<(CacheEntryKey, usize)>) -> Result<(), AllocError>
         ensures ok { OnOk result (self.new
             ≡ record self.old { entries = loaded_all entries.items self.old.entries }) }
-        ensures kind { IfErr result (λ e. e ≡ OutOfMemory) }
         ensures err { OnErr result (self.new ≡ self.old) }
     {
         // A copy, since an entry that is listed already moves and takes another weight, which could
@@ -338,7 +328,7 @@ impl<S: BuildHasher + Copy + Drop> EvictionManager for Manager<S> {
         Manager::evicted_items(self)
     }
 
-    fn entries(&self) -> Result<Vec<(CacheEntryKey, usize)>> {
+    fn entries(&self) -> Result<Vec<(CacheEntryKey, usize)>, AllocError> {
         let all = Manager::entries(self)?;
         Ok(all)
     }
@@ -349,7 +339,7 @@ impl<S: BuildHasher + Copy + Drop> EvictionManager for Manager<S> {
         item: CacheEntryKey,
         size: usize,
         fresh_until: Moment,
-    ) -> Result<Vec<CacheEntryKey>> {
+    ) -> Result<Vec<CacheEntryKey>, AllocError> {
         let out = Manager::admit(self, item, size, fresh_until)?;
         Ok(out)
     }
@@ -360,7 +350,7 @@ impl<S: BuildHasher + Copy + Drop> EvictionManager for Manager<S> {
         item: &CacheEntryKey,
         delta: usize,
         max_weight: Option<usize>,
-    ) -> Result<Vec<CacheEntryKey>> {
+    ) -> Result<Vec<CacheEntryKey>, AllocError> {
         let out = Manager::increment_weight(self, item, delta, max_weight)?;
         Ok(out)
     }
@@ -371,7 +361,12 @@ impl<S: BuildHasher + Copy + Drop> EvictionManager for Manager<S> {
     }
 
     #[tactic(auto, using(crate::proofs::Rules::same_rules))]
-    fn access(&mut self, item: &CacheEntryKey, size: usize, fresh_until: Moment) -> Result<bool> {
+    fn access(
+        &mut self,
+        item: &CacheEntryKey,
+        size: usize,
+        fresh_until: Moment,
+    ) -> Result<bool, AllocError> {
         let was = Manager::access(self, item, size, fresh_until)?;
         Ok(was)
     }

@@ -1,18 +1,16 @@
 //! Tables in shards, each behind a lock of its own.
-ghost use Rattle.std.specs.Prelude.{◌≡◌, ◌↔◌, ◌<◌, ◌%◌, IfErr, IfOk, IfSome, IsSome, max};
+ghost use Rattle.std.specs.Prelude.{◌≡◌, ◌↔◌, ◌<◌, ◌%◌, IfOk, IfSome, IsSome, max};
 ghost use Rattle.std.specs.List.{range_with_len};
 ghost use Rattle.std.specs.Sync.RwLock.{read_guard_value};
 ghost use Rattle.pcache_table.specs.Sharding.{Visits, VisitsEach};
-ghost use Rattle.pcache_base.specs.declared.error.ErrorType.TheVariants.{OutOfMemory};
 
 use crate::hashtable::lru_lock::LruLock;
 use crate::hashtable::lru_shard::LruShard;
 use crate::hashtable::shard::Shard;
 use crate::hashtable::shard_lock::ShardLock;
 use crate::hashtable::write_guard::WriteGuard;
-use pcache_base::error::Result;
 use pcache_base::seed::Seed;
-use std::alloc::Global;
+use std::alloc::{AllocError, Global};
 use std::marker::{Model, PhantomData};
 use std::sync::{RwLockReadGuard, Wait};
 
@@ -138,10 +136,13 @@ impl<V: Drop, const N: usize> ConcurrentLruCache<V, N> {
     /// counts as 1. No result depends on the seed.
     ///
     /// Fails only when memory runs out.
-    pub fn new(alloc: Global, seed: Seed, shard_capacity: usize) -> Result<ConcurrentLruCache<V, N>>
+    pub fn new(
+        alloc: Global,
+        seed: Seed,
+        shard_capacity: usize,
+    ) -> Result<ConcurrentLruCache<V, N>, AllocError>
         requires { 0 < N }
         ensures made { IfOk result (λ t. t ≡ max shard_capacity 1) }
-        ensures kind { IfErr result (λ e. e ≡ OutOfMemory) }
     {
         let capacity = shard_capacity.max(1);
         let mut lrus = Vec::new(alloc);

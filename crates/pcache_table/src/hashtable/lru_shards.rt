@@ -1,13 +1,11 @@
 //! Tables in shards that drop the least recently used keys.
 ghost use Rattle.std.specs.Prelude.{◌≡◌, ◌<◌, ◌%◌, IfErr, IfOk, OnErr, OnOk, max, nat_eq, option_copied, slice_set};
 ghost use Rattle.std.specs.Map.{lookup};
-ghost use Rattle.pcache_base.specs.declared.error.ErrorType.TheVariants.{OutOfMemory};
 ghost use Rattle.pcache_table.specs.Sharding.{new_lists, list_at, part_with, part_without};
 
 use crate::hashtable::lru_shard::LruShard;
-use pcache_base::error::Result;
 use pcache_base::seed::Seed;
-use std::alloc::{AllocFailed, Global};
+use std::alloc::{AllocError, AllocFailed, Global};
 use std::marker::Model;
 
 /// `N` shards, each of which drops its least recently used keys. A contract sees the list of them.
@@ -32,10 +30,13 @@ impl<V: Drop, const N: usize> LruShards<V, N> {
     /// result depends on the seed.
     ///
     /// Fails only when memory runs out.
-    pub fn new(alloc: Global, seed: Seed, shard_capacity: usize) -> Result<LruShards<V, N>>
+    pub fn new(
+        alloc: Global,
+        seed: Seed,
+        shard_capacity: usize,
+    ) -> Result<LruShards<V, N>, AllocError>
         requires { 0 < N }
         ensures made { IfOk result (λ s. s ≡ new_lists N (max shard_capacity 1)) }
-        ensures kind { IfErr result (λ e. e ≡ OutOfMemory) }
     {
         let mut shards = Vec::new(alloc);
         for place in 0..N {
@@ -61,11 +62,7 @@ impl<V: Drop, const N: usize> LruShards<V, N> {
 
     /// Sets the value at a key and puts it in front of its shard; a full shard drops its last key.
     /// Returns the old value.
-    pub fn put(
-        &mut self,
-        key: u128,
-        value: V,
-    ) -> std::result::Result<Option<V>, AllocFailed<(u128, V)>>
+    pub fn put(&mut self, key: u128, value: V) -> Result<Option<V>, AllocFailed<(u128, V)>>
         ensures before { IfOk result (λ old.
             old ≡ lookup (nat_eq key) (list_at self.old (key % N)).entries) }
         ensures ok { OnOk result (self.new

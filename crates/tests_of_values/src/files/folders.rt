@@ -162,7 +162,7 @@ fn tell_loaded(loaded: Result<usize>, told: &mut Told) {
 
 // Two shards that hold nothing.
 fn no_entries(alloc: Global) -> Result<sharded_lru::Manager<2>> {
-    sharded_lru::Manager::<2>::with_capacity(alloc, Seed::fixed(), 9, 1)
+    Ok(sharded_lru::Manager::<2>::with_capacity(alloc, Seed::fixed(), 9, 1)?)
 }
 
 // Two shards that hold `a`, in the second, and `b`, in the first.

@@ -44,12 +44,12 @@ fn many(alloc: Global) -> Result<Vec<(CacheEntryKey, usize)>> {
 
 // A manager with one list of nothing.
 fn one_list(alloc: Global) -> Result<simple_lru::Manager> {
-    simple_lru::Manager::new(alloc, Seed::fixed(), usize::MAX)
+    Ok(simple_lru::Manager::new(alloc, Seed::fixed(), usize::MAX)?)
 }
 
 // A manager with two lists of nothing.
 fn two_lists(alloc: Global) -> Result<sharded_lru::Manager<2>> {
-    sharded_lru::Manager::<2>::with_capacity(alloc, Seed::fixed(), usize::MAX, 1)
+    Ok(sharded_lru::Manager::<2>::with_capacity(alloc, Seed::fixed(), usize::MAX, 1)?)
 }
 
 // Whether a file has more than 64 KiB.

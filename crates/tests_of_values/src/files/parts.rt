@@ -37,7 +37,7 @@ pub fn letter(alloc: Global, name: u8, id: Option<CacheEntryId>) -> Result<Cache
 pub fn tell_list<E: EvictionManager>(manager: &E, told: &mut Told) {
     match manager.entries() {
         Ok(entries) => tell_entries(entries.as_slice(), told),
-        Err(refused) => told.refused(&refused),
+        Err(refused) => told.refused(&refused.into()),
     }
 }
 

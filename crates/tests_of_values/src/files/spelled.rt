@@ -10,7 +10,7 @@ use pcache_base::text::Text;
 use pcache_evict::eviction::{CacheEntryId, CacheEntryKey, sharded_lru, simple_lru};
 use pcache_files::sharded_lru::{deserialize_shard, serialize_shard};
 use pcache_files::simple_lru::{deserialize, serialize};
-use std::alloc::Global;
+use std::alloc::{AllocError, Global};
 use std::process::Abort;
 
 // The bytes of a call.
@@ -123,7 +123,7 @@ fn bring(alloc: Global, entry: Result<CacheEntryKey>, bytes: &[u8], told: &mut T
 
 fn bring_entry(
     alloc: Global,
-    manager: Result<simple_lru::Manager>,
+    manager: Result<simple_lru::Manager, AllocError>,
     entry: &CacheEntryKey,
     bytes: &[u8],
     told: &mut Told,
@@ -135,7 +135,7 @@ fn bring_entry(
             told.say(if manager.peek(entry) { " " } else { " not" });
             told.shown(&manager.total_size());
         }
-        Err(refused) => told.refused(&refused),
+        Err(refused) => told.refused(&refused.into()),
     }
 }
 
@@ -230,7 +230,7 @@ fn load_long(alloc: Global, bytes: &[u8], told: &mut Told) {
             told.done(deserialize(alloc, &mut manager, bytes));
             tell_totals(&manager, told);
         }
-        Err(refused) => told.refused(&refused),
+        Err(refused) => told.refused(&refused.into()),
     }
 }
 
@@ -243,7 +243,7 @@ fn tell_totals(manager: &simple_lru::Manager, told: &mut Told) {
 
 // Loads `AA` over the limit, and writes how many entries that evicts; then it admits `b`, and writes what that evicts,
 // and the list.
-fn admit_after(alloc: Global, manager: Result<simple_lru::Manager>, told: &mut Told) {
+fn admit_after(alloc: Global, manager: Result<simple_lru::Manager, AllocError>, told: &mut Told) {
     match manager {
         Ok(manager) => {
             let mut manager = manager;
@@ -255,7 +255,7 @@ fn admit_after(alloc: Global, manager: Result<simple_lru::Manager>, told: &mut T
             admit(&mut manager, letter(alloc, b'b', None), told);
             tell_list(&manager, told);
         }
-        Err(refused) => told.refused(&refused),
+        Err(refused) => told.refused(&refused.into()),
     }
 }
 
@@ -266,7 +266,7 @@ fn admit(manager: &mut simple_lru::Manager, entry: Result<CacheEntryKey>, told: 
     }
 }
 
-fn tell_gone(gone: Result<Vec<CacheEntryKey>>, told: &mut Told) {
+fn tell_gone(gone: Result<Vec<CacheEntryKey>, AllocError>, told: &mut Told) {
     match gone {
         Ok(gone) => {
             for entry in gone.as_slice() {
@@ -274,7 +274,7 @@ fn tell_gone(gone: Result<Vec<CacheEntryKey>>, told: &mut Told) {
                 told.say(";");
             }
         }
-        Err(refused) => told.refused(&refused),
+        Err(refused) => told.refused(&refused.into()),
     }
 }
 
