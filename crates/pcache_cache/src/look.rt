@@ -13,10 +13,10 @@ use pcache_request::cache::LockName;
 use pcache_request::phase::HitStatus;
 use pcache_store::memory::{FoundBody, MemHitHandler};
 use pcache_store::storage::HandleHit;
+use std::alloc::AllocError;
 
 impl<M: EvictionManager, K> Cache<M, K> {
-    ghost use Rattle.std.specs.Prelude.{◌≡◌, false, IfOk, IfErr, OnErr, IsSome, IsTrue};
-    ghost use Rattle.pcache_base.specs.declared.error.ErrorType.TheVariants.{OutOfMemory};
+    ghost use Rattle.std.specs.Prelude.{◌≡◌, false, IfOk, OnErr, IsSome, IsTrue};
     ghost use Rattle.pcache_request.specs.Admissions.{Decides, asks_policy};
     ghost use Rattle.pcache_request.specs.Phases.{MayFinishHit, MayLookUp};
     ghost use Rattle.pcache_request.specs.Releasing.{MayDisable};
@@ -68,12 +68,11 @@ impl<M: EvictionManager, K> Cache<M, K> {
     /// What a look-up of the request's key finds, if that is a complete body, whether or not a variant hides it; its meta is not
     /// read yet. Such a look-up changes nothing, so a cache behind a lock can be asked under the lock, and the meta read after it.
     /// Fails only when memory runs out, and then such a body is there.
-    pub fn complete_body(&self, request: &CacheRequest<K>) -> Result<Option<FoundBody>>
+    pub fn complete_body(&self, request: &CacheRequest<K>) -> Result<Option<FoundBody>, AllocError>
         ensures found { IfOk result (λ f. f
             ≡ if_complete (found_for self.now.store request.now.cache.key)) }
         ensures something { OnErr result
             (IsSome (if_complete (found_for self.now.store request.now.cache.key))) }
-        ensures kind { IfErr result (λ e. e ≡ OutOfMemory) }
     {
         match request.cache.key() {
             Some(key) => self.store.complete_body(key),

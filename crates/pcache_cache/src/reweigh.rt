@@ -1,5 +1,6 @@
 //! The meta of a body is set, and its entry is admitted anew if it weighs something else then.
-ghost use Rattle.std.specs.Prelude.{◌≡◌, IfOk, IsTrue, List, OnErr, OnOk, Some};
+ghost use Rattle.std.specs.Prelude.{◌≡◌, IfErr, IfOk, IsTrue, List, OnErr, OnOk, Some};
+ghost use Rattle.pcache_base.specs.declared.error.ErrorType.TheVariants.{OutOfMemory};
 ghost use Rattle.pcache_evict.specs.declared.eviction.entry_key.CacheEntryKey as entry_key;
 ghost use Rattle.pcache_request.specs.Finishing.{entry_slot};
 ghost use Rattle.pcache_request.specs.Renewals.{has_body};
@@ -155,7 +156,7 @@ pub(crate) fn set_meta<M: EvictionManager>(
     manager: &mut M,
     key: &CacheKey,
     meta: &CacheMeta,
-) -> Result<bool, AllocError>
+) -> Result<bool>
     ensures renews { Renews weighing (M.limits manager.old) meta.now (Some key.now) result
         (record {
           store = store.old.state;
@@ -171,6 +172,7 @@ pub(crate) fn set_meta<M: EvictionManager>(
     ensures kept { IsKept weighing (M.limits manager.old) (M.tracked manager.old) store.old.state
         → IsKept weighing (M.limits manager.new) (M.tracked manager.new) store.new.state }
     ensures limits { M.limits manager.new ≡ M.limits manager.old }
+    ensures kind { IfErr result (λ e. e ≡ OutOfMemory) }
 {
     if store.body_lengths(key).is_none() {
         return store.update_meta(alloc, key, meta);

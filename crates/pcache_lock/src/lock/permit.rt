@@ -79,7 +79,11 @@ impl Model for Watch {
 
 impl Watch {
     // What a reader that was not told of a fill watches for from now on.
-    fn first(alloc: Global, core: &LockCore, fills: Option<&UnusableFills>) -> Result<Watch, AllocError>
+    fn first(
+        alloc: Global,
+        core: &LockCore,
+        fills: Option<&UnusableFills>,
+    ) -> Result<Watch, AllocError>
         ensures made { IfOk result (λ w.
             w ≡ first_watch core.now (unwrap_or (option_copied fills.entry) [])) }
         ensures unnamed { option_copied fills.entry ≡ None → IsOk result }

@@ -50,7 +50,7 @@ impl HttpCache<MemCache> {
         let Some(reader) = &mut self.reader else {
             unreachable!()
         };
-        reader.read_body_alone()
+        Ok(reader.read_body_alone()?)
     }
 
     /// `is_body_whole` of a complete body, or without a reader. Ask `reads_alone()`.

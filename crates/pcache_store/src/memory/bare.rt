@@ -300,7 +300,7 @@ impl BareStore {
             }
             Err(refused) => {
                 self.slots.shut(slot, number);
-                Err(refused)
+                Err(Error::from(refused))
             }
         }
     }
@@ -465,7 +465,12 @@ impl BareStore {
     }
 
     /// Ends the freshness of a slot's complete body, and does nothing for no slot.
-    pub fn expire(&mut self, alloc: Global, slot: Option<u128>, now: Moment) -> Result<PurgeOutcome, AllocError>
+    pub fn expire(
+        &mut self,
+        alloc: Global,
+        slot: Option<u128>,
+        now: Moment,
+    ) -> Result<PurgeOutcome, AllocError>
         ensures answer { IfOk result (λ o. o ≡ expire_outcome self.old slot) }
         ensures ok { OnOk result (self.new ≡ expired_at now self.old slot) }
         ensures something { OnErr result (expire_outcome self.old slot ≡ Expired) }
@@ -482,7 +487,12 @@ impl BareStore {
     }
 
     /// Sets the meta of a key's complete body, and returns whether there is one.
-    pub fn update_meta(&mut self, alloc: Global, key: &CacheKey, meta: &CacheMeta) -> Result<bool, AllocError>
+    pub fn update_meta(
+        &mut self,
+        alloc: Global,
+        key: &CacheKey,
+        meta: &CacheMeta,
+    ) -> Result<bool, AllocError>
         ensures there { IfOk result (λ b.
             b ≡ is_some (complete_body (map.get self.old.slots (slot key.now)))) }
         ensures ok { OnOk result (self.new ≡ meta_set meta.now self.old (slot key.now)) }

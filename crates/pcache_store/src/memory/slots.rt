@@ -176,7 +176,12 @@ impl Slots {
     }
 
     // Ends the freshness of the complete body, and returns whether there is one.
-    pub(crate) fn expire(&mut self, alloc: Global, key: u128, now: Moment) -> Result<bool, AllocError>
+    pub(crate) fn expire(
+        &mut self,
+        alloc: Global,
+        key: u128,
+        now: Moment,
+    ) -> Result<bool, AllocError>
         ensures there { IfOk result (λ b. b ≡ is_some (complete_body (map.get self.old key))) }
         ensures slots { OnOk result (self.new
             ≡ meta_changed_on (meta_of.expired_at now) self.old key (map.get self.old key)) }

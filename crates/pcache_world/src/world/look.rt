@@ -116,7 +116,11 @@ fn look_up(
 }
 
 // The meta of what a look-up of the key finds, as the store keeps it: a copy of its bytes costs a fifth of a copy of the meta.
-fn kept_meta(alloc: Global, store: &MemCache, key: &CacheKey) -> Result<Option<Boxed<SpelledMeta>>, AllocError>
+fn kept_meta(
+    alloc: Global,
+    store: &MemCache,
+    key: &CacheKey,
+) -> Result<Option<Boxed<SpelledMeta>>, AllocError>
     ensures found { IfOk result (λ m.
         m ≡ option_map (λ p. p.0) (found_for store.now.state (Some key.now))) }
     ensures something { OnErr result (IsSome (found_for store.now.state (Some key.now))) }
