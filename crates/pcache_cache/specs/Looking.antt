@@ -1,18 +1,15 @@
 -- Look-ups, and the hits that come of them: what a call does to a cache, from p to q, with this result. The request is r before it and
 -- s after it (own).
-use Rattle.std.specs.Prelude.{◌≡◌, ◌⊎◌, ℕ, List, Option, None, true, IfErr, IfOk, IfSome, IsOk, IsTrue, OnErr, OnOk, Result, option_map}
+use Rattle.std.specs.Prelude.{◌≡◌, ◌⊎◌, ℕ, Option, None, IsOk, IsTrue, OnErr, OnOk, Result}
 use Rattle.pcache_base.specs.declared.error.ErrorType.{ErrorType}
-use Rattle.pcache_base.specs.declared.error.ErrorType.TheVariants.{OutOfMemory}
-use Rattle.pcache_base.specs.declared.poll.Poll.{Poll}
 use Rattle.pcache_meta.specs.Meta.{Meta}
 use Rattle.pcache_request.specs.Admissions.{decision_taken}
 use Rattle.pcache_request.specs.Looking as looking
-use Rattle.pcache_request.specs.Requests.{Request, asks_for_hit, counts_found, left_by, without_reader}
-use Rattle.pcache_request.specs.StorePasts.{left_past}
+use Rattle.pcache_request.specs.Requests.{Request, asks_for_hit, counts_found}
 use Rattle.pcache_request.specs.declared.phase.HitStatus.{HitStatus}
 use Rattle.pcache_store.specs.Notes.{leave_noted, noted}
 use Rattle.pcache_store.specs.Readers.{reader_of}
-use Rattle.pcache_store.specs.Store.{Reader, gives_piece, left, read_of, reader_after}
+use Rattle.pcache_store.specs.Store.{Reader, left}
 use Rattle.pcache_store.specs.declared.memory.hit.MemHitHandler.{MemHitHandler}
 use Rattle.pcache_cache.specs.Parts.{Adds, Parts, locks_of, store_of}
 use Rattle.pcache_cache.specs.Strays.{LeavesNoStray}
@@ -42,18 +39,8 @@ pub record LetsGo (h : Reader) (p q : Parts) : Type 0 where
   pub past : Adds (noted (leave_noted h)) p.past q.past
   pub rest : q ≡ record p { store = q.store; past = q.past }
 
--- the body is read on
-pub record Reads (result : Result (Poll (Option (List ℕ))) ErrorType) (r s : Request) (p : Parts) : Type 0 where
-  pub read : IfOk result (λ b. IfSome r.reader (λ h. b ≡ read_of p.store h))
-  pub request : OnOk result (s ≡ record r { reader = option_map (reader_after p.store) r.reader })
-  pub same_request : OnErr result (s ≡ r)
-  pub something : OnErr result (IfSome r.reader (λ h. gives_piece (read_of p.store h) ≡ true))
-  pub kind : IfErr result (λ e. e ≡ OutOfMemory)
-
 -- the reader ends
 pub record EndsHit (result : Result (Unit {0}) ErrorType) (r s : Request) (p q : Parts) : Type 0 where
-  pub request : s ≡ without_reader r
-  pub store : q.store ≡ left_by r.reader p.store
-  pub past : Adds (left_past r.reader) p.past q.past
+  pub takes : looking.EndsHit r s (store_of p) (store_of q)
   pub answer : IsOk result
   pub rest : q ≡ record p { store = q.store; past = q.past }

@@ -23,7 +23,8 @@ impl<M: EvictionManager, K> Cache<M, K> {
     ghost use Rattle.pcache_request.specs.Requests.{found_for, length_by, whole_by};
     ghost use Rattle.pcache_store.specs.Readers.{if_complete, reader_of};
     ghost use Rattle.pcache_cache.specs.Ending.{Disables, EndsRequest};
-    ghost use Rattle.pcache_cache.specs.Looking.{EndsHit, LetsGo, LooksUp, LooksUpAsking, Reads, TakesFound};
+    ghost use Rattle.pcache_cache.specs.Looking.{EndsHit, LetsGo, LooksUp, LooksUpAsking, TakesFound};
+    ghost use Rattle.pcache_request.specs.Looking.{Reads};
 
     /// `HttpCache::cache_lookup_without_policy`: returns what the store has for the request's key, a meta and a reader, unless
     /// a variant hides it; if it returns nothing, the key's lock is asked for. No policy is asked. The caller has to pass a
@@ -118,7 +119,7 @@ impl<M: EvictionManager, K> Cache<M, K> {
     /// `HttpCache::read_body`: reads the next bytes. Requires a reader. Fails only if there are bytes to give.
     pub fn read_body(&mut self, request: &mut CacheRequest<K>) -> Result<Poll<Option<Bytes>>>
         requires { IsSome request.old.cache.reader }
-        ensures takes { Reads result request.old.cache request.new.cache self.old }
+        ensures takes { Reads result request.old.cache request.new.cache self.old.store }
         ensures rest { self.new ≡ self.old }
     {
         request.cache.read_body(&mut self.store)

@@ -1,8 +1,9 @@
 -- Look-ups, and the hits that come of them: what a call makes of the request, from r to s, of a storage, from a to b, and of a
 -- lock table, from l to k, with this result (own). A pair that is found is a meta and a reader, whatever the storage's readers are.
-use Rattle.std.specs.Prelude.{◌≡◌, ◌⊎◌, ℕ, Option, Err, Ok, IfErr, IfOk, IsSome, IsTrue, OnErr, OnOk, Result, false, option_map}
+use Rattle.std.specs.Prelude.{◌≡◌, ◌⊎◌, ℕ, List, Option, Err, Ok, IfErr, IfOk, IfSome, IsSome, IsTrue, OnErr, OnOk, Result, false, true, option_map}
 use Rattle.pcache_base.specs.declared.error.ErrorType.{ErrorType}
-use Rattle.pcache_base.specs.declared.error.ErrorType.TheVariants.{NumbersExhausted}
+use Rattle.pcache_base.specs.declared.error.ErrorType.TheVariants.{NumbersExhausted, OutOfMemory}
+use Rattle.pcache_base.specs.declared.poll.Poll.{Poll}
 use Rattle.pcache_lock.specs.Locks.{MayFailLock}
 use Rattle.pcache_meta.specs.Meta.{Meta}
 use Rattle.pcache_predict.specs.declared.admission.Decision.{Decision}
@@ -10,16 +11,16 @@ use Rattle.pcache_request.specs.Admissions.{looked_with, store_looked_with, tabl
 use Rattle.pcache_request.specs.Failures.{FailsToLook}
 use Rattle.pcache_request.specs.LockPasts.{found_deeds, looked_with_deeds}
 use Rattle.pcache_request.specs.LookUps.{OnLooked, OnUnlocked, Tells, handed_on}
-use Rattle.pcache_request.specs.Requests.{Request, asks_for_hit, found_for, found_row, store_found, table_found}
+use Rattle.pcache_request.specs.Requests.{Request, asks_for_hit, found_for, found_row, left_by, store_found, table_found, without_reader}
 use Rattle.pcache_request.specs.Sides.{LockSide, StoreSide}
-use Rattle.pcache_request.specs.StorePasts.{looked_past, taken_past}
+use Rattle.pcache_request.specs.StorePasts.{left_past, looked_past, taken_past}
 use Rattle.pcache_request.specs.Variants.{asks_unseen, hides_for, seen_for}
 use Rattle.pcache_request.specs.declared.cache.report.AskedLock.{AskedLock}
 use Rattle.pcache_request.specs.declared.cache.report.FoundReport.{FoundReport}
 use Rattle.pcache_request.specs.declared.cache.report.LookUp.{LookUp}
 use Rattle.pcache_request.specs.declared.phase.HitStatus.{HitStatus}
 use Rattle.pcache_store.specs.Notes.{leave_noted, noted}
-use Rattle.pcache_store.specs.Store.{Reader, left}
+use Rattle.pcache_store.specs.Store.{Reader, Store, gives_piece, left, read_of, reader_after}
 
 -- the key is looked up, and a policy decided this, or none was asked
 pub record LooksUp {H : Type 0} (reader : H → Reader) (result : Result (Option (Meta × H)) ErrorType) (d : Option Decision) (now : ℕ) (r s : Request) (a b : StoreSide) (l k : LockSide) : Type 0 where
@@ -78,3 +79,17 @@ pub record TakesFound {A : Type 0} (result : Result A ErrorType) (status : HitSt
   pub same_deeds : OnErr result (k.deeds ≡ l.deeds)
   pub kind : IfErr result (λ e. MayFailLock l.locks e)
   pub numbers : IfErr result (λ e. e ≡ NumbersExhausted → IsTrue (asks_for_hit status r))
+
+-- the body is read on
+pub record Reads (result : Result (Poll (Option (List ℕ))) ErrorType) (r s : Request) (a : Store) : Type 0 where
+  pub read : IfOk result (λ b. IfSome r.reader (λ h. b ≡ read_of a h))
+  pub request : OnOk result (s ≡ record r { reader = option_map (reader_after a) r.reader })
+  pub same_request : OnErr result (s ≡ r)
+  pub something : OnErr result (IfSome r.reader (λ h. gives_piece (read_of a h) ≡ true))
+  pub kind : IfErr result (λ e. e ≡ OutOfMemory)
+
+-- the reader ends
+pub record EndsHit (r s : Request) (a b : StoreSide) : Type 0 where
+  pub request : s ≡ without_reader r
+  pub store : b.store ≡ left_by r.reader a.store
+  pub past : b.past ≡ left_past r.reader a.past

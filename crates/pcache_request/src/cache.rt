@@ -287,14 +287,15 @@ impl<S: Storage> HttpCache<S> {
     ghost use Rattle.pcache_base.specs.Key.{slot};
     ghost use Rattle.pcache_base.specs.declared.error.ErrorType.TheVariants.{InternalError, OutOfMemory};
     ghost use Rattle.pcache_lock.specs.declared.lock.status.LockStatus.TheVariants.{Done};
-    ghost use Rattle.pcache_store.specs.Store.{gives_piece, read_of, reader_after, sought};
+    ghost use Rattle.pcache_store.specs.Store.{sought};
     ghost use Rattle.std.specs.Option.{option_copied, option_and_then};
     ghost use Rattle.pcache_request.specs.LockUse.{enabled_waiting};
     ghost use Rattle.pcache_request.specs.Phases.{IsDisabled, MayTakeKey, MayMiss, IsStale, IsFilling, IsReading, MayFinishHit, is_filling};
-    ghost use Rattle.pcache_request.specs.Requests.{HasKey, HoldsNothing, Request, new_request, with_key, missed, without_reader, MayTakeMeta, with_meta, MayWrite, settled, left_by};
+    ghost use Rattle.pcache_request.specs.Requests.{HasKey, HoldsNothing, Request, new_request, with_key, missed, MayTakeMeta, with_meta, MayWrite, settled, left_by};
     ghost use Rattle.pcache_request.specs.Reports.{name_of};
     ghost use Rattle.pcache_request.specs.contracts.cache.HttpCache.{the_row};
     ghost use Rattle.pcache_request.specs.Ending.{EndsRequest};
+    ghost use Rattle.pcache_request.specs.Looking.{EndsHit, Reads};
     ghost use Rattle.pcache_request.specs.Sides.{lock_side, store_side};
     ghost use Rattle.pcache_request.specs.Writing.{BeginsWrite, TellsWriteBegin};
     ghost use Rattle.pcache_request.specs.LockPasts.{settled_deeds};
@@ -430,19 +431,9 @@ impl<S: Storage> HttpCache<S> {
     /// Requires a reader; ask `has_body_reader()`.
     pub fn read_body(&mut self, storage: &mut S) -> Result<Poll<Option<Bytes>>>
         requires { IsSome self.old.reader }
-        ensures read { IfOk result (λ p.
-            IfSome self.old.reader (λ r. p ≡ read_of (S.state storage.old) r)) }
-        ensures request { OnOk result (self.new
-            ≡ record self.old {
-              reader = option_map (reader_after (S.state storage.old))
-                  self.old.reader;
-            }) }
-        ensures same_request { OnErr result (self.new ≡ self.old) }
+        ensures reads { Reads result self.old self.new (S.state storage.old) }
         ensures same_store { S.state storage.new ≡ S.state storage.old }
         ensures same_past { S.past storage.new ≡ S.past storage.old }
-        ensures something { OnErr result
-            (IfSome self.old.reader (λ r. gives_piece (read_of (S.state storage.old) r) ≡ true)) }
-        ensures kind { IfErr result (λ e. e ≡ OutOfMemory) }
     {
         let Some(reader) = &mut self.reader else {
             unreachable!()
@@ -517,9 +508,8 @@ impl<S: Storage> HttpCache<S> {
     /// `phase().may_finish_hit()`.
     pub fn finish_hit_handler(&mut self, storage: &mut S) -> Result<()>
         requires { MayFinishHit self.old.phase }
-        ensures request { self.new ≡ without_reader self.old }
-        ensures store { S.state storage.new ≡ left_by self.old.reader (S.state storage.old) }
-        ensures past { S.past storage.new ≡ left_past self.old.reader (S.past storage.old) }
+        ensures ends { EndsHit self.old self.new
+            (store_side S.state S.past storage.old) (store_side S.state S.past storage.new) }
         ensures kind { IfErr result (λ e. e ≡ OutOfMemory) }
         ensures none { self.old.reader ≡ None → IsOk result }
         ensures answer { IfSome self.old.reader (λ r. S.ends_hit storage.old r result) }

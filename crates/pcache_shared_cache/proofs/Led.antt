@@ -109,7 +109,7 @@ hit_ended {result} {r} {s} {p} {q} row = record {
   limits = ap (λ (x : Parts). x.limits) row.rest;
   weighing = ap (λ (x : Parts). x.weighing) row.rest;
   age = ap (λ (x : Parts). x.locks.age_timeout) row.rest;
-  past = grew_by (left_past r.reader) p.past q.past (left_keeps (kept_by_notes p.past) r.reader) row.past;
+  past = grew_by (left_past r.reader) p.past q.past (left_keeps (kept_by_notes p.past) r.reader) row.takes.past;
   deeds = grew_same p.deeds q.deeds (ap (λ (x : Parts). x.deeds) row.rest);
 }
 
@@ -154,7 +154,7 @@ pub released : {result : Option ReleasedLock} {reason : NoCacheReason} {r s : Re
 released {result} {reason} {r} {s} {p} {q} row = settled_on (status_for (λ text. GiveUp) reason) r p q row.takes.settles.table row.takes.settles.deeds row.rest
 
 pub served_on : {result : Option LockName} {h : Header} {reason : NoCacheReason} {r s : Request} {p q : Parts} → ServesUncacheable result h reason r s p q → Leads p q
-served_on {result} {h} {reason} {r} {s} {p} {q} row = settled_on (status_for (λ text. GiveUp) reason) r p q row.settles.table row.settles.deeds row.rest
+served_on {result} {h} {reason} {r} {s} {p} {q} row = settled_on (status_for (λ text. GiveUp) reason) r p q row.takes.settles.table row.takes.settles.deeds row.rest
 
 pub permit_taken : {result : Option LockName} {permit : WritePermit} {r s : Request} {p q : Parts} → TakesPermit result permit r s p q → Leads p q
 permit_taken {result} {permit} {r} {s} {p} {q} row = record {
@@ -178,9 +178,9 @@ pub renewed_body : {result : Result Bool ErrorType} {m : Meta} {r s : Request} {
 renewed_body {result} {m} {r} {s} {p} {q} row = record {
   limits = ap (λ (x : Parts). x.limits) row.rest;
   weighing = ap (λ (x : Parts). x.weighing) row.rest;
-  age = settled_at Done r.held p.locks q.locks row.settles.table;
+  age = settled_at Done r.held p.locks q.locks row.goes_on.settles.table;
   past = renews_keeps (kept_by_notes p.past) p.weighing p.limits (renewed_by m r.meta) r.key result (stock p) (stock q) row.renews (grew_not p.past);
-  deeds = grew_by (settled_deeds Done r.held) p.deeds q.deeds (settled_keeps (kept_by_deeds p.deeds) Done r.held) row.settles.deeds;
+  deeds = grew_by (settled_deeds Done r.held) p.deeds q.deeds (settled_keeps (kept_by_deeds p.deeds) Done r.held) row.goes_on.settles.deeds;
 }
 
 pub varied_on : {result : Option LockName} {variance : Option (List ℕ)} {r s : Request} {p q : Parts} → Varies result variance r s p q → Leads p q

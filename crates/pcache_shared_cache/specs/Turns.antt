@@ -5,9 +5,9 @@ use Rattle.pcache_base.specs.declared.error.ErrorType.{ErrorType}
 use Rattle.pcache_base.specs.declared.poll.Poll.{Poll}
 use Rattle.pcache_base.specs.declared.poll.Poll.TheVariants.{Pending}
 use Rattle.pcache_cache.specs.Locking.{Waits}
-use Rattle.pcache_cache.specs.Looking.{Reads}
 use Rattle.pcache_cache.specs.Parts.{Parts}
 use Rattle.pcache_lock.specs.declared.lock.outcome.LockWaitOutcome.{LockWaitOutcome}
+use Rattle.pcache_request.specs.Looking.{Reads}
 use Rattle.pcache_shared_cache.specs.Seen.{Goes, Sees}
 use Rattle.pcache_shared_cache.specs.Shared.{Seated}
 
@@ -28,7 +28,7 @@ InTurns {A} call turns r s result =
 
 -- a read, of a cache whose parts began so
 abbrev pub ReadsBody : List Parts → (ℕ → Option ℕ) → CallOf (Option (List ℕ))
-ReadsBody firsts names r s result = Sees firsts names r.place r.seen s.seen (Reads result r.cache s.cache) × (s.place ≡ r.place)
+ReadsBody firsts names r s result = Sees firsts names r.place r.seen s.seen (λ p. Reads result r.cache s.cache p.store) × (s.place ≡ r.place)
 
 -- a question whether a wait is over
 abbrev pub AsksOfWait : List Parts → (ℕ → Option ℕ) → ℕ → CallOf LockWaitOutcome

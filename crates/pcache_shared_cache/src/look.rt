@@ -25,7 +25,8 @@ impl<M: EvictionManager, K: Mark, const N: usize> SharedCache<M, K, N> {
     ghost use Rattle.pcache_request.specs.Requests.{HoldsNothing, asks_for_hit, length_by, whole_by, without_reader};
     ghost use Rattle.pcache_store.specs.Readers.{reader_of};
     ghost use Rattle.pcache_cache.specs.Ending.{Disables, EndsRequest};
-    ghost use Rattle.pcache_cache.specs.Looking.{EndsHit, LetsGo, LooksUp, Reads, TakesFound};
+    ghost use Rattle.pcache_cache.specs.Looking.{EndsHit, LetsGo, LooksUp, TakesFound};
+    ghost use Rattle.pcache_request.specs.Looking.{Reads};
     ghost use Rattle.pcache_shared_cache.specs.Calls.{FindsBody};
     ghost use Rattle.pcache_shared_cache.specs.Seen.{Begins, Goes, Sees};
     ghost use Rattle.pcache_shared_cache.specs.Turns.{InTurns, ReadsBody};
@@ -153,7 +154,7 @@ impl<M: EvictionManager, K: Mark, const N: usize> SharedCache<M, K, N> {
     ) -> Result<Poll<Option<Bytes>>>
         requires { IsSome request.old.cache.reader }
         ensures sees { Sees self.now K.names request.old.place request.old.seen request.new.seen
-            (Reads result request.old.cache request.new.cache) }
+            (λ p. Reads result request.old.cache request.new.cache p.store) }
         ensures same { OnErr result (request.new.cache ≡ request.old.cache) }
         ensures kind { IfErr result (λ e. e ≡ OutOfMemory) }
         ensures reader { IsSome request.new.cache.reader }

@@ -7,11 +7,11 @@ use pcache_base::poll::Poll;
 use pcache_store::memory::MemCache;
 
 impl HttpCache<MemCache> {
-    ghost use Rattle.std.specs.Prelude.{◌≡◌, ◌↔◌, true, IfOk, IfErr, IfSome, OnOk, OnErr, IsSome, IsTrue, option_map};
-    ghost use Rattle.pcache_base.specs.declared.error.ErrorType.TheVariants.{OutOfMemory};
+    ghost use Rattle.std.specs.Prelude.{◌≡◌, ◌↔◌, true, IsSome, IsTrue};
     ghost use Rattle.pcache_lock.specs.Locks.{Locks};
-    ghost use Rattle.pcache_store.specs.Store.{Store, gives_piece, read_of, reader_after};
+    ghost use Rattle.pcache_store.specs.Store.{Store};
     ghost use Rattle.pcache_request.specs.Alone.{MayEndAlone, reads_alone};
+    ghost use Rattle.pcache_request.specs.Looking.{Reads};
     ghost use Rattle.pcache_request.specs.Phases.{MayFinishHit};
     ghost use Rattle.pcache_request.specs.Requests.{dropped_by, left_by, length_by, let_go_by, whole_by, without_reader};
 
@@ -38,14 +38,7 @@ impl HttpCache<MemCache> {
     pub fn read_body_alone(&mut self) -> Result<Poll<Option<Bytes>>>
         requires reader { IsSome self.old.reader }
         requires alone { reads_alone self.old.reader ≡ true }
-        ensures read { IfOk result (λ p.
-            IfSome self.old.reader (λ r. (s : Store) → p ≡ read_of s r)) }
-        ensures request { OnOk result ((s : Store)
-            → self.new ≡ record self.old { reader = option_map (reader_after s) self.old.reader }) }
-        ensures same_request { OnErr result (self.new ≡ self.old) }
-        ensures something { OnErr result
-            (IfSome self.old.reader (λ r. (s : Store) → gives_piece (read_of s r) ≡ true)) }
-        ensures kind { IfErr result (λ e. e ≡ OutOfMemory) }
+        ensures { (s : Store) → Reads result self.old self.new s }
     {
         let Some(reader) = &mut self.reader else {
             unreachable!()

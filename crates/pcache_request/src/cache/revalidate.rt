@@ -124,11 +124,9 @@ fn renew_fields(headers: &mut HeaderMap, answer: &HeaderMap) -> Result<()>
 impl<S: Storage> HttpCache<S> {
     ghost use Rattle.std.specs.Prelude.{◌≡◌, ◌⊎◌, IfOk, IfErr, OnOk, IsTrue, IfSome, option_map};
     ghost use Rattle.pcache_base.specs.declared.error.ErrorType.TheVariants.{OutOfMemory, InternalError};
-    ghost use Rattle.pcache_lock.specs.declared.lock.status.LockStatus.TheVariants.{Done};
     ghost use Rattle.pcache_meta.specs.Header.{shown, shown_fields};
-    ghost use Rattle.pcache_request.specs.Renewals.{LacksRoom, renewed, renewed_by, renewed_names, header_renewed};
-    ghost use Rattle.pcache_request.specs.Locking.{Settles};
-    ghost use Rattle.pcache_request.specs.Renewing.{Renews};
+    ghost use Rattle.pcache_request.specs.Renewals.{LacksRoom, renewed_by, renewed_names, header_renewed};
+    ghost use Rattle.pcache_request.specs.Renewing.{IsRenewed, Renews};
     ghost use Rattle.pcache_request.specs.Reports.{name_of};
     ghost use Rattle.pcache_request.specs.Sides.{lock_side, store_side};
     ghost use Rattle.pcache_request.specs.Stale.{MayRevalidate};
@@ -146,10 +144,9 @@ impl<S: Storage> HttpCache<S> {
         meta: CacheMeta,
     ) -> Result<bool>
         requires { MayRevalidate self.old }
-        ensures request { self.new ≡ renewed meta self.old }
         ensures renews { Renews result meta self.old
             (store_side S.state S.past storage.old) (store_side S.state S.past storage.new) }
-        ensures settles { Settles Done self.old
+        ensures goes_on { IsRenewed meta self.old self.new
             (lock_side L.table L.past lock.old) (lock_side L.table L.past lock.new) }
     {
         let Renewal {
@@ -168,10 +165,9 @@ impl<S: Storage> HttpCache<S> {
         meta: CacheMeta,
     ) -> Renewal
         requires { MayRevalidate self.old }
-        ensures request { self.new ≡ renewed meta self.old }
         ensures renews { Renews result.updated meta self.old
             (store_side S.state S.past storage.old) (store_side S.state S.past storage.new) }
-        ensures settles { Settles Done self.old
+        ensures goes_on { IsRenewed meta self.old self.new
             (lock_side L.table L.past lock.old) (lock_side L.table L.past lock.new) }
         ensures released { result.released ≡ option_map name_of self.old.held }
     {
@@ -204,8 +200,7 @@ impl<S: Storage> HttpCache<S> {
         meta: CacheMeta,
     ) -> Option<LockName>
         requires { MayRevalidate self.old }
-        ensures request { self.new ≡ renewed meta self.old }
-        ensures settles { Settles Done self.old
+        ensures goes_on { IsRenewed meta self.old self.new
             (lock_side L.table L.past lock.old) (lock_side L.table L.past lock.new) }
         ensures released { result ≡ option_map name_of self.old.held }
     {

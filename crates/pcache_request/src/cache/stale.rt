@@ -8,14 +8,13 @@ use pcache_meta::header::ResponseHeader;
 use pcache_store::storage::Storage;
 
 impl<S: Storage> HttpCache<S> {
-    ghost use Rattle.std.specs.Prelude.{◌≡◌, ◌↔◌, IsTrue, option_map};
+    ghost use Rattle.std.specs.Prelude.{◌≡◌, ◌↔◌, IsTrue};
     ghost use Rattle.pcache_request.specs.Phases.{IsStale};
     ghost use Rattle.pcache_request.specs.Releasing.{MayRelease, status_for};
-    ghost use Rattle.pcache_request.specs.Reports.{name_of};
-    ghost use Rattle.pcache_request.specs.Locking.{Settles};
+    ghost use Rattle.pcache_request.specs.Renewing.{ServesUncacheable};
     ghost use Rattle.pcache_request.specs.Sides.{lock_side};
     ghost use Rattle.pcache_meta.specs.Header.{shown};
-    ghost use Rattle.pcache_request.specs.Stale.{MayRevalidate, updating, uncacheable};
+    ghost use Rattle.pcache_request.specs.Stale.{MayRevalidate, updating};
 
     /// Serves the stale body while another request renews it.
     /// Requires the phase Stale; ask `phase().is_stale()`.
@@ -46,10 +45,9 @@ impl<S: Storage> HttpCache<S> {
     ) -> Option<LockName>
         requires stale { MayRevalidate self.old }
         requires reason { MayRelease reason self.old.held }
-        ensures request { self.new ≡ uncacheable (shown header) reason self.old }
-        ensures settles { Settles (status_for (L.custom_status lock.old) reason) self.old
+        ensures { ServesUncacheable result (status_for (L.custom_status lock.old) reason)
+            (shown header) reason self.old self.new
             (lock_side L.table L.past lock.old) (lock_side L.table L.past lock.new) }
-        ensures released { result ≡ option_map name_of self.old.held }
     {
         let Some(meta) = &mut self.meta else {
             unreachable!()

@@ -5,6 +5,6 @@ pub invariant_of-self : goal.invariant_of-self
 invariant_of-self g c =
     let limits = g.M.EvictionManager.limits c.self.inside.manager in
     let tracked = g.M.EvictionManager.tracked c.self.inside.manager in (
-      kept_left c.self.inside.weighing limits tracked c.self.inside.store.state c.finish_hit_handler.new.storage.state c.args.request.now.cache.reader c.finish_hit_handler.ensures.store c.self.invariant.0,
+      kept_left c.self.inside.weighing limits tracked c.self.inside.store.state c.finish_hit_handler.new.storage.state c.args.request.now.cache.reader c.finish_hit_handler.ensures.ends.store c.self.invariant.0,
       c.self.invariant.1,
     )

@@ -10,7 +10,7 @@ returns g c =
     let r = c.args.request.now.cache in
     let new = c.set_meta.new.store.state in
     let key = c.in-Some-Some.key.now in
-    let made = c.renew_request-released.ensures.request in
+    let made = c.renew_request-released.ensures.goes_on.request in
     let keyed : Some key ≡ r.key = c.in-Some-Some.ensures.value ∙ ap (λ (x : Request). x.key) made in
     let given : Some c.in-Some-Some.meta.now ≡ Some (renewed_by c.args.meta r.meta) = c.in-Some-Some.ensures' ∙ ap (λ (x : Request). x.meta) made in
     let meta : c.in-Some-Some.meta.now ≡ renewed_by c.args.meta r.meta = cc in
@@ -20,13 +20,12 @@ returns g c =
     let with_key = subst (λ (k : Option Key). OnOk c.set_meta.result (IfRoom k (weight_with p.weighing (renewed_by c.args.meta r.meta) k p.store) p (KeepsBodies p.store new))) keyed with_meta in
     rw (← c.self.view_is) (record {
       takes = record {
-        request = search rules;
+        goes_on = search rules;
         renews = search rules;
         kind = search rules;
         only = λ of its only. only_renewed of inside.weighing (g.M.EvictionManager.limits inside.manager) c.in-Some-Some.meta.now key c.set_meta.result _ _ c.set_meta.ensures.renews
             (λ b there. numbered inside.store.state inside.store.past c.headline.ensures.bodies c.headline.ensures.kept (slot key) b there) (subst (IsItsKey of) (sym keyed) its) only;
         room = with_key;
-        settles = search rules;
         rest = search rules;
       };
     })

@@ -1,24 +1,23 @@
 use Rattle.pcache_shared_cache.proofs.Words.{IsSome, ap, refl, subst, sym, ◌∙◌, Seated}
 use Rattle.pcache_shared_cache.proofs.Logs.{sees_by, lent, sees_last}
-use Rattle.pcache_shared_cache.proofs.Unlocked.{gives_with, keeps_phase, keeps_reader, left_with, read_with}
+use Rattle.pcache_shared_cache.proofs.Unlocked.{keeps_phase, keeps_reader}
 use Rattle.pcache_shared_cache.proofs.shared.SharedCache.read_body.Goals as goal
 
 pub returns-then-reads_alone-clause-sees : goal.returns-then-reads_alone-clause-sees
 returns-then-reads_alone-clause-sees g c =
-    let old = c.request.inside.request.cache in
     let read = c.read_body_alone in
     rw (← c.request.view_is) (sees_last c.args.self.now g.K.Mark.names c.request.inside.sight.place c.request.inside.sight.log c.headline.ensures
-    (λ p. record { read = read_with p.store read.result old.reader read.ensures.read; request = left_with p.store read.result old read.new.self read.ensures.request; same_request = read.ensures.same_request; something = gives_with p.store read.result old.reader read.ensures.something; kind = read.ensures.kind }))
+    (λ p. read.ensures p.store))
 
 pub returns-then-reads_alone-clause-reader : goal.returns-then-reads_alone-clause-reader
 returns-then-reads_alone-clause-reader g c =
     let read = c.read_body_alone in
-    keeps_reader read.result c.request.inside.request.cache read.new.self read.ensures.request read.ensures.same_request (subst (λ (s : Seated). IsSome s.cache.reader) (sym c.request.view_is) c.requires)
+    keeps_reader read.result c.request.inside.request.cache read.new.self read.ensures (subst (λ (s : Seated). IsSome s.cache.reader) (sym c.request.view_is) c.requires)
 
 pub returns-then-reads_alone-clause-phase : goal.returns-then-reads_alone-clause-phase
 returns-then-reads_alone-clause-phase g c =
     let read = c.read_body_alone in
-    keeps_phase read.result c.request.inside.request.cache read.new.self read.ensures.request read.ensures.same_request ∙ ap (λ (s : Seated). s.cache.phase) c.request.view_is
+    keeps_phase read.result c.request.inside.request.cache read.new.self read.ensures ∙ ap (λ (s : Seated). s.cache.phase) c.request.view_is
 
 pub returns-clause-sees : goal.returns-clause-sees
 returns-clause-sees g c =
