@@ -54,7 +54,7 @@ pub(crate) fn meta(request: &mut OpenRequest, meta: &CacheMeta) -> Reply
             request.cache.set_cache_meta(copy);
             Reply::Done
         }
-        Err(refused) => Reply::Refused(refused.etype()),
+        Err(AllocError) => Reply::Refused(ErrorType::OutOfMemory),
     }
 }
 
@@ -113,7 +113,7 @@ fn begin_write(
     let slot = key.slot();
     let copy = match boxed_copy(*events.allocator(), meta) {
         Ok(copy) => copy,
-        Err(refused) => return Reply::Refused(refused.etype()),
+        Err(AllocError) => return Reply::Refused(ErrorType::OutOfMemory),
     };
     let WriteBegin {
         released,

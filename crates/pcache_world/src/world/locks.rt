@@ -20,6 +20,7 @@ ghost use Rattle.pcache_store.specs.Store.{Store};
 
 use crate::world::notes::note_release;
 use crate::world::request::{OpenRequest, permit_in, permit_released};
+use pcache_base::error::ErrorType;
 use pcache_base::moment::Moment;
 use pcache_base::poll::Poll;
 use pcache_base::reason::NoCacheReason;
@@ -30,6 +31,7 @@ use pcache_lock::lock::{CacheLock, LockWaitOutcome, Locked};
 use pcache_meta::header::ResponseHeader;
 use pcache_request::cache::HttpCache;
 use pcache_store::memory::MemCache;
+use std::alloc::AllocError;
 
 /// Takes the lock into use, or out of it.
 pub(crate) fn set_lock(request: &mut OpenRequest, is_used: bool) -> Reply
@@ -196,7 +198,7 @@ pub(crate) fn uncacheable(
     }
     let copy = match header.copied() {
         Ok(copy) => copy,
-        Err(refused) => return Reply::Refused(refused.etype()),
+        Err(AllocError) => return Reply::Refused(ErrorType::OutOfMemory),
     };
     let released = request.cache.revalidate_uncacheable(lock, copy, reason);
     note_release(permit_in(released), events);

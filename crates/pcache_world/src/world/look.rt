@@ -20,7 +20,7 @@ ghost use Rattle.pcache_world.specs.Opens.{pair_read};
 use crate::world::notes::note_shut;
 use crate::world::parts::Parts;
 use crate::world::request::{OpenRequest, hold, permit_in, write_number};
-use pcache_base::error::Result;
+use pcache_base::error::{ErrorType, Result};
 use pcache_base::key::{CacheHashKey, CacheKey};
 use pcache_base::moment::Moment;
 use pcache_evict::eviction::EvictionManager;
@@ -111,7 +111,7 @@ fn look_up(
     // Copied before the look-up: once that has an effect, it is too late to fail for memory.
     match kept_meta(*events.allocator(), store, key) {
         Ok(kept) => look_up_keeping(request, store, lock, events, now, kept),
-        Err(refused) => Reply::Refused(refused.etype()),
+        Err(AllocError) => Reply::Refused(ErrorType::OutOfMemory),
     }
 }
 

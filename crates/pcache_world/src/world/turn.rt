@@ -40,7 +40,7 @@ use pcache_lock::lock::CacheLock;
 use pcache_put::boxed::Boxed;
 use pcache_request::cache::{CacheOptionOverrides, HttpCache};
 use pcache_store::memory::MemCache;
-use std::alloc::Global;
+use std::alloc::{AllocError, Global};
 use std::collections::{BTreeMap, btree_map};
 
 /// One call over the parts, of a request or a put: the reply is WrongCall, or the call is made.
@@ -325,7 +325,7 @@ fn set_key(request: &mut OpenRequest, key: &CacheKey) -> Reply
             request.cache.set_cache_key(copy);
             Reply::Done
         }
-        Err(refused) => Reply::Refused(refused.etype()),
+        Err(AllocError) => Reply::Refused(ErrorType::OutOfMemory),
     }
 }
 

@@ -224,12 +224,13 @@ impl<M: EvictionManager, P: PutPolicy> World<M, P> {
     }
 
     // A call of a request or a put.
-    fn step_over_parts(&mut self, call: Call) -> Result<Reply, AllocError>
+    fn step_over_parts(&mut self, call: Call) -> Result<Reply>
         requires parts { files_in call.act ≡ None }
         ensures ok { IfOk result (λ reply. Adds self.old call reply self.new) }
         ensures legal { HasLegal self.new }
         ensures puts { FollowPolicy P.says (reverse self.new.history) }
         ensures err { OnErr result (self.new ≡ self.old) }
+        ensures kind { IfErr result (λ e. e ≡ OutOfMemory) }
     {
         // For the prover: the number of requests is bounded, and so is that of their read locks.
         let _open = self.requests.len();
@@ -251,13 +252,14 @@ impl<M: EvictionManager, P: PutPolicy> World<M, P> {
     }
 
     // A save with no files.
-    fn save_nowhere(&mut self, call: Call) -> Result<Reply, AllocError>
+    fn save_nowhere(&mut self, call: Call) -> Result<Reply>
         requires save { files_in call.act ≡ Some Save }
         ensures files { IfOk result (λ reply. reply ≡ Refused Io) }
         ensures ok { IfOk result (λ reply. Adds self.old call reply self.new) }
         ensures legal { HasLegal self.new }
         ensures puts { FollowPolicy P.says (reverse self.new.history) }
         ensures err { OnErr result (self.new ≡ self.old) }
+        ensures kind { IfErr result (λ e. e ≡ OutOfMemory) }
     {
         make_ready(&mut self.history, &mut self.start, &self.parts)?;
         let noted = Reply::Refused(ErrorType::Io);
@@ -272,13 +274,14 @@ impl<M: EvictionManager, P: PutPolicy> World<M, P> {
     }
 
     // A load with no files.
-    fn load_nowhere(&mut self, call: Call) -> Result<Reply, AllocError>
+    fn load_nowhere(&mut self, call: Call) -> Result<Reply>
         requires load { files_in call.act ≡ Some Load }
         ensures files { IfOk result (λ reply. HasNoFiles (Some Load) reply) }
         ensures ok { IfOk result (λ reply. Adds self.old call reply self.new) }
         ensures legal { HasLegal self.new }
         ensures puts { FollowPolicy P.says (reverse self.new.history) }
         ensures err { OnErr result (self.new ≡ self.old) }
+        ensures kind { IfErr result (λ e. e ≡ OutOfMemory) }
     {
         self.history.reserve(1)?;
         let is_early = self.start.is_none();
