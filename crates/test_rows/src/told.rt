@@ -1,7 +1,7 @@
 //! The result of a call, as text.
 use pcache_base::error::{Error, Result};
 use pcache_base::key::HashBinary;
-use std::alloc::Global;
+use std::alloc::{AllocError, Global};
 use std::fmt::{Debug, Display, Write};
 
 /// The result of a call, as text.
@@ -127,10 +127,10 @@ impl Told {
     }
 
     /// Adds a text, or the error in its place.
-    pub fn text(&mut self, text: Result<String>) {
+    pub fn text(&mut self, text: Result<String, AllocError>) {
         match text {
             Ok(text) => self.say(text.as_str()),
-            Err(refused) => self.refused(&refused),
+            Err(refused) => self.refused(&refused.into()),
         }
     }
 

@@ -6,7 +6,7 @@ use pcache_base::error::Result;
 use pcache_base::key::{
     CacheHashKey, CacheKey, CompactCacheKey, HashBinary, hash_key, hash_u8, str2hex,
 };
-use std::alloc::Global;
+use std::alloc::{AllocError, Global};
 
 // A key with the tag `1`, and the bytes of the next one.
 #[derive(Drop)]
@@ -100,7 +100,7 @@ fn tell_of_text(call: &'static str, told: &mut Told) {
 fn of_compact(alloc: Global, key: &CacheKey, call: &'static str, told: &mut Told) {
     match key.to_compact() {
         Ok(compact) => tell_compact(alloc, key, &compact, call, told),
-        Err(refused) => told.refused(&refused),
+        Err(refused) => told.refused(&refused.into()),
     }
 }
 
@@ -128,11 +128,11 @@ fn hashes<K: CacheHashKey>(alloc: Global, key: &K, told: &mut Told) {
     told.text(key.combined(alloc));
 }
 
-fn variance(variance: Result<Option<String>>, told: &mut Told) {
+fn variance(variance: Result<Option<String>, AllocError>, told: &mut Told) {
     match variance {
         Ok(Some(variance)) => told.say(variance.as_str()),
         Ok(None) => told.say("none"),
-        Err(refused) => told.refused(&refused),
+        Err(refused) => told.refused(&refused.into()),
     }
 }
 
@@ -167,7 +167,7 @@ fn is_told_apart(key: &CacheKey, compact: &CompactCacheKey) -> bool {
     }
 }
 
-fn without_variance(key: &CacheKey) -> Result<CompactCacheKey> {
+fn without_variance(key: &CacheKey) -> Result<CompactCacheKey, AllocError> {
     let mut plain = key.copied()?;
     plain.remove_variance_key();
     plain.to_compact()

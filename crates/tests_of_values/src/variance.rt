@@ -1,10 +1,9 @@
 //! Which values of which names a variance depends on: upstream's `test_basic`,
 //! `test_value_ordering` and `test_value_overriding` in our own words.
 use crate::rows::{Desk, Told, play, rest, word};
-use pcache_base::error::Result;
 use pcache_base::key::HashBinary;
 use pcache_base::variance::VarianceBuilder;
-use std::alloc::Global;
+use std::alloc::{AllocError, Global};
 
 #[derive(Drop)]
 struct Builds {
@@ -49,7 +48,7 @@ fn add(
     kind: &str,
     name: &'static str,
     value: &'static [u8],
-) -> Result<()> {
+) -> Result<(), AllocError> {
     match kind {
         "lent" => builder.add_value(name, value),
         "value" => builder.add_owned_value(name, value.to_vec(alloc)?),
