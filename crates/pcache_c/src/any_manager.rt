@@ -2,7 +2,6 @@
 ghost use Rattle.std.specs.Prelude.{◌≡◌, IfOk};
 ghost use Rattle.pcache_c.specs.AnyManagers.{HasNone, IsNamed, named_by};
 
-use pcache_base::error::Result;
 use pcache_base::moment::Moment;
 use pcache_base::seed::Seed;
 use pcache_evict::eviction::{CacheEntryKey, EvictionManager, simple_lru};
@@ -134,7 +133,7 @@ impl EvictionManager for AnyManager {
         }
     }
 
-    fn entries(&self) -> Result<Vec<(CacheEntryKey, usize)>> {
+    fn entries(&self) -> Result<Vec<(CacheEntryKey, usize)>, AllocError> {
         match self {
             AnyManager::Lru(m) => EvictionManager::entries(m),
             AnyManager::Fifo(m) => EvictionManager::entries(m),
@@ -148,7 +147,7 @@ impl EvictionManager for AnyManager {
         item: CacheEntryKey,
         size: usize,
         fresh_until: Moment,
-    ) -> Result<Vec<CacheEntryKey>> {
+    ) -> Result<Vec<CacheEntryKey>, AllocError> {
         match self {
             AnyManager::Lru(m) => EvictionManager::admit(m, item, size, fresh_until),
             AnyManager::Fifo(m) => EvictionManager::admit(m, item, size, fresh_until),
@@ -162,7 +161,7 @@ impl EvictionManager for AnyManager {
         item: &CacheEntryKey,
         delta: usize,
         max_weight: Option<usize>,
-    ) -> Result<Vec<CacheEntryKey>> {
+    ) -> Result<Vec<CacheEntryKey>, AllocError> {
         match self {
             AnyManager::Lru(m) => EvictionManager::increment_weight(m, item, delta, max_weight),
             AnyManager::Fifo(m) => EvictionManager::increment_weight(m, item, delta, max_weight),
@@ -180,7 +179,12 @@ impl EvictionManager for AnyManager {
         }
     }
 
-    fn access(&mut self, item: &CacheEntryKey, size: usize, fresh_until: Moment) -> Result<bool> {
+    fn access(
+        &mut self,
+        item: &CacheEntryKey,
+        size: usize,
+        fresh_until: Moment,
+    ) -> Result<bool, AllocError> {
         match self {
             AnyManager::Lru(m) => EvictionManager::access(m, item, size, fresh_until),
             AnyManager::Fifo(m) => EvictionManager::access(m, item, size, fresh_until),

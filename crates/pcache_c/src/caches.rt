@@ -17,7 +17,7 @@ ghost use Rattle.pcache_c.specs.Reached.{OnRequest};
 ghost use Rattle.pcache_c.specs.Requests.{IsUnchanged, Renews, SaysHeld, SaysPhase, ServesOn, SetsMeta, meta_shown};
 
 use crate::any_manager::{AnyManager, Policy, policy_of};
-use crate::codes::{BAD_HANDLE, BAD_VALUE, NO_MEMORY, OK, WRONG_KIND, code_of};
+use crate::codes::{BAD_HANDLE, BAD_VALUE, NO_MEMORY, OK, WRONG_KIND};
 use crate::handle::PcacheHandle;
 use crate::managers::{seed_of, watermark_of};
 use crate::object::Object;
@@ -177,7 +177,7 @@ fn cache_weighing(
             let served = Served::new(alloc, seed, manager, age_timeout, weighing);
             keep(alloc, cache, served)
         }
-        Err(e) => code_of(e),
+        Err(_) => NO_MEMORY,
     }
 }
 

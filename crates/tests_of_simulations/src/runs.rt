@@ -13,7 +13,7 @@ use pcache_base::text::Text;
 use pcache_evict::eviction::ordered::OrderedManager;
 use pcache_evict::eviction::{CacheEntryKey, EvictionManager, sharded_lru, simple_lru};
 use pcache_policies::{clock, fifo, s3_fifo, sieve, two_queues};
-use std::alloc::Global;
+use std::alloc::{AllocError, Global};
 use std::process::Abort;
 use std::time::Duration;
 
@@ -63,7 +63,7 @@ impl Desk for Made {
 
 fn tell_run<M: OrderedManager>(
     alloc: Global,
-    manager: Result<M>,
+    manager: Result<M, AllocError>,
     cache: &'static str,
     requests: &'static str,
     told: &mut Told,
@@ -79,7 +79,7 @@ fn tell_run<M: OrderedManager>(
             tell_requests(alloc, &mut run, requests, told);
             tell_counts(&run, told);
         }
-        Err(refused) => told.refused(&refused),
+        Err(refused) => told.refused(&refused.into()),
     }
 }
 
@@ -102,7 +102,7 @@ fn tell_requests<M: OrderedManager>(
 fn make<M: OrderedManager>(alloc: Global, run: &mut Run<M>, asked: &'static str) -> Result<()> {
     let request = request_of(alloc, asked)?;
     if run.counts.requests == 0 {
-        return run.request(&request);
+        return Ok(run.request(&request)?);
     }
     let mut requests = Vec::new(alloc);
     requests.push(request)?;

@@ -1,7 +1,6 @@
 //! Which values of which names a variance depends on: upstream's `test_basic`,
 //! `test_value_ordering` and `test_value_overriding` in our own words.
 use crate::rows::{Desk, Told, play, rest, word};
-use pcache_base::error::Result;
 use pcache_base::key::HashBinary;
 use pcache_base::variance::VarianceBuilder;
 use std::alloc::{AllocError, Global};

@@ -19,7 +19,7 @@ pub fn key_named(alloc: Global, name: &'static str) -> CacheKey {
 
 /// The same key as purges take it.
 pub fn compact_named(alloc: Global, name: &'static str) -> Result<CompactCacheKey> {
-    key_named(alloc, name).to_compact()
+    Ok(key_named(alloc, name).to_compact()?)
 }
 
 /// The entry of a key with this number, or the key's only one.
