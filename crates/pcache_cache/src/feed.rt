@@ -12,6 +12,7 @@ ghost use Rattle.pcache_put.specs.Steps.{Done, RepeatsResult, IsStageAfter};
 use crate::cache::Cache;
 use crate::put::{LeftWrite, PendingPut};
 use crate::weighing::{Weighing, ending_weight};
+use bytes::Bytes;
 use pcache_base::error::Result;
 use pcache_base::moment::Moment;
 use pcache_base::reason::NoCacheReason;
@@ -44,11 +45,11 @@ impl<M: EvictionManager, K> Cache<M, K> {
 
     /// `CachePutCtx::cache_put`: takes in the next piece of the response. Returns why nothing is stored, once that is so. Fails
     /// when memory runs out, if all numbers of writes are used, if the head can't be read, and if the body is longer than its
-    /// limit. The write is dropped then.
+    /// limit. The write is dropped then. A body in one piece is not copied, and keeps the piece; one in several is copied once.
     pub fn cache_put<C: CachePut>(
         &mut self,
         put: &mut PendingPut<C, K>,
-        piece: &[u8],
+        piece: &Bytes,
         now: Moment,
     ) -> Result<Option<NoCacheReason>>
         ensures takes { TakesIn result (C.says put.old.put.policy) put.old.put put.new.put

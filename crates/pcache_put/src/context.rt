@@ -13,6 +13,7 @@ use crate::policy::CachePut;
 use crate::reading::ReadPiece;
 use crate::report::{PieceEnd, PieceReport, PutEnd, PutOutcome, PutReport};
 use crate::stage::{Filling, Stage, Taken, declines, put_stage, refuses, stage_after, take_stage};
+use bytes::Bytes;
 use pcache_base::error::{Error, Result};
 use pcache_base::key::CacheKey;
 use pcache_base::moment::Moment;
@@ -160,11 +161,14 @@ impl<C: CachePut, S: Storage> CachePutCtx<C, S> {
 
     /// Takes in the next piece of the response, at a moment. Returns why nothing is stored, once that is so.
     ///
+    /// The part of the body shares the piece, and is handed to the storage so; `ResponseParse::take_piece` says when it is a copy. Of
+    /// a body in one piece the storage may keep the piece, and what it was cut from, as long as the body.
+    ///
     /// Fails when memory runs out, if all numbers of writes are used, if the head can't be read, and if the body is longer
     /// than its limit. The write is dropped then. Bytes after a whole body are ignored, without an error.
     pub fn cache_put(
         &mut self,
-        piece: &[u8],
+        piece: &Bytes,
         storage: &mut S,
         now: Moment,
     ) -> Result<Option<NoCacheReason>>
@@ -208,7 +212,12 @@ impl<C: CachePut, S: Storage> CachePutCtx<C, S> {
 
     /// `cache_put` with a result that says what it did. A write that it would drop is returned, for
     /// the caller to drop, who may want its number first.
-    pub fn take_piece(&mut self, piece: &[u8], storage: &mut S, now: Moment) -> PieceReport<S::Miss>
+    pub fn take_piece(
+        &mut self,
+        piece: &Bytes,
+        storage: &mut S,
+        now: Moment,
+    ) -> PieceReport<S::Miss>
         ensures policy { self.new.policy ≡ self.old.policy }
         ensures key { self.new.key ≡ self.old.key }
         ensures limit { limit_of self.new.size ≡ limit_of self.old.size }
@@ -257,8 +266,8 @@ impl<C: CachePut, S: Storage> CachePutCtx<C, S> {
     }
 
     /// The first half of `take_piece`, which needs no storage: reads the next piece of the response, at a moment, and asks the policy
-    /// once the head has come. What was read is to be stored by `store_piece` next.
-    pub fn read_piece(&mut self, piece: &[u8], now: Moment) -> ReadPiece
+    /// once the head has come. What was read shares the piece, as `cache_put` says, and is to be stored by `store_piece` next.
+    pub fn read_piece(&mut self, piece: &Bytes, now: Moment) -> ReadPiece
         ensures read { ReadsPiece (C.says self.old.policy) self.old self.new
             (record { bytes = piece.now; now = now }) result }
         ensures at { IsReadAt self.new.stage result }

@@ -28,6 +28,7 @@ use crate::policy::{CachePut, judge};
 use crate::reading::{BodyPart, ReadPiece};
 use crate::report::{PutEnd, Written};
 use crate::stage::{Filling, SPENT, Stage, Taken, declines, goes_on, refuses};
+use bytes::Bytes;
 use pcache_base::error::{Error, Result};
 use pcache_base::key::CacheKey;
 use pcache_base::moment::Moment;
@@ -138,7 +139,7 @@ impl<C: CachePut> Intake<C> {
     }
 
     // Reads a piece of the head, if it can be read.
-    fn read_opening(&mut self, piece: &[u8], now: Moment) -> Result<ReadPiece>
+    fn read_opening(&mut self, piece: &Bytes, now: Moment) -> Result<ReadPiece>
         ensures same { self.new ≡ record self.old { parser = self.new.parser } }
         ensures head { IfOk result IsOfHead }
         ensures opened { IfOk result (λ o. (pieces : List Piece)
@@ -165,7 +166,7 @@ impl<C: CachePut> Intake<C> {
     }
 
     // Reads a piece of the body, if it can be read, and returns what is to be written of it.
-    fn read_body(&mut self, piece: &[u8]) -> Result<Option<BodyPart>>
+    fn read_body(&mut self, piece: &Bytes) -> Result<Option<BodyPart>>
         ensures same { self.new ≡ record self.old { parser = self.new.parser } }
         ensures due { IfOk result (λ part. (pieces : List Piece) (now : ℕ) (meta : Meta)
             (body : List ℕ)
@@ -239,7 +240,7 @@ impl<C: CachePut> Intake<C> {
     }
 
     // Reads a piece while the head has not ended.
-    pub(crate) fn read_head(&mut self, piece: &[u8], now: Moment) -> ReadPiece
+    pub(crate) fn read_head(&mut self, piece: &Bytes, now: Moment) -> ReadPiece
         ensures same { self.new ≡ record self.old { parser = self.new.parser } }
         ensures head { IsOfHead result }
         ensures opened { (pieces : List Piece)
@@ -256,7 +257,7 @@ impl<C: CachePut> Intake<C> {
     }
 
     // Reads a piece while the body is written.
-    pub(crate) fn read_more(&mut self, piece: &[u8]) -> ReadPiece
+    pub(crate) fn read_more(&mut self, piece: &Bytes) -> ReadPiece
         ensures same { self.new ≡ record self.old { parser = self.new.parser } }
         ensures body { IsOfBody result }
         ensures due { (pieces : List Piece) (now fresh_until : ℕ) (f : Option Filled)

@@ -1,5 +1,5 @@
 //! A response that comes in pieces.
-ghost use Rattle.std.specs.Prelude.{◌≡◌, ◌⊎◌, ℕ, ◌<◌, ◌^◌, List, [], ◌∷◌, ◌++◌, length, IsOk, IfOk, IfErr, OnOk, OnErr, Option, Ok, Err, IfNone, IfSome, None, Some};
+ghost use Rattle.std.specs.Prelude.{◌≡◌, ◌⊎◌, ℕ, ◌<◌, ◌≤◌, ◌^◌, List, [], ◌∷◌, ◌++◌, length, drop, IsOk, IfOk, IfErr, OnOk, OnErr, Option, Ok, Err, IfNone, IfSome, None, Some};
 ghost use Rattle.pcache_response.specs.Head.{ReadsHeader};
 ghost use Rattle.pcache_response.specs.Response.{SpellsLength, HasSize, is_whole, IsUnreadable, IsComplete};
 ghost use Rattle.pcache_meta.specs.declared.header.ResponseHeader.{ResponseHeader};
@@ -10,6 +10,7 @@ ghost use Rattle.pcache_response.specs.Progress.{Parsed, AtHead, AtBody, AtEnd, 
 
 use crate::head::read_header;
 use crate::head_end::{HeadBytes, HeadPiece};
+use crate::piece::Piece;
 use bytes::Bytes;
 use http_header::CONTENT_LENGTH;
 use pcache_base::error::{Error, ErrorType, Result};
@@ -92,16 +93,20 @@ fn read_head(alloc: Global, bytes: Vec<u8>) -> Result<((ResponseHeader, bool), O
     Ok(((head, size == Some(0)), size))
 }
 
-// The body's part of the bytes, if there is one, and how many bytes of the body are missing after them.
+// The body's part of what is behind a piece's first bytes, if there is one, and how many bytes of the body are missing after it.
 fn read_body(
     alloc: Global,
     left: Option<usize>,
-    bytes: &[u8],
+    piece: &Piece<'_>,
+    used: usize,
 ) -> Result<(Option<(Bytes, bool)>, Option<usize>), AllocError>
-    ensures left { IfOk result (λ r. r.1 ≡ left_behind left (length bytes.now)) }
-    ensures part { IfOk result (λ r. body_of r.0 ≡ body_parts left bytes.now) }
+    requires { used ≤ length piece.now }
+    ensures left { IfOk result (λ r.
+        r.1 ≡ left_behind left (length (drop used piece.now))) }
+    ensures part { IfOk result (λ r. body_of r.0 ≡ body_parts left (drop used piece.now)) }
     ensures whole { left ≡ Some 0 → IsOk result }
 {
+    let bytes = piece.rest(used);
     let count = match left {
         Some(left) => left.min(bytes.len()),
         None => bytes.len(),
@@ -113,23 +118,23 @@ fn read_body(
     if count == 0 {
         return Ok((None, after));
     }
-    let body = Bytes::copy_from_slice(alloc, &bytes[..count])?;
+    let body = piece.part(alloc, used, count)?;
     Ok((Some((body, after == Some(0))), after))
 }
 
 // Takes in a piece while the head has not ended.
-fn take_head(alloc: Global, head: HeadBytes, piece: &[u8]) -> Result<(Progress, PieceParts)>
+fn take_head(alloc: Global, head: HeadBytes, piece: &Piece<'_>) -> Result<(Progress, PieceParts)>
     ensures joined { IfOk result (λ r.
         TakenIn (parsed_of r.0) (head ++ piece.now) (add_all nothing (parts_of r.1))) }
     ensures gives { IfOk result (λ r. GivesParts (AtHead head) piece.now (parts_of r.1)) }
     ensures invalid { IfErr result (λ e. e ≡ InvalidHttpHeader → IsUnreadable (head ++ piece.now)) }
     ensures kind { IfErr result (λ e. (e ≡ OutOfMemory) ⊎ (e ≡ InvalidHttpHeader)) }
 {
-    match head.join(piece)? {
+    match head.join(piece.as_slice())? {
         HeadPiece::Open(head) => Ok((Progress::Head(head), no_parts())),
         HeadPiece::Ended(head, used) => {
             let (head, size) = read_head(alloc, head)?;
-            let (body, left) = read_body(alloc, size, &piece[used..])?;
+            let (body, left) = read_body(alloc, size, piece, used)?;
             let parts = PieceParts {
                 head: Some(head),
                 body,
@@ -150,7 +155,7 @@ fn no_parts() -> PieceParts
 }
 
 // Takes in a piece.
-fn take_in(alloc: Global, progress: Progress, piece: &[u8]) -> Result<(Progress, PieceParts)>
+fn take_in(alloc: Global, progress: Progress, piece: &Piece<'_>) -> Result<(Progress, PieceParts)>
     ensures joined { IfOk result (λ r. (bytes : List ℕ) (g : Given)
         → TakenIn (parsed_of progress) bytes g
         → TakenIn (parsed_of r.0) (bytes ++ piece.now) (add_all g (parts_of r.1))) }
@@ -169,7 +174,7 @@ fn take_in(alloc: Global, progress: Progress, piece: &[u8]) -> Result<(Progress,
     match progress {
         Progress::Head(head) => take_head(alloc, head, piece),
         Progress::Body(left) => {
-            let (body, left) = read_body(alloc, left, piece)?;
+            let (body, left) = read_body(alloc, left, piece, 0)?;
             let parts = PieceParts { head: None, body };
             Ok((Progress::Body(left), parts))
         }
@@ -278,11 +283,8 @@ impl ResponseParse {
         }
     }
 
-    /// Takes in the next piece, and returns the parts that it brings. The parts of all pieces together are
-    /// what the bytes of all pieces say together, however they were split.
-    ///
-    /// Fails when memory runs out, and if the head has ended and can't be read.
-    pub fn take_piece(&mut self, piece: &[u8]) -> Result<PieceParts>
+    // Takes in a piece, which is lent or can be shared.
+    fn take(&mut self, piece: &Piece<'_>) -> Result<PieceParts>
         ensures joined { IfOk result (λ parts. (bytes : List ℕ) (g : Given)
             → TakenIn self.old bytes g
             → TakenIn self.new (bytes ++ piece.now) (add_all g (parts_of parts))) }
@@ -293,9 +295,6 @@ impl ResponseParse {
             → IsUnreadable (bytes ++ piece.now)) }
         ensures kind { IfErr result (λ e.
             (e ≡ OutOfMemory) ⊎ (e ≡ InvalidHttpHeader) ⊎ (self.old ≡ HasFailed e)) }
-
-        // After the end, and after a whole body, pieces are ignored. After a failure each fails with the same
-        // kind.
         ensures finished { self.old ≡ AtEnd → IsOk result × (self.new ≡ AtEnd) }
         ensures whole { self.old ≡ AtBody (Some 0) → IsOk result }
         ensures failed { (kind : ErrorType) → self.old ≡ HasFailed kind → result ≡ Err kind }
@@ -314,7 +313,36 @@ impl ResponseParse {
         }
     }
 
-    /// The same as `take_piece`, with the parts in a list.
+    /// Takes in the next piece, and returns the parts that it brings. The parts of all pieces together are
+    /// what the bytes of all pieces say together, however they were split.
+    ///
+    /// The part of the body shares the piece's bytes, so what keeps it keeps the piece. It is a copy where the
+    /// piece's other bytes are more than an eighth of it. The bytes of a head that has not ended are copied.
+    ///
+    /// Fails when memory runs out, and if the head has ended and can't be read.
+    pub fn take_piece(&mut self, piece: &Bytes) -> Result<PieceParts>
+        ensures joined { IfOk result (λ parts. (bytes : List ℕ) (g : Given)
+            → TakenIn self.old bytes g
+            → TakenIn self.new (bytes ++ piece.now) (add_all g (parts_of parts))) }
+        ensures gives { IfOk result (λ parts. GivesParts self.old piece.now (parts_of parts)) }
+        ensures invalid { IfErr result (λ e. e ≡ InvalidHttpHeader
+            → (bytes : List ℕ) (g : Given)
+            → TakenIn self.old bytes g
+            → IsUnreadable (bytes ++ piece.now)) }
+        ensures kind { IfErr result (λ e.
+            (e ≡ OutOfMemory) ⊎ (e ≡ InvalidHttpHeader) ⊎ (self.old ≡ HasFailed e)) }
+
+        // After the end, and after a whole body, pieces are ignored. After a failure each fails with the same
+        // kind.
+        ensures finished { self.old ≡ AtEnd → IsOk result × (self.new ≡ AtEnd) }
+        ensures whole { self.old ≡ AtBody (Some 0) → IsOk result }
+        ensures failed { (kind : ErrorType) → self.old ≡ HasFailed kind → result ≡ Err kind }
+        ensures fails { IfErr result (λ e. self.new ≡ HasFailed e) }
+    {
+        self.take(&Piece::shared(piece))
+    }
+
+    /// The same as `take_piece`, with the parts in a list. The piece is lent, so the part of the body is a copy.
     pub fn inject_data(&mut self, piece: &[u8]) -> Result<Vec<ParsePart>>
         ensures joined { IfOk result (λ parts. (bytes : List ℕ) (g : Given)
             → TakenIn self.old bytes g
@@ -331,7 +359,7 @@ impl ResponseParse {
         ensures failed { (kind : ErrorType) → self.old ≡ HasFailed kind → result ≡ Err kind }
         ensures fails { IfErr result (λ e. self.new ≡ HasFailed e) }
     {
-        let parts = self.take_piece(piece)?;
+        let parts = self.take(&Piece::lent(piece))?;
         let list = listed(self.alloc, parts);
         if let Err(AllocError) = &list {
             self.progress = Progress::Failed(ErrorType::OutOfMemory);

@@ -3,6 +3,7 @@ use crate::log::Sight;
 use crate::mark::Mark;
 use crate::put::SharedPut;
 use crate::shared::SharedCache;
+use bytes::Bytes;
 use pcache_base::error::{Error, ErrorType, Result};
 use pcache_base::moment::Moment;
 use pcache_base::reason::NoCacheReason;
@@ -22,11 +23,12 @@ impl<M: EvictionManager, K: Mark, const N: usize> SharedCache<M, K, N> {
 
     /// `Cache::cache_put` in the put's part: takes in the next piece of the response. Answers why nothing is stored, once that is so.
     /// The piece is read, and the policy asked once the head has come, before the part is locked: it is free to call the cache.
+    /// A body in one piece is not copied, and keeps the piece; one in several is copied once, while the part is locked.
     pub fn cache_put<C: CachePut, R: Wait>(
         &self,
         rt: &R,
         put: &mut SharedPut<C, K, N>,
-        piece: &[u8],
+        piece: &Bytes,
         now: Moment,
     ) -> Result<Option<NoCacheReason>>
         ensures goes { Goes self.now K.names put.old.place put.old.seen put.new.seen

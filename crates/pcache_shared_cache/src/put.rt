@@ -1,6 +1,7 @@
 //! A put of a cache in parts.
 use crate::log::Sight;
 use crate::mark::Mark;
+use bytes::Bytes;
 use pcache_base::key::CacheKey;
 use pcache_base::moment::Moment;
 use pcache_cache::{LeftWrite, PendingPut};
@@ -121,7 +122,7 @@ impl<C: CachePut, K: Mark, const N: usize> SharedPut<C, K, N> {
     }
 
     // Reads the next piece, which needs no part.
-    pub(crate) fn read_piece(&mut self, piece: &[u8], now: Moment) -> ReadPiece
+    pub(crate) fn read_piece(&mut self, piece: &Bytes, now: Moment) -> ReadPiece
         ensures read { ReadsPiece (C.says self.old.put.policy) self.old.put self.new.put
             (record { bytes = piece.now; now = now }) result }
         ensures at { IsReadAt self.new.put.stage result }

@@ -8,6 +8,7 @@ use crate::lifetimes::{by_one_second, one_second};
 use crate::requests::{List, NOW, OfTest, Request, list_of};
 use crate::scenes::run_two;
 use crate::wholes::purge;
+use bytes::Bytes;
 use pcache_base::error::Result;
 use pcache_base::moment::Moment;
 use pcache_base::reason::NoCacheReason;
@@ -113,7 +114,9 @@ fn feed_piece<M: EvictionManager>(
 ) {
     let mut bytes = Vec::new(cache.alloc());
     if unescape(piece, &mut bytes) {
-        tell_fed(cache.cache_put(put, bytes.as_slice(), NOW), told);
+        if let Ok(bytes) = Bytes::from_vec(bytes) {
+            tell_fed(cache.cache_put(put, &bytes, NOW), told);
+        }
     }
 }
 
@@ -179,9 +182,8 @@ fn a_put_is_stored_within_the_limit(rt: HostRuntime) {
 // A put whose pieces came to another cache may not end here, though both caches have one mark.
 fn ends_where_it_was_fed(fed: &mut List, other: &List, put: Put) -> bool {
     let mut put = put;
-    let is_fed = fed
-        .cache_put(&mut put, b"HTTP/1.1 200 OK\r\n\r\nhi", NOW)
-        .is_ok();
+    let piece = Bytes::from_static(b"HTTP/1.1 200 OK\r\n\r\nhi");
+    let is_fed = fed.cache_put(&mut put, &piece, NOW).is_ok();
     let (here, there) = (fed.may_end_put(&put), other.may_end_put(&put));
     fed.end_put(put);
     is_fed && here && !there && fed.slots() == 0

@@ -164,12 +164,20 @@ fn write_fields(head: &mut String, fields: u64) -> bool {
 }
 
 fn tell_of_piece(parts: &mut Parts, put: &mut Put, verb: &str, told: &mut Told) {
-    let Parts { store, piece, .. } = parts;
+    let Parts {
+        alloc,
+        store,
+        piece,
+        ..
+    } = parts;
+    let Ok(piece) = Bytes::copy_from_slice(*alloc, piece.as_slice()) else {
+        return;
+    };
     if verb == "take" {
-        let report = put.take_piece(piece.as_slice(), store, Moment::EPOCH);
+        let report = put.take_piece(&piece, store, Moment::EPOCH);
         tell_taken(store, report, told);
     } else {
-        tell_fed(put.cache_put(piece.as_slice(), store, Moment::EPOCH), told);
+        tell_fed(put.cache_put(&piece, store, Moment::EPOCH), told);
     }
 }
 
@@ -354,8 +362,8 @@ fn is_stored_by(putting: Putting, cut: Option<usize>) -> bool {
     size == Some(4) && parts.store.stored_bytes() == 4 && parts.store.write_records() == 0
 }
 
-fn is_fed(parts: &mut Parts, put: &mut Put, piece: &[u8]) -> bool {
-    let answer = put.cache_put(piece, &mut parts.store, Moment::EPOCH);
+fn is_fed(parts: &mut Parts, put: &mut Put, piece: &'static [u8]) -> bool {
+    let answer = put.cache_put(&Bytes::from_static(piece), &mut parts.store, Moment::EPOCH);
     matches!(answer, Ok(None))
 }
 
@@ -378,8 +386,8 @@ fn stored_in_two(parts: &mut Parts, put: &mut Put, cut: usize) -> Option<usize> 
 
 fn stored_by_bytes(parts: &mut Parts, put: &mut Put) -> Option<usize> {
     let mut is_last_fed = false;
-    for byte in RUST {
-        is_last_fed = is_fed(parts, put, &[*byte]);
+    for piece in RUST.chunks(1) {
+        is_last_fed = is_fed(parts, put, piece);
     }
     if is_last_fed {
         finished(parts, put)

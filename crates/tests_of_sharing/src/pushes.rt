@@ -3,6 +3,7 @@ ghost use Rattle.std.specs.Prelude.{◌≡◌};
 ghost use Rattle.pcache_request.specs.declared.phase.CachePhase.TheVariants.{CacheKey};
 
 use crate::seats::{Lists, Request, begins, key_of, lists_of, request_for, writes};
+use bytes::Bytes;
 use pcache_base::error::Result;
 use pcache_base::moment::Moment;
 use pcache_base::poll::Poll;
@@ -59,7 +60,7 @@ fn pushes<R: Wait>(rt: &R, cache: &Lists, pieces: &'static str) -> Result<bool> 
 
 fn pushes_in<R: Wait>(rt: &R, cache: &Lists, put: &mut Put, pieces: &'static str) -> Result<bool> {
     for piece in pieces.split('|') {
-        cache.cache_put(rt, put, piece.as_bytes(), NOW)?;
+        cache.cache_put(rt, put, &Bytes::from_static(piece.as_bytes()), NOW)?;
         thread::yield_now();
     }
     Ok(matches!(cache.finish_put(rt, put)?, PutOutcome::Stored(_)))

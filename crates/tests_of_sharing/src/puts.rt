@@ -5,6 +5,7 @@ ghost use Rattle.tests_of_sharing.specs.Lifetimes.{IsOneSecond};
 use crate::gates::Gate;
 use crate::lifetimes::{by_one_second, one_second};
 use crate::requests::{Lists, NOW, fill, finds, lists_of};
+use bytes::Bytes;
 use pcache_base::error::{ErrorType, Result};
 use pcache_base::key::CacheKey;
 use pcache_base::moment::Moment;
@@ -73,7 +74,7 @@ fn push_in<R: Wait>(
     pieces: &'static str,
 ) -> Result<PutOutcome> {
     for piece in pieces.split('|') {
-        cache.cache_put(rt, put, piece.as_bytes(), NOW)?;
+        cache.cache_put(rt, put, &Bytes::from_static(piece.as_bytes()), NOW)?;
     }
     cache.finish_put(rt, put)
 }

@@ -2,6 +2,7 @@
 //! The rows are hand-computed from RFC 9112 (2, 6.3) and RFC 9110 (6.4.1), some after upstream's tests
 //! from `test_basic_response` to `test_200_with_zero_content_length_more_data`.
 use crate::rows::{Desk, Told, number, play, rest, unescape, word};
+use bytes::Bytes;
 use pcache_base::error::{ErrorType, Result};
 use pcache_meta::header::ResponseHeader;
 use pcache_response::response_parse::*;
@@ -390,4 +391,48 @@ fn is_seen_cut_anywhere(alloc: Global) -> bool {
 fn cut_at_every_place(rt: HostRuntime) {
     assert!(rt; is_seen_cut_anywhere(rt.alloc()));
     assert!(rt; is_seen_by_bytes(&mut new_parser(rt.alloc())));
+}
+
+const HEAD: &[u8] = b"HTTP/1.1 200 OK\r\n\r\n";
+
+// A head, if there is one, and then so many bytes of its body.
+fn piece_of(alloc: Global, head: &[u8], count: usize) -> Result<Bytes> {
+    let mut piece = Vec::new(alloc);
+    piece.extend_from_slice(head)?;
+    for _ in 0..count {
+        piece.push(b'x')?;
+    }
+    Ok(Bytes::from_vec(piece)?)
+}
+
+// Whether the part of the body in a piece shares it, of so many bytes behind a head of 19.
+fn is_shared(alloc: Global, count: usize) -> Result<bool> {
+    let piece = piece_of(alloc, HEAD, count)?;
+    let parts = ResponseParse::new(alloc).take_piece(&piece)?;
+    Ok(is_held(&piece, &parts, count))
+}
+
+// The same of a piece behind the head's.
+fn is_shared_alone(alloc: Global, count: usize) -> Result<bool> {
+    let piece = piece_of(alloc, b"", count)?;
+    let mut parser = ResponseParse::new(alloc);
+    parser.take_piece(&Bytes::from_static(HEAD))?;
+    let parts = parser.take_piece(&piece)?;
+    Ok(is_held(&piece, &parts, count))
+}
+
+fn is_held(piece: &Bytes, parts: &PieceParts, count: usize) -> bool {
+    match &parts.body {
+        Some((bytes, _)) => bytes.len() == count && !piece.is_unique(),
+        None => false,
+    }
+}
+
+// What no contract says: which memory the parts take.
+#[test]
+fn a_part_shares_the_piece_of_which_it_is_most(rt: HostRuntime) {
+    let alloc = rt.alloc();
+    assert!(rt; matches!(is_shared(alloc, 151), Ok(false)));
+    assert!(rt; matches!(is_shared(alloc, 152), Ok(true)));
+    assert!(rt; matches!(is_shared_alone(alloc, 1), Ok(true)));
 }

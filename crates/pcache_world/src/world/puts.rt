@@ -148,7 +148,7 @@ fn feed_in<P: PutPolicy>(
     ensures quiet { AreOfNoLock events.new.items }
 {
     let slot = ctx.key().slot();
-    let PieceReport { began, wrote, end } = ctx.take_piece(bytes.as_slice(), store, now);
+    let PieceReport { began, wrote, end } = ctx.take_piece(bytes, store, now);
     match end {
         PieceEnd::GoesOn => {
             note_piece(slot, write_of(ctx), began, wrote, events);

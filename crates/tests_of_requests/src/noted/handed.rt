@@ -4,6 +4,7 @@ ghost use Rattle.tests_of_requests.specs.Lifetimes.{IsSeconds};
 
 use super::*;
 use crate::lifetimes::{by_seconds, twenty_seconds};
+use bytes::Bytes;
 use http::StatusCode;
 use pcache_base::error::{Error, ErrorType};
 use pcache_control::{CacheMetaDefaults, RespCacheable};
@@ -47,7 +48,8 @@ fn pushes(parts: &mut Parts<Manager>, name: &str, second: u64) -> Result<u32> {
     let shown = Cell::new(0u32);
     let key = key_of(parts.alloc, name)?;
     let mut put = CachePutCtx::new(parts.alloc, Twenty { shown: &shown }, key);
-    let fed = put.cache_put(RESPONSE, &mut parts.store, Moment::from_secs(second));
+    let response = Bytes::from_static(RESPONSE);
+    let fed = put.cache_put(&response, &mut parts.store, Moment::from_secs(second));
     let finished = put.finish(&mut parts.store, &mut parts.manager).is_ok();
     put.end(&mut parts.store);
     fed?;

@@ -16,9 +16,8 @@ returns-in_ok-body-in-Ended-clause-joined c =
     let r : Response = record { head = read.head.0; size = read.size; behind = drop c.in-Ended.used c.args.piece.now } in (
       r,
       response_starts c.args.head c.args.piece.now c.in-Ended.head.items c.in-Ended.used read.head.0 read.size joined.2 joined.1 read.ensures.reads read.ensures.size,
-      c.in_ok-body-in-Ended.ensures.left ∙ ap (λ xs. left_behind read.size (length xs)) (rest_is c.in-Ended.used c.args.piece.now),
-      ap (add_all nothing) (parts_there read.head read.size c.in_ok-body-in-Ended.body r.behind read.ensures.whole
-          (c.in_ok-body-in-Ended.ensures.part ∙ ap (body_parts read.size) (rest_is c.in-Ended.used c.args.piece.now))) ∙ whole_given r,
+      c.in_ok-body-in-Ended.ensures.left,
+      ap (add_all nothing) (parts_there read.head read.size c.in_ok-body-in-Ended.body r.behind read.ensures.whole c.in_ok-body-in-Ended.ensures.part) ∙ whole_given r,
     )
 
 pub returns-in_ok-body-in-Ended-clause-gives : goal.returns-in_ok-body-in-Ended-clause-gives
@@ -29,6 +28,5 @@ returns-in_ok-body-in-Ended-clause-gives c =
     inr (
       r,
       response_starts c.args.head c.args.piece.now c.in-Ended.head.items c.in-Ended.used read.head.0 read.size joined.2 joined.1 read.ensures.reads read.ensures.size,
-      parts_there read.head read.size c.in_ok-body-in-Ended.body r.behind read.ensures.whole
-          (c.in_ok-body-in-Ended.ensures.part ∙ ap (body_parts read.size) (rest_is c.in-Ended.used c.args.piece.now)),
+      parts_there read.head read.size c.in_ok-body-in-Ended.body r.behind read.ensures.whole c.in_ok-body-in-Ended.ensures.part,
     )

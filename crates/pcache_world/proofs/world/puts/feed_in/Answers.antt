@@ -1,5 +1,4 @@
-use Rattle.pcache_history.specs.declared.call.Reply.TheVariants.{Done, Refused}
-use Rattle.pcache_world.proofs.Words.{ℕ, List, Some, ◌∙◌, ap, subst, slot, write_in, ongoing_put, taking, Feed, PutTurn}
+use Rattle.pcache_world.proofs.Words.{◌∙◌, ap, slot, write_in, taking}
 use Rattle.pcache_world.proofs.PutFed.{declined-moves, ends-declined, ends-on, ends-refused, goes-moves, goes-puts, left-drop, not-over, noted-drop, refused-answers-of, refused-moves, refused-never, refused-noted, refused-puts, refused-unwritten}
 use Rattle.pcache_world.proofs.world.puts.feed_in.Goals as goal
 
@@ -35,9 +34,8 @@ pub returns-in-GoesOn-clause-puts : goal.returns-in-GoesOn-clause-puts
 returns-in-GoesOn-clause-puts g c =
     let p = taking c.args.ctx.now in
     let b = c.take_piece-began.result in
-    subst (λ (bytes : List ℕ). PutTurn g.P.PutPolicy.says (Feed bytes c.args.now) Done c.note_piece.new.events.items (Some (ongoing_put p)) (Some (ongoing_put (taking c.take_piece-began.new.self)))) c.as_slice.ensures
-    (goes-puts g.P.PutPolicy.says p (taking c.take_piece-began.new.self) c.as_slice.result.now c.args.now c.args.store.now.state.next c.slot-slot.result b.began b.wrote c.write_of.result c.args.events.now.items c.note_piece.new.events.items c.take_piece-began.ensures.began (not-over p.stage b.end c.take_piece-began.ensures.again c.in-GoesOn.is) c.take_piece-began.ensures.taken
-    c.requires.none c.write_of.ensures.write (ends-on _ _ _ _ c.in-GoesOn.is c.take_piece-began.ensures.ends) c.note_piece.ensures.events (λ whole. (ap (λ r. r.began) (c.take_piece-began.ensures.ignored whole), ap (λ r. r.wrote) (c.take_piece-began.ensures.ignored whole))) c.take_piece-began.ensures.last c.take_piece-began.ensures.begun)
+    goes-puts g.P.PutPolicy.says p (taking c.take_piece-began.new.self) c.args.bytes.now c.args.now c.args.store.now.state.next c.slot-slot.result b.began b.wrote c.write_of.result c.args.events.now.items c.note_piece.new.events.items c.take_piece-began.ensures.began (not-over p.stage b.end c.take_piece-began.ensures.again c.in-GoesOn.is) c.take_piece-began.ensures.taken
+    c.requires.none c.write_of.ensures.write (ends-on _ _ _ _ c.in-GoesOn.is c.take_piece-began.ensures.ends) c.note_piece.ensures.events (λ whole. (ap (λ r. r.began) (c.take_piece-began.ensures.ignored whole), ap (λ r. r.wrote) (c.take_piece-began.ensures.ignored whole))) c.take_piece-began.ensures.last c.take_piece-began.ensures.begun
 
 pub returns-in-Refused-clause-puts : goal.returns-in-Refused-clause-puts
 returns-in-Refused-clause-puts g c =
@@ -45,7 +43,6 @@ returns-in-Refused-clause-puts g c =
     let e = c.take_piece-began.ensures in
     let b = c.take_piece-began.result in
     let unwritten = refused-unwritten b.end c.in-Refused.refused c.in-Refused.writer b.wrote c.in-Refused.is e.refused in
-    subst (λ (bytes : List ℕ). PutTurn g.P.PutPolicy.says (Feed bytes c.args.now) (Refused c.etype.result) c.drop_write.new.events.items (Some (ongoing_put p)) (Some (ongoing_put (taking c.take_piece-began.new.self)))) c.as_slice.ensures
-    (refused-puts g.P.PutPolicy.says p (taking c.take_piece-began.new.self) c.as_slice.result.now c.args.now c.slot-slot.result b.began b.wrote c.in-Refused.refused c.etype.result c.number_in.result c.drop_write.new.events.items e.taken (ends-refused _ _ _ _ _ _ c.in-Refused.is e.ends).0
+    refused-puts g.P.PutPolicy.says p (taking c.take_piece-began.new.self) c.args.bytes.now c.args.now c.slot-slot.result b.began b.wrote c.in-Refused.refused c.etype.result c.number_in.result c.drop_write.new.events.items e.taken (ends-refused _ _ _ _ _ _ c.in-Refused.is e.ends).0
     (refused-noted _ _ _ b.began b.wrote _ _ _ c.requires.none c.note_piece-in-Refused.ensures.events unwritten c.number_in.ensures c.drop_write.ensures.events) e.begun
-    (refused-never p b.end c.in-Refused.refused c.in-Refused.writer c.in-Refused.is (λ whole. ap (λ r. r.end) (e.ignored whole))))
+    (refused-never p b.end c.in-Refused.refused c.in-Refused.writer c.in-Refused.is (λ whole. ap (λ r. r.end) (e.ignored whole)))
