@@ -4,7 +4,7 @@ use Rattle.http_header.specs.HeaderMap.{Entry, insert, value_count, IsHeaderMap}
 use Rattle.http_header.proofs.HeaderMapLemmas.{get_all-insert_other}
 use Rattle.pcache_meta.proofs.HeaderMaps.{count_cons}
 use Rattle.pcache_control.specs.Requests.{as_number}
-use Rattle.pcache_control.proofs.Words.{◌≡◌, ℕ, ◌+◌, ◌<◌, ◌≤◌, Bool, true, false, cond, List, [], ◌∷◌, length, Option, Some, None, Result, Ok, Err, refl, sym, ap, ◌∙◌, arith, inl, inr, bytes_eq, ◌≢◌, All, OnOk, codes, All-head, All-tail, FieldValue, Entries, get_all, ErrorType, Fields, bytes_of, with_field, LacksRoom, AsksSince, AsksUnlike}
+use Rattle.pcache_control.proofs.Words.{◌≡◌, ℕ, ◌+◌, ◌<◌, Bool, true, false, cond, List, [], ◌∷◌, length, Option, Some, None, Result, Ok, Err, refl, ap, ◌∙◌, arith, inl, inr, bytes_eq, ◌≢◌, All, OnOk, codes, All-head, All-tail, FieldValue, Entries, get_all, ErrorType, Fields, bytes_of, with_field, LacksRoom, AsksSince, AsksUnlike}
 
 -- the map is one name and one value longer
 abbrev Grown : Entries FieldValue → Entries FieldValue → ℕ → Type 0

@@ -1,6 +1,6 @@
 //! The Cache-Control header field (RFC 9111 section 5.2).
 
-ghost use Rattle.std.specs.Prelude.{◌≡◌, ◌≤◌, List, [], ◌∷◌, length, slice_range, OnOk, IfOk, IfErr, IfSome, MatchOption, true, false, bytes_eq};
+ghost use Rattle.std.specs.Prelude.{◌≡◌, ◌≤◌, List, [], ◌∷◌, length, slice_range, OnOk, IfOk, IfSome, MatchOption, true, false, bytes_eq};
 ghost use Rattle.std.specs.Option.{option_map};
 ghost use Rattle.std.specs.Str.{is_utf8, str_to_ascii_lowercase};
 ghost use Rattle.indexmap.specs.IndexMap.{insert_all, insert_entry};
@@ -8,7 +8,6 @@ ghost use Rattle.pcache_control.specs.declared.scan.Span.{Span};
 ghost use Rattle.pcache_control.specs.Directives.{AreDirectives, LiesWithin};
 ghost use Rattle.pcache_control.specs.Names.{IsNamed, is_known, is_known_name, name_of};
 ghost use Rattle.pcache_control.specs.Maps.{Adds, directives_at, AreNamed, AreRead, AreReadOnce, lines_of, value_of};
-ghost use Rattle.pcache_base.specs.declared.error.ErrorType.TheVariants.{OutOfMemory};
 
 use crate::hashing::NameHasher;
 pub use crate::interpret::InterpretCacheControl;
@@ -147,7 +146,7 @@ pub enum Cacheable {
 }
 
 impl CacheControl {
-    ghost use Rattle.std.specs.Prelude.{◌≡◌, ◌↔◌, IsTrue, IfOk, IfErr, IfSome, true, codes, option_copied};
+    ghost use Rattle.std.specs.Prelude.{◌≡◌, ◌↔◌, IsTrue, IfOk, IfSome, true, codes, option_copied};
     ghost use Rattle.http_header.specs.HeaderMap.{get_all};
     ghost use Rattle.http_header.specs.Token.{lowercase};
     ghost use Rattle.pcache_control.specs.declared.key.DirectiveKey.TheVariants.{MaxAge, SMaxAge, NoCache, NoStore, Private, Public, MustRevalidate, ProxyRevalidate, OnlyIfCached, StaleWhileRevalidate, StaleIfError};
@@ -171,10 +170,9 @@ impl CacheControl {
         alloc: Global,
         header_name: &str,
         headers: &HeaderMap,
-    ) -> Result<Option<CacheControl>>
+    ) -> Result<Option<CacheControl>, AllocError>
         ensures read { IfOk result (ReadsField headers.now (lowercase header_name.now)) }
         ensures only { IfOk result (ReadsOneMap headers.now (lowercase header_name.now)) }
-        ensures kind { IfErr result (λ e. e ≡ OutOfMemory) }
     {
         if !headers.contains_key(header_name) {
             return Ok(None);
@@ -191,20 +189,21 @@ impl CacheControl {
         alloc: Global,
         header_name: &str,
         req_header: &ReqHeader,
-    ) -> Result<Option<CacheControl>>
+    ) -> Result<Option<CacheControl>, AllocError>
         ensures read { IfOk result (ReadsField req_header.now.headers (lowercase header_name.now)) }
         ensures only { IfOk result
             (ReadsOneMap req_header.now.headers (lowercase header_name.now)) }
-        ensures kind { IfErr result (λ e. e ≡ OutOfMemory) }
     {
         CacheControl::from_headers_named(alloc, header_name, &req_header.headers)
     }
 
     /// The directives of a request's Cache-Control.
-    pub fn from_req_headers(alloc: Global, req_header: &ReqHeader) -> Result<Option<CacheControl>>
+    pub fn from_req_headers(
+        alloc: Global,
+        req_header: &ReqHeader,
+    ) -> Result<Option<CacheControl>, AllocError>
         ensures read { IfOk result (ReadsField req_header.now.headers (codes "cache-control")) }
         ensures only { IfOk result (ReadsOneMap req_header.now.headers (codes "cache-control")) }
-        ensures kind { IfErr result (λ e. e ≡ OutOfMemory) }
     {
         CacheControl::from_req_headers_named(alloc, "cache-control", req_header)
     }
@@ -214,12 +213,11 @@ impl CacheControl {
         alloc: Global,
         header_name: &str,
         resp_header: &RespHeader,
-    ) -> Result<Option<CacheControl>>
+    ) -> Result<Option<CacheControl>, AllocError>
         ensures read { IfOk result
             (ReadsField resp_header.now.headers (lowercase header_name.now)) }
         ensures only { IfOk result
             (ReadsOneMap resp_header.now.headers (lowercase header_name.now)) }
-        ensures kind { IfErr result (λ e. e ≡ OutOfMemory) }
     {
         CacheControl::from_headers_named(alloc, header_name, &resp_header.headers)
     }
@@ -228,10 +226,9 @@ impl CacheControl {
     pub fn from_resp_headers(
         alloc: Global,
         resp_header: &RespHeader,
-    ) -> Result<Option<CacheControl>>
+    ) -> Result<Option<CacheControl>, AllocError>
         ensures read { IfOk result (ReadsField resp_header.now.headers (codes "cache-control")) }
         ensures only { IfOk result (ReadsOneMap resp_header.now.headers (codes "cache-control")) }
-        ensures kind { IfErr result (λ e. e ≡ OutOfMemory) }
     {
         CacheControl::from_resp_headers_named(alloc, "cache-control", resp_header)
     }

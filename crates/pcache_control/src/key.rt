@@ -1,11 +1,10 @@
 //! The names of directives.
 
-ghost use Rattle.std.specs.Prelude.{◌≡◌, ◌↔◌, IfOk, IfErr, IfSome, IfNone, IsTrue, IsOk, true, false, not, ◌&&◌, bytes_eq, string_bytes};
+ghost use Rattle.std.specs.Prelude.{◌≡◌, ◌↔◌, IfOk, IfSome, IfNone, IsTrue, IsOk, true, false, not, ◌&&◌, bytes_eq, string_bytes};
 ghost use Rattle.pcache_control.specs.Names.{name_of, is_known, is_known_name, IsNamed};
-ghost use Rattle.pcache_base.specs.declared.error.ErrorType.TheVariants.{OutOfMemory};
 
 use pcache_base::error::Result;
-use std::alloc::Global;
+use std::alloc::{AllocError, Global};
 use std::fmt;
 
 /// The name of a directive. The fourteen known ones have variants of their own.
@@ -96,10 +95,9 @@ impl DirectiveKey {
 
     /// The key of a name in lower case: its own variant if the name is known. Fails only when
     /// memory runs out, and never for a known name.
-    pub fn from_lowercase(alloc: Global, name: &str) -> Result<DirectiveKey>
+    pub fn from_lowercase(alloc: Global, name: &str) -> Result<DirectiveKey, AllocError>
         ensures ok { IfOk result (IsNamed name.now) }
         ensures no_memory_needed { is_known_name name.now ≡ true → IsOk result }
-        ensures kind { IfErr result (λ e. e ≡ OutOfMemory) }
     {
         match known_key(name) {
             Some(key) => Ok(key),
