@@ -1,9 +1,7 @@
 //! Marked keys with their reasons, in lists that drop the oldest marks.
-ghost use Rattle.std.specs.Prelude.{◌≡◌, ◌<◌, is_none, replicate, IfOk, IfErr, OnOk, OnErr};
-ghost use Rattle.pcache_base.specs.declared.error.ErrorType.TheVariants.{OutOfMemory};
+ghost use Rattle.std.specs.Prelude.{◌≡◌, ◌<◌, is_none, replicate, IfOk, OnOk, OnErr};
 ghost use Rattle.pcache_predict.specs.Remembered.{empty_shard, reason_of, after_mark, after_unmark};
 
-use pcache_base::error::Result;
 use pcache_base::reason::NoCacheReason;
 use pcache_base::seed::Seed;
 use pcache_table::hashtable::LruShards;
@@ -30,10 +28,13 @@ impl<const N: usize> Model for MarkedKeys<N> {
 
 impl<const N: usize> MarkedKeys<N> {
     // No key yet. A capacity of 0 counts as 1. No room is reserved in advance.
-    pub(crate) fn new(alloc: Global, seed: Seed, capacity: usize) -> Result<MarkedKeys<N>>
+    pub(crate) fn new(
+        alloc: Global,
+        seed: Seed,
+        capacity: usize,
+    ) -> Result<MarkedKeys<N>, AllocError>
         requires { 0 < N }
         ensures ok { IfOk result (λ all. all ≡ replicate N (empty_shard capacity)) }
-        ensures kind { IfErr result (λ e. e ≡ OutOfMemory) }
     {
         Ok(MarkedKeys {
             lists: LruShards::new(alloc, seed, capacity)?,

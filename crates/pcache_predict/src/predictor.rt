@@ -1,18 +1,16 @@
 //! Which keys' responses are predicted not to be cacheable.
-ghost use Rattle.std.specs.Prelude.{◌≡◌, ◌<◌, ℕ, Bool, true, List, Option, not, replicate, is_some, is_none, IfOk, IfErr, OnErr, Some, None, if◌then◌else◌, option_map};
+ghost use Rattle.std.specs.Prelude.{◌≡◌, ◌<◌, ℕ, Bool, true, List, Option, not, replicate, is_some, is_none, IfOk, OnErr, Some, None, if◌then◌else◌, option_map};
 ghost use Rattle.std.specs.Option.{ForSome};
 ghost use Rattle.pcache_base.specs.Key.{primary_of, number_of};
-ghost use Rattle.pcache_base.specs.declared.error.ErrorType.TheVariants.{OutOfMemory};
 ghost use Rattle.pcache_base.specs.declared.reason.NoCacheReason.{NoCacheReason};
 ghost use Rattle.pcache_predict.specs.Remembered.{empty_shard, reason_of, after_mark, after_unmark};
 ghost use Rattle.pcache_predict.specs.Marking.{Skips, counts};
 
 use crate::marked_keys::MarkedKeys;
-use pcache_base::error::Result;
 use pcache_base::key::{CacheHashKey, CacheKey, HashBinary};
 use pcache_base::reason::NoCacheReason;
 use pcache_base::seed::Seed;
-use std::alloc::Global;
+use std::alloc::{AllocError, Global};
 
 /// Whether a mark with a custom reason is skipped, decided by the reason's text.
 pub type CustomReasonPredicate = fn(&str) -> bool;
@@ -52,11 +50,14 @@ pub trait CacheablePredictor {
     /// Records that the key's response was not cacheable, for this reason. Returns `None` if the
     /// reason does not count, otherwise whether the key was predicted to be cacheable. Fails only
     /// when memory runs out, for a reason that may count, and then changes nothing.
-    fn mark_uncacheable(&mut self, key: &CacheKey, why: NoCacheReason) -> Result<Option<bool>>
+    fn mark_uncacheable(
+        &mut self,
+        key: &CacheKey,
+        why: NoCacheReason,
+    ) -> Result<Option<bool>, AllocError>
         ensures ok { IfOk result (λ answer.
             marks self.old (primary_of key.now) why answer self.new) }
         ensures err { OnErr result (self.new ≡ self.old) }
-        ensures kind { IfErr result (λ e. e ≡ OutOfMemory) }
         ensures counted { OnErr result (may_count self.old why) };
 }
 
@@ -104,13 +105,12 @@ impl<const N_SHARDS: usize> Predictor<N_SHARDS> {
         seed: Seed,
         shard_capacity: usize,
         skip_custom_reasons: Option<CustomReasonPredicate>,
-    ) -> Result<Predictor<N_SHARDS>>
+    ) -> Result<Predictor<N_SHARDS>, AllocError>
         requires shards { 0 < N_SHARDS }
         requires callable { ForSome skip_custom_reasons IsAlwaysCallable }
         ensures memory { IfOk result (λ made.
             memory_of made ≡ replicate N_SHARDS (empty_shard shard_capacity)) }
         ensures predicate { IfOk result (λ made. predicate_of made ≡ skip_custom_reasons) }
-        ensures kind { IfErr result (λ e. e ≡ OutOfMemory) }
     {
         let skipped = match skip_custom_reasons {
             Some(predicate) => Some(SkippedReasons::new(predicate)),
@@ -182,7 +182,11 @@ impl<const N_SHARDS: usize> CacheablePredictor for Predictor<N_SHARDS> {
         self.memory.unmark(number(key.primary_bin()))
     }
 
-    fn mark_uncacheable(&mut self, key: &CacheKey, why: NoCacheReason) -> Result<Option<bool>> {
+    fn mark_uncacheable(
+        &mut self,
+        key: &CacheKey,
+        why: NoCacheReason,
+    ) -> Result<Option<bool>, AllocError> {
         if !self.remembers(why) {
             return Ok(None);
         }

@@ -6,7 +6,7 @@ use pcache_base::key::CacheKey;
 use pcache_base::reason::NoCacheReason;
 use pcache_base::seed::Seed;
 use pcache_predict::predictor::{CacheablePredictor, Predictor};
-use std::alloc::Global;
+use std::alloc::{AllocError, Global};
 
 #[derive(Drop)]
 struct Foretold<P> {
@@ -14,7 +14,7 @@ struct Foretold<P> {
     predictor: P,
 }
 
-fn at_desk<P: Drop>(alloc: Global, predictor: Result<P>) -> Result<Foretold<P>> {
+fn at_desk<P: Drop>(alloc: Global, predictor: Result<P, AllocError>) -> Result<Foretold<P>> {
     let predictor = predictor?;
     Ok(Foretold { alloc, predictor })
 }
@@ -54,11 +54,11 @@ fn says(reason: Option<NoCacheReason>, told: &mut Told) {
     }
 }
 
-fn marked(marked: Result<Option<bool>>, told: &mut Told) {
+fn marked(marked: Result<Option<bool>, AllocError>, told: &mut Told) {
     match marked {
         Ok(Some(is_new)) => told.yes_or_no(is_new),
         Ok(None) => told.say("skipped"),
-        Err(refused) => told.refused(&refused),
+        Err(refused) => told.refused(&refused.into()),
     }
 }
 

@@ -97,6 +97,6 @@ impl<S: Storage> HttpCache<S> {
         if !self.uses.predictor {
             return Ok(None);
         }
-        predictor.mark_uncacheable(self.cache_key(), reason)
+        Ok(predictor.mark_uncacheable(self.cache_key(), reason)?)
     }
 }
