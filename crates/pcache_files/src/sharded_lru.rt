@@ -47,7 +47,7 @@ pub fn deserialize_shard<const N: usize>(
     ensures err { OnErr result (manager.new ≡ manager.old) }
 {
     let entries = read_file(alloc, bytes)?;
-    manager.load_entries(entries)
+    Ok(manager.load_entries(entries)?)
 }
 
 /// Saves each shard as `lru.data.` and its number in a folder, which is made, with its parents, if it
@@ -106,14 +106,13 @@ pub fn load<R: NamedFiles, const N: usize>(
     manager: &mut Manager<N>,
     files: &R,
     dir: &str,
-) -> Result<usize>
+) -> Result<usize, AllocError>
     ensures ok { IfOk result (λ skipped. (l : Recency)
         × Loads (R.opens files.now) R.File.remaining R.File.source (R.refuses files.now)
         R.File.read_fails dir.now (shard_names N) skipped l
         × (manager.new ≡ record manager.old { shards = added_last_all N l manager.old.shards })) }
     ensures skipped { IfOk result (λ n. n ≤ N) }
     ensures placed { ArePlaced N manager.old.shards }
-    ensures kind { IfErr result (λ e. e ≡ OutOfMemory) }
     ensures err { OnErr result (manager.new ≡ manager.old) }
 {
     let shards = manager.shards();

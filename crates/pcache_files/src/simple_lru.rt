@@ -44,7 +44,7 @@ pub fn deserialize(alloc: Global, manager: &mut Manager, bytes: &[u8]) -> Result
     ensures err { OnErr result (manager.new ≡ manager.old) }
 {
     let entries = read_file(alloc, bytes)?;
-    manager.load_entries(entries)
+    Ok(manager.load_entries(entries)?)
 }
 
 /// Writes the manager's file, and flushes. If the writer fails, it has taken a prefix of the file;
@@ -86,7 +86,7 @@ pub fn load_from<D: CountedRead>(alloc: Global, manager: &mut Manager, from: &mu
     ensures err { OnErr result (manager.new ≡ manager.old) }
 {
     let entries = read_list_from(alloc, from)?;
-    manager.load_entries(entries)
+    Ok(manager.load_entries(entries)?)
 }
 
 /// Saves the manager as `simple_lru.data` in a folder, which is made, with its parents, if it is
@@ -127,5 +127,5 @@ pub fn load<R: NamedFiles>(alloc: Global, manager: &mut Manager, files: &R, dir:
     ensures err { OnErr result (manager.new ≡ manager.old) }
 {
     let entries = read_entries(alloc, files, dir, FILE_NAME)?;
-    manager.load_entries(entries)
+    Ok(manager.load_entries(entries)?)
 }
