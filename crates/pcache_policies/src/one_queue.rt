@@ -128,7 +128,7 @@ impl<U: Uses, S: BuildHasher + Copy + Drop> Discipline<S> for Turns<U, S> {
     }
 
     fn enter(&mut self, item: CacheEntryKey, size: usize, _known: bool) -> Result<(), AllocError> {
-        Ok(self.ring.add_passed(item, size)?)
+        self.ring.add_passed(item, size)
     }
 
     fn chosen(&self) -> (u128, usize) {

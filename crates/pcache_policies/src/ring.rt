@@ -227,7 +227,7 @@ impl<S: BuildHasher + Copy + Drop> Ring<S> {
     {
         self.settle()?;
         self.make_room(size, count, limit, watermark)?;
-        Ok(Vec::with_capacity(alloc, self.leaving_len() + 1)?)
+        Vec::with_capacity(alloc, self.leaving_len() + 1)
     }
 
     // The hand looks at one entry, or turns from the newest to the oldest. Returns whether there was
@@ -242,9 +242,9 @@ impl<S: BuildHasher + Copy + Drop> Ring<S> {
             return Ok(self.turn());
         };
         if seen.uses == 0 {
-            return Ok(self.choose(key, seen)?);
+            return self.choose(key, seen);
         }
-        Ok(self.pass(key, seen)?)
+        self.pass(key, seen)
     }
 
     // The entry at the hand is chosen to go.

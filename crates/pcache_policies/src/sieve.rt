@@ -120,7 +120,7 @@ impl<S: BuildHasher + Copy + Drop> Discipline<S> for Hand<S> {
     }
 
     fn enter(&mut self, item: CacheEntryKey, size: usize, _known: bool) -> Result<(), AllocError> {
-        Ok(self.ring.enter(item, size)?)
+        self.ring.enter(item, size)
     }
 
     fn chosen(&self) -> (u128, usize) {
