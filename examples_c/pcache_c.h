@@ -8,7 +8,8 @@
  * Threads: a handle may be used by one thread at a time, whichever that is, so a lock around each handle is
  * enough. Two calls on one handle at once are the caller's fault, and nothing tells them. Calls on different
  * handles may run at once, also on a cache, a view of one of its bodies and a meta of one of its requests.
- * A request is a number of its cache, so its calls are calls on the cache's handle.
+ * A request is a number of its cache, so its calls are calls on the cache's handle. pcache_parts.h has a
+ * cache behind such locks, and waits that block.
  *
  * bench/make/archives.py makes what is linked, proved or not, which pcache_is_proved tells:
  *   gcc program.c -I build/c build/c/libpcache_c.a build/c/libpcache_heap.a */

@@ -1,13 +1,13 @@
 #!/bin/sh
 # Plays the programs of examples_c/ and examples_rust/ over the library for C, and the tests of the crate in rust/. What a program in C
-# prints is compared with what is written down, and with what the same program in Rust prints. The header is read by a C and by a C++
-# compiler, and it and the crate are compared with the exports. It wants gcc, g++, rustc and cargo (Debian: apt-get install gcc g++
-# rustc cargo), fetches nothing, and ends with 2 where one is missing, and with 1 where something differs.
+# prints is compared with what is written down, and with what the same program in Rust prints. The headers and pcache_parts.c are read
+# by a C and by a C++ compiler, and pcache_c.h and the crate are compared with the exports. It wants gcc, g++, rustc and cargo (Debian:
+# apt-get install gcc g++ rustc cargo), fetches nothing, and ends with 2 where one is missing, and with 1 where something differs.
 #
 #   bench/plays/from_c.sh                    over build/c, where the library is built without a proof first (two to three minutes), if it
 #                                            does not stand there
 #   bench/plays/from_c.sh proved             the same, proved
-#   bench/plays/from_c.sh threads            a million calls of eight threads under ThreadSanitizer, which takes some minutes
+#   bench/plays/from_c.sh threads            twice a million calls of eight threads under ThreadSanitizer, which takes some minutes
 #   bench/plays/from_c.sh border             what a call over the border takes
 #   bench/plays/from_c.sh memory             what a cache takes of memory, with bodies and heads of several lengths
 #   bench/plays/from_c.sh proxy              the proxy (bench/plays/proxy.py)
@@ -32,10 +32,11 @@ export PCACHE_LIB CARGO_TARGET_DIR
 room=$(mktemp -d)
 trap 'rm -rf "$room"' EXIT
 
-# compile NAME FLAG ..: a program of examples_c.
+# compile NAME FLAG ..: a program of examples_c; shared.c is one over pcache_parts.c.
 compile() {
     name=$1
     shift
+    [ "$name" != shared ] || set -- "$@" examples_c/pcache_parts.c
     gcc -std=c99 -O2 -D_POSIX_C_SOURCE=200809L -Wall -Wextra -Werror -pedantic -pthread "$@" "examples_c/$name.c" \
         "$made/libpcache_c.a" "$made/libpcache_heap.a" -o "$room/$name"
 }
@@ -47,9 +48,12 @@ run() {
 
 case "${1:-}" in
 threads)
-    compile threads -g -fsanitize=thread
-    "$room/threads" | cmp - examples_c/threads.stdout
-    echo "threads: ThreadSanitizer has nothing to say"
+    for name in threads shared; do
+        compile "$name" -g -fsanitize=thread
+        "$room/$name" >"$room/$name.out"
+        cmp "$room/$name.out" "examples_c/$name.stdout"
+        echo "$name: ThreadSanitizer has nothing to say"
+    done
     ;;
 border | memory)
     run "$1"
@@ -59,9 +63,12 @@ proxy)
     bench/plays/proxy.py build/rust/release/examples/proxy
     ;;
 *)
-    g++ -x c++ -std=c++11 -Wall -Wextra -Werror -fsyntax-only -include examples_c/pcache_c.h /dev/null
+    for text in /dev/null examples_c/pcache_parts.c; do
+        g++ -x c++ -std=c++11 -Wall -Wextra -Werror -pedantic -fsyntax-only -include examples_c/pcache_parts.h "$text"
+    done
     for program in examples_c/*.c; do
         name=$(basename "$program" .c)
+        [ "$name" != pcache_parts ] || continue
         compile "$name"
         "$room/$name" >"$room/$name.out"
         cmp "$room/$name.out" "examples_c/$name.stdout"
