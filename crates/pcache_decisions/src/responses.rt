@@ -27,6 +27,7 @@ use pcache_validation::freshening::identifies;
 use pcache_validation::heads::{self, after_head_of};
 use pcache_validation::unsafe_methods::{invalidates, is_safe};
 use pcache_validation::updating::{StoredBody, updated};
+use std::alloc::AllocError;
 
 /// The stored response with whose validators a request was sent.
 #[derive(Clone, Copy)]
@@ -112,9 +113,8 @@ fn kept_from(rules: &Rules, head: ResponseHeader, received: Moment) -> Kept
 }
 
 // What is stored of a response.
-fn kept_of(rules: &Rules, response: &ResponseHeader, received: Moment) -> Result<Kept>
+fn kept_of(rules: &Rules, response: &ResponseHeader, received: Moment) -> Result<Kept, AllocError>
     ensures ok { IfOk result (IsKeptOf rules.now response.now received) }
-    ensures kind { IfErr result (λ e. e ≡ OutOfMemory) }
 {
     let headers = stored_fields(rules.kind, &response.headers)?;
     let head = ResponseHeader {
@@ -246,10 +246,9 @@ fn by_storing(
     response: &ResponseHeader,
     said: &ResponseControl,
     received: Moment,
-) -> Result<Outcome>
+) -> Result<Outcome, AllocError>
     ensures ok { IfOk result
         (ByStoring rules.now request.now asked.now response.now said.now received) }
-    ensures kind { IfErr result (λ e. e ≡ OutOfMemory) }
 {
     match may_store(rules.kind, request, asked, response, said) {
         Storing::Stored => Ok(Outcome::Store(kept_of(rules, response, received)?)),
@@ -263,13 +262,12 @@ fn decide_storing(
     request: &RequestHeader,
     response: &ResponseHeader,
     received: Moment,
-) -> Result<Outcome>
+) -> Result<Outcome, AllocError>
     ensures ok { IfOk result (DecidesStoring rules.now request.now response.now received) }
-    ensures kind { IfErr result (λ e. e ≡ OutOfMemory) }
 {
     let asked = RequestControl::of(&request.headers);
     let said = ResponseControl::of(&response.headers);
-    by_storing(rules, request, &asked, response, &said, received)
+    Ok(by_storing(rules, request, &asked, response, &said, received)?)
 }
 
 // Whether the stored response may be served in place of an error.
@@ -324,9 +322,8 @@ fn by_error(
     stored: &StoredResponse<'_>,
     response: &ResponseHeader,
     received: Moment,
-) -> Result<Outcome>
+) -> Result<Outcome, AllocError>
     ensures ok { IfOk result (ByError rules.now request.now stored.now response.now received) }
-    ensures kind { IfErr result (λ e. e ≡ OutOfMemory) }
 {
     if follows_error(rules, request, stored, received) {
         return Ok(Outcome::ServeStale(stale_of(request, stored, received)));
@@ -378,7 +375,7 @@ fn by_head(
     match after_head_of(response, &validated.stored.head.headers) {
         heads::Freshened::Updated => by_update(rules, request, validated, response, received),
         heads::Freshened::Stale => Ok(Outcome::MarkStale),
-        heads::Freshened::Untouched => decide_storing(rules, request, response, received),
+        heads::Freshened::Untouched => { Ok(decide_storing(rules, request, response, received)?) }
     }
 }
 
@@ -403,11 +400,11 @@ fn by_validated(
     if is_unchanged(response.status) {
         by_304(rules, request, validated, response, received)
     } else if is_error(&Some(response.status)) {
-        by_error(rules, request, &validated.stored, response, received)
+        Ok(by_error(rules, request, &validated.stored, response, received)?)
     } else if is_head(request) {
         by_head(rules, request, validated, response, received)
     } else {
-        decide_storing(rules, request, response, received)
+        Ok(decide_storing(rules, request, response, received)?)
     }
 }
 
@@ -448,6 +445,6 @@ pub fn decide_response(
     }
     match validated {
         Some(validated) => by_validated(rules, request, validated, response, received),
-        None => decide_storing(rules, request, response, received),
+        None => Ok(decide_storing(rules, request, response, received)?),
     }
 }

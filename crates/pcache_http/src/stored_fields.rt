@@ -1,10 +1,9 @@
 //! Which fields of a response are stored (RFC 9111 section 3.1).
 
-ghost use Rattle.std.specs.Prelude.{◌≡◌, ◌++◌, List, IfOk, IfErr, codes};
+ghost use Rattle.std.specs.Prelude.{◌≡◌, ◌++◌, List, IfOk, codes};
 ghost use Rattle.std.specs.Option.{option_copied};
 ghost use Rattle.http_header.specs.HeaderMap.{remove};
 ghost use Rattle.http_header.specs.Token.{lowercase};
-ghost use Rattle.pcache_base.specs.declared.error.ErrorType.TheVariants.{OutOfMemory};
 ghost use Rattle.pcache_http.specs.Control.{lines_at};
 ghost use Rattle.pcache_http.specs.Said.{Directive, AreSaid};
 ghost use Rattle.pcache_http.specs.StoredFields.{AreStoredFields, without_names, names_of_the_way, names_in_connection, names_listed, names_under, names_kept_out, listing_name};
@@ -137,9 +136,8 @@ fn remove_connection(kept: &mut HeaderMap, headers: &HeaderMap)
 /// The fields of a response that are stored: all but Connection and what it names, those of the
 /// connection and the proxy, those that `no-cache` lists, and in a shared cache those that `private`
 /// lists (RFC 9111 section 3.1). Fails only when memory runs out.
-pub fn stored_fields(kind: CacheKind, headers: &HeaderMap) -> Result<HeaderMap>
+pub fn stored_fields(kind: CacheKind, headers: &HeaderMap) -> Result<HeaderMap, AllocError>
     ensures ok { IfOk result (AreStoredFields kind headers.now) }
-    ensures kind { IfErr result (λ e. e ≡ OutOfMemory) }
 {
     let mut kept = copied(headers)?;
     remove_of_the_way(&mut kept);

@@ -1,7 +1,6 @@
 //! What a response to an unsafe method takes away (RFC 9111 section 4.4).
 
-ghost use Rattle.std.specs.Prelude.{◌≡◌, ◌↔◌, IsTrue, IfOk, IfErr, IfSome, Ok, None, codes};
-ghost use Rattle.pcache_base.specs.declared.error.ErrorType.TheVariants.{OutOfMemory};
+ghost use Rattle.std.specs.Prelude.{◌≡◌, ◌↔◌, IsTrue, IfOk, IfSome, Ok, None, codes};
 ghost use Rattle.pcache_meta.specs.Header.{shown_fields};
 ghost use Rattle.pcache_validation.specs.Fields.{only};
 ghost use Rattle.pcache_validation.specs.Unsafe.{AreOfOneOrigin, Invalidates, IsNamedBy, IsNoError, IsOfOrigin, IsSafe};
@@ -11,7 +10,8 @@ ghost use Rattle.url.specs.Parts.{Parts};
 use crate::fields::only;
 use http::{Method, StatusCode};
 use http_header::{CONTENT_LOCATION, HeaderMap, HeaderName, LOCATION};
-use pcache_base::error::{Error, ErrorType, Result};
+use pcache_base::error::Result;
+use std::alloc::AllocError;
 use url::{ParseError, Url};
 
 /// Whether a method is safe: GET, HEAD, OPTIONS and TRACE are (RFC 9110 section 9.2.1). One whose
@@ -61,14 +61,12 @@ fn is_out_of_room(error: ParseError) -> bool
 }
 
 /// The URI that a reference of the response names, if it is of the origin of the target URI, against
-/// which it is resolved. What is no reference names none. Fails with `OutOfMemory` only if there is
-/// no room for the URI.
-pub fn of_origin(target: &Url, reference: &[u8]) -> Result<Option<Url>>
+/// which it is resolved. What is no reference names none. Fails only if there is no room for the URI.
+pub fn of_origin(target: &Url, reference: &[u8]) -> Result<Option<Url>, AllocError>
     ensures found { IfOk result (λ found. IfSome found (IsOfOrigin target.now reference.now)) }
     ensures none { result ≡ Ok None
         → (uri : Parts)
         → ¬ (IsOfOrigin target.now reference.now uri) }
-    ensures kind { IfErr result (λ e. e ≡ OutOfMemory) }
 {
     let Ok(text) = str::from_utf8(reference) else {
         return Ok(None);
@@ -83,7 +81,7 @@ pub fn of_origin(target: &Url, reference: &[u8]) -> Result<Option<Url>>
         }
         Err(error) => {
             if is_out_of_room(error) {
-                Err(Error::new(ErrorType::OutOfMemory))
+                Err(AllocError)
             } else {
                 Ok(None)
             }
@@ -92,10 +90,9 @@ pub fn of_origin(target: &Url, reference: &[u8]) -> Result<Option<Url>>
 }
 
 // The URI that the one line of a field names, if it is of the origin of the target URI.
-fn named_by(target: &Url, fields: &HeaderMap, name: &HeaderName) -> Result<Option<Url>>
+fn named_by(target: &Url, fields: &HeaderMap, name: &HeaderName) -> Result<Option<Url>, AllocError>
     ensures found { IfOk result
         (IsNamedBy target.now (only (shown_fields fields.now) name.now)) }
-    ensures kind { IfErr result (λ e. e ≡ OutOfMemory) }
 {
     match only(fields, name) {
         Some(reference) => of_origin(target, reference.as_bytes()),
@@ -114,14 +111,12 @@ pub struct Invalidated {
 }
 
 /// Which URIs besides the target URI a response invalidates, if it is one that `invalidates` says
-/// invalidates the target. Allocates for each URI; fails with `OutOfMemory` only if there is no room
-/// for one.
-pub fn taken_away(target: &Url, response: &HeaderMap) -> Result<Invalidated>
+/// invalidates the target. Allocates for each URI; fails only if there is no room for one.
+pub fn taken_away(target: &Url, response: &HeaderMap) -> Result<Invalidated, AllocError>
     ensures location { IfOk result (λ found. IsNamedBy target.now
         (only (shown_fields response.now) (codes "location")) found.location) }
     ensures content_location { IfOk result (λ found. IsNamedBy target.now
         (only (shown_fields response.now) (codes "content-location")) found.content_location) }
-    ensures kind { IfErr result (λ e. e ≡ OutOfMemory) }
 {
     let location = named_by(target, response, &LOCATION)?;
     let content_location = named_by(target, response, &CONTENT_LOCATION)?;

@@ -2,6 +2,7 @@
 use crate::desk::{Desk, Told, play};
 use crate::heads::fields;
 use http_header::HeaderMap;
+use pcache_base::error::Error;
 use pcache_http::rules::CacheKind;
 use pcache_http::stored_fields::stored_fields;
 use std::alloc::Global;
@@ -20,7 +21,7 @@ impl Desk for Keepers {
         };
         match stored_fields(self.kind, &headers) {
             Ok(kept) => tell_names(&kept, told),
-            Err(refused) => told.refused(&refused),
+            Err(refused) => told.refused(&Error::from(refused)),
         }
     }
 }

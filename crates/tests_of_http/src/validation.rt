@@ -6,6 +6,7 @@ use crate::desk::{Desk, Told, number, play, word};
 use crate::validation::heads::{fields, request, response, status, stored};
 use http::Method;
 use http_header::{HeaderMap, HeaderName, HeaderValue};
+use pcache_base::error::Error;
 use pcache_base::moment::Moment;
 use pcache_validation::answers::after_validation;
 use pcache_validation::asking::{if_modified_since, if_none_match};
@@ -230,7 +231,7 @@ fn tell_away(target: &Url, response: &HeaderMap, told: &mut Told) {
             told.say(", ");
             tell_url(content_location.as_ref(), told);
         }
-        Err(refused) => told.refused(&refused),
+        Err(refused) => told.refused(&Error::from(refused)),
     }
 }
 

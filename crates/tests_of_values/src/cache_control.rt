@@ -4,13 +4,13 @@ use crate::heads::append;
 use crate::rows::{Desk, Told, play, rest, unescape, word};
 use http::StatusCode;
 use http_header::HeaderMap;
-use pcache_base::error::{ErrorType, Result};
+use pcache_base::error::{Error, ErrorType, Result};
 use pcache_control::cache_control::{
     CacheControl, Cacheable, DELTA_SECONDS_OVERFLOW_VALUE, DirectiveKey, DirectiveValue,
     InterpretCacheControl, ListValueIter, delta_seconds_overflow_duration,
 };
 use pcache_meta::header::ResponseHeader;
-use std::alloc::Global;
+use std::alloc::{AllocError, Global};
 use std::time::Duration;
 
 // The bytes of one line.
@@ -65,11 +65,11 @@ fn append_all(
     true
 }
 
-fn tell_read(cc: Result<Option<CacheControl>>, call: &'static str, told: &mut Told) {
+fn tell_read(cc: Result<Option<CacheControl>, AllocError>, call: &'static str, told: &mut Told) {
     match cc {
         Ok(Some(cc)) => tell_one(cc, word(call, 0), told),
         Ok(None) => told.say("nothing"),
-        Err(refused) => told.refused(&refused),
+        Err(refused) => told.refused(&Error::from(refused)),
     }
 }
 
