@@ -286,7 +286,8 @@ impl Request {
     /// [`Error::Exhausted`], [`Error::BadValue`] for a moment that is none.
     pub fn look(&mut self, now: Moment) -> Result<Looked, Error> {
         let (mut found, mut held) = (0, 0);
-        self.call(|cache, request| unsafe {
+        // A second look-up lets go of a permit, which ends the waits of others.
+        self.change(|cache, request| unsafe {
             match raw::pcache_request_look(cache, request, now.secs, now.nanos, &mut found) {
                 raw::OK => raw::pcache_request_held(cache, request, &mut held),
                 code => code,
@@ -306,7 +307,8 @@ impl Request {
     /// # Errors
     /// [`Error::Nothing`] if nothing was found, else as of [`Request::look`].
     pub fn take(&mut self, status: HitStatus, now: Moment) -> Result<(), Error> {
-        self.call(|cache, request| unsafe {
+        // As of `look`: a permit that is held is let go.
+        self.change(|cache, request| unsafe {
             raw::pcache_request_take(cache, request, status as u32, now.secs, now.nanos)
         })
     }
