@@ -27,7 +27,7 @@ use crate::served::Served;
 use pcache_base::key::CacheKey;
 use pcache_base::reason::NoCacheReason;
 use pcache_cache::Weighing;
-use std::alloc::Global;
+use std::alloc::{AllocError, Global};
 use std::time::Duration;
 
 /// The counts of a cache. A sum that does not fit is the largest number.
@@ -177,7 +177,7 @@ fn cache_weighing(
             let served = Served::new(alloc, seed, manager, age_timeout, weighing);
             keep(alloc, cache, served)
         }
-        Err(_) => NO_MEMORY,
+        Err(AllocError) => NO_MEMORY,
     }
 }
 
