@@ -36,11 +36,13 @@ loop-new_part-preserved g c =
           (made_more b c.args.new_parts.items left c.in-Some.new_part parts c.new.result (subst (λ rest. Made b c.args.new_parts.items rest parts) steps i.1) (c.new.ensures.place ∙ here) c.new.ensures.first),
     )
 
-pub returns-clause-made : goal.returns-clause-made
-returns-clause-made g c =
+pub returns : goal.returns
+returns g c =
     let b = begins (as_nanos c.args.age_timeout) g.M.EvictionManager.tracked g.M.EvictionManager.evicted in
     let all = c.args.new_parts.items in
     let parts = c.loop-new_part.parts.items in
     let none : length c.loop-new_part.new_part-iterator.rest.items ≡ 0 = search rules in
     let made = subst (λ rest. Made b all rest parts) (nil_from_length c.loop-new_part.new_part-iterator.rest.items none) c.loop-new_part.invariant.1 in
-    (made_count b all parts made, made_placed b all parts made, made_all b all parts made ∙ sym (map-map (opened (as_nanos c.args.age_timeout)) (unmade_managed g.M.EvictionManager.tracked g.M.EvictionManager.evicted) all))
+    record {
+      made = (made_count b all parts made, made_placed b all parts made, made_all b all parts made ∙ sym (map-map (opened (as_nanos c.args.age_timeout)) (unmade_managed g.M.EvictionManager.tracked g.M.EvictionManager.evicted) all));
+    }

@@ -17,7 +17,7 @@ returns-in_err-meta-clause-goes g c =
     (goes_as c.args.self.now g.K.Mark.names c.args.request.now.place c.args.request.now.seen mid.seen
     (λ p q found.
     let is = found_is (found_for p.store r.key) c.in-Some.found found.found in
-    read_not c.args.now r p q c.from_residual.result why.0 why.1 (why.2 ∙ c.in_err-meta.ensures.kind) (subst IsSome (sym is.0) refl) found.same)
+    read_not c.args.now r p q c.from_residual.result why.0 why.1 why.2 (subst IsSome (sym is.0) refl) found.same)
     c.in-Some.ensures.goes)
 
 pub returns-then-hides-clause-goes : goal.returns-then-hides-clause-goes

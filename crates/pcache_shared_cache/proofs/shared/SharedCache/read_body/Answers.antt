@@ -1,6 +1,6 @@
 use Rattle.pcache_shared_cache.proofs.Words.{IsSome, ap, refl, subst, sym, ◌∙◌, Seated}
 use Rattle.pcache_shared_cache.proofs.Logs.{sees_by, lent, sees_last}
-use Rattle.pcache_shared_cache.proofs.Unlocked.{keeps_phase, keeps_reader}
+use Rattle.pcache_shared_cache.proofs.Unlocked.{keeps_all, keeps_phase, keeps_reader, lacks_memory}
 use Rattle.pcache_shared_cache.proofs.shared.SharedCache.read_body.Goals as goal
 
 pub returns-then-reads_alone-clause-sees : goal.returns-then-reads_alone-clause-sees
@@ -8,6 +8,14 @@ returns-then-reads_alone-clause-sees g c =
     let read = c.read_body_alone in
     rw (← c.request.view_is) (sees_last c.args.self.now g.K.Mark.names c.request.inside.sight.place c.request.inside.sight.log c.headline.ensures
     (λ p. read.ensures p.store))
+
+pub returns-then-reads_alone-clause-same : goal.returns-then-reads_alone-clause-same
+returns-then-reads_alone-clause-same g c =
+    let read = c.read_body_alone in
+    rw (← c.request.view_is) (keeps_all read.result c.request.inside.request.cache read.new.self read.ensures)
+
+pub returns-then-reads_alone-clause-kind : goal.returns-then-reads_alone-clause-kind
+returns-then-reads_alone-clause-kind g c = lacks_memory c.read_body_alone.result c.request.inside.request.cache c.read_body_alone.new.self c.read_body_alone.ensures
 
 pub returns-then-reads_alone-clause-reader : goal.returns-then-reads_alone-clause-reader
 returns-then-reads_alone-clause-reader g c =
