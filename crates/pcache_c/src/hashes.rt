@@ -6,7 +6,7 @@ ghost use Rattle.pcache_c.specs.Managers.{IsWritten};
 ghost use Rattle.pcache_c.specs.Objects.{as_variance};
 ghost use Rattle.pcache_c.specs.Values.{AddsTo, EndsHandle, EndsVariance, MakesCombined, MakesHash, SaysVariance, empty_variance};
 
-use crate::codes::{BAD_HANDLE, BAD_VALUE, NO_MEMORY, NONE, OK, WRONG_KIND, code_of};
+use crate::codes::{BAD_HANDLE, BAD_VALUE, NO_MEMORY, NONE, OK, WRONG_KIND};
 use crate::handle::PcacheHandle;
 use crate::object::Object;
 use pcache_base::key::{CacheHashKey, CompactCacheKey, HashBinary, hash_key};
@@ -127,7 +127,7 @@ fn add_to(alloc: Global, builder: &mut VarianceBuilder<'static>, name: &[u8], va
     };
     match builder.add_owned_name_value(name, value) {
         Ok(()) => OK,
-        Err(e) => code_of(e),
+        Err(_) => NO_MEMORY,
     }
 }
 

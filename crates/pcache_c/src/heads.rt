@@ -9,7 +9,7 @@ ghost use Rattle.pcache_c.specs.Handles.{AsksOf, ChangesOf, IsSame, OnKind, Turn
 ghost use Rattle.pcache_c.specs.Objects.{as_control, as_head};
 ghost use Rattle.pcache_c.specs.Values.{AddsField, AddsLine, Decides, IsSeconds, MakesHead, ReadsControl, SaysControl};
 
-use crate::codes::{BAD_HANDLE, BAD_VALUE, NO_MEMORY, NONE, OK, WRONG_KIND, code_of};
+use crate::codes::{BAD_HANDLE, BAD_VALUE, NO_MEMORY, NONE, OK, WRONG_KIND};
 use crate::handle::PcacheHandle;
 use crate::metas::moment_of;
 use crate::object::Object;
@@ -97,7 +97,7 @@ fn read_control(alloc: Global, head: &ResponseHeader, control: &mut PcacheHandle
     match CacheControl::from_resp_headers(alloc, head) {
         Ok(Some(read)) => control.fill(alloc, Object::Control(read)),
         Ok(None) => NONE,
-        Err(e) => code_of(e),
+        Err(_) => NO_MEMORY,
     }
 }
 
@@ -251,11 +251,11 @@ fn fill_meta(
 {
     let control = match CacheControl::from_resp_headers(alloc, head) {
         Ok(control) => control,
-        Err(e) => return code_of(e),
+        Err(_) => return NO_MEMORY,
     };
     let head = match head.copied() {
         Ok(head) => head,
-        Err(e) => return code_of(e),
+        Err(_) => return NO_MEMORY,
     };
     let defaults = CacheMetaDefaults::new(no_default, windows.0, windows.1);
     match decide(control.as_ref(), head, authorized, windows, &defaults, now) {

@@ -5,7 +5,7 @@ ghost use Rattle.pcache_c.specs.Handles.{AsksOf, ChangesOf, IsSame, OnKind, Turn
 ghost use Rattle.pcache_c.specs.Objects.{as_head, as_meta};
 ghost use Rattle.pcache_c.specs.Values.{AreWritten, MakesMeta, ReadsMeta, SavesMeta, SaysHash, SaysMeta, SaysMoment, SaysServable, VariesMeta, meta_said};
 
-use crate::codes::{BAD_HANDLE, BAD_VALUE, NONE, OK, WRONG_KIND, code_of};
+use crate::codes::{BAD_HANDLE, BAD_VALUE, NO_MEMORY, NONE, OK, WRONG_KIND, code_of};
 use crate::handle::PcacheHandle;
 use crate::hashes::{put, variance_from};
 use crate::object::Object;
@@ -75,7 +75,7 @@ fn new_meta(alloc: Global, head: &ResponseHeader, said: &PcacheMeta, meta: &mut 
     };
     let head = match head.copied() {
         Ok(head) => head,
-        Err(e) => return code_of(e),
+        Err(_) => return NO_MEMORY,
     };
     let made = CacheMeta::new(
         fresh_until,
@@ -270,7 +270,7 @@ fn write_meta(
             *header_len = second.len();
             write_both(first.as_slice(), second.as_slice(), internal, header)
         }
-        Err(e) => code_of(e),
+        Err(_) => NO_MEMORY,
     }
 }
 

@@ -208,7 +208,7 @@ pub(crate) fn set_meta(opened: &mut Open, meta: &CacheMeta) -> u32
             opened.request.cache.set_cache_meta(meta);
             OK
         }
-        Err(e) => code_of(e),
+        Err(_) => NO_MEMORY,
     }
 }
 
@@ -223,7 +223,7 @@ pub(crate) fn meta_of(opened: &Open) -> Result<CacheMeta, u32>
     };
     match meta.copied() {
         Ok(meta) => Ok(meta),
-        Err(e) => Err(code_of(e)),
+        Err(_) => Err(NO_MEMORY),
     }
 }
 
@@ -236,7 +236,7 @@ pub(crate) fn renew(cache: &mut AnyCache, opened: &mut Open, meta: &CacheMeta) -
     }
     let meta = match meta.copied() {
         Ok(meta) => meta,
-        Err(e) => return code_of(e),
+        Err(_) => return NO_MEMORY,
     };
     match cache.revalidate_cache_meta(&mut opened.request, meta) {
         Ok(_) => OK,
@@ -272,7 +272,7 @@ pub(crate) fn serve_on(
             cache.revalidate_uncacheable(&mut opened.request, head, reason);
             OK
         }
-        Err(e) => code_of(e),
+        Err(_) => NO_MEMORY,
     }
 }
 

@@ -5,7 +5,7 @@ ghost use Rattle.pcache_c.specs.Handles.{AsksOf, IsSame, OnKind};
 ghost use Rattle.pcache_c.specs.Objects.{as_head};
 ghost use Rattle.pcache_c.specs.Taken.{OnUri, TakesAway, uri_text};
 
-use crate::codes::{BAD_HANDLE, BAD_VALUE, NO_MEMORY, WRONG_KIND, code_of};
+use crate::codes::{BAD_HANDLE, BAD_VALUE, NO_MEMORY, WRONG_KIND};
 use crate::handle::PcacheHandle;
 use crate::metas::write_both;
 use crate::object::Object;
@@ -43,7 +43,7 @@ fn write_taken(
             *content_location_len = second.len();
             write_both(first, second, location, content_location)
         }
-        Err(e) => code_of(e),
+        Err(_) => NO_MEMORY,
     }
 }
 
