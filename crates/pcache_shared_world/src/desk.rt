@@ -1,6 +1,7 @@
 //! The world under its lock.
-ghost use Rattle.std.specs.Prelude.{◌≡◌, ℕ, ◌+◌, ◌<◌, ◌≤◌, ◌++◌, ◌∷◌, [], Some, length, slice_get, IfOk, IfSome, OnErr};
+ghost use Rattle.std.specs.Prelude.{◌≡◌, ℕ, ◌+◌, ◌<◌, ◌≤◌, ◌++◌, ◌∷◌, [], Some, length, slice_get, IfOk, IfErr, IfSome, OnErr};
 ghost use Rattle.std.specs.List.{All};
+ghost use Rattle.pcache_base.specs.declared.error.ErrorType.TheVariants.{OutOfMemory};
 ghost use Rattle.pcache_history.specs.Log.{Adds, HasLegal, events_in};
 ghost use Rattle.pcache_history.specs.declared.entry.Entry.{Entry};
 ghost use Rattle.pcache_shared_world.specs.Receipts.{HasGrown, IsOf, HasReached};
@@ -16,7 +17,6 @@ use pcache_world::world::World;
 use pcache_world::world::call::Call;
 use pcache_world::world::entry::Entry;
 use pcache_world::world::policy::PutPolicy;
-use std::alloc::AllocError;
 use std::marker::{Model, PhantomData};
 
 /// The value under the lock: the world, and the seat that knows all entries added to it.
@@ -75,7 +75,7 @@ impl<M: EvictionManager, P: PutPolicy, K: Mark> Desk<M, P, K> {
         seat: &mut Seat<Entry, View<Entry>>,
         call: Call,
         copy: Call,
-    ) -> Result<Receipt, AllocError>
+    ) -> Result<Receipt>
         requires copy { copy ≡ call }
         requires room { (room.now.shared.table_id ≡ K.opened.table) × (0 < K.opened.table.words) }
         requires seat { (seat.old.table_id ≡ K.opened.table) × IsSlip seat.old.me }
@@ -90,6 +90,7 @@ impl<M: EvictionManager, P: PutPolicy, K: Mark> Desk<M, P, K> {
             × (seat.new.me ≡ (slip (seat.old.me.0.claims ++ (n, e) ∷ []), []))
             × All (λ c. c.0 < n) seat.old.me.0.claims))) }
         ensures err { OnErr result (seat.new.me ≡ seat.old.me) }
+        ensures kind { IfErr result (λ e. e ≡ OutOfMemory) }
     {
         let index = self.world.history().len();
         let reply = self.world.step(call)?;
