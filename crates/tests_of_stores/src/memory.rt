@@ -7,7 +7,7 @@ use pcache_base::error::Result;
 use pcache_base::seed::Seed;
 use pcache_meta::meta::spelled::SpelledMeta;
 use pcache_store::memory::{MemCache, MemMissHandler};
-use std::alloc::Global;
+use std::alloc::{AllocError, Global};
 use std::process::Abort;
 
 mod ends;
@@ -35,11 +35,11 @@ impl Kept for MemCache {
 }
 
 // The number in the meta that the store keeps of what it finds.
-fn tell_kept(found: Result<Option<SpelledMeta>>, told: &mut Told) {
+fn tell_kept(found: Result<Option<SpelledMeta>, AllocError>, told: &mut Told) {
     match found {
         Ok(Some(meta)) => tell_entry(meta.entry_id(), told),
         Ok(None) => told.say("none"),
-        Err(refused) => told.refused(&refused),
+        Err(refused) => told.refused(&refused.into()),
     }
 }
 
