@@ -12,7 +12,7 @@ use pcache_world::world::call::{Call, Reply};
 use pcache_world::world::entry::Entry;
 use pcache_world::world::policy::BySelf;
 use pcache_world::world::{Totals, World};
-use std::alloc::Global;
+use std::alloc::{AllocError, Global};
 use std::process::Abort;
 use std::time::Duration;
 use test_rows::{Desk, Told, asked_of, other_seed};
@@ -70,10 +70,14 @@ pub fn sharded_world_of<const N: usize>(
     world_over(alloc, seed, made)
 }
 
-fn world_over<M: EvictionManager + Drop>(alloc: Global, seed: Seed, made: Result<M>) -> Made<M> {
+fn world_over<M: EvictionManager + Drop>(
+    alloc: Global,
+    seed: Seed,
+    made: Result<M, AllocError>,
+) -> Made<M> {
     match made {
         Ok(manager) => Ok(World::new(alloc, seed, manager, Duration::from_secs(10))),
-        Err(refused) => Err(refused),
+        Err(refused) => Err(refused.into()),
     }
 }
 

@@ -17,7 +17,7 @@ use pcache_request::phase::HitStatus;
 use pcache_world::world::boxed::Boxed;
 use pcache_world::world::call::{Act, Call, RequestAct};
 use pcache_world::world::tokens::Tokens;
-use std::alloc::Global;
+use std::alloc::{AllocError, Global};
 use std::fmt::Write;
 use test_rows::key_of;
 
@@ -188,7 +188,7 @@ fn boxed_call(alloc: Global, words: Words) -> Option<Call> {
     }
 }
 
-fn set_key(key: Result<Boxed<CacheKey>>, request: u64) -> Option<Call> {
+fn set_key(key: Result<Boxed<CacheKey>, AllocError>, request: u64) -> Option<Call> {
     match key {
         Ok(key) => Some(RequestAct::Key { key }.of(request)),
         Err(_refused) => None,
@@ -196,7 +196,7 @@ fn set_key(key: Result<Boxed<CacheKey>>, request: u64) -> Option<Call> {
 }
 
 // `put R NAME [MAX]`: of a body that may have so many bytes, if that is given.
-fn put(key: Result<Boxed<CacheKey>>, words: Words) -> Option<Call> {
+fn put(key: Result<Boxed<CacheKey>, AllocError>, words: Words) -> Option<Call> {
     let limit = words.second.parse::<usize>().ok();
     match key {
         Ok(key) => Some(Act::Put { key, limit }.of(words.request)),

@@ -393,7 +393,7 @@ fn the_older_body_goes(rt: HostRuntime) {
 fn old_entry(alloc: Global) -> Result<CacheEntryKey> {
     match key_of(alloc, b"old", "1").to_compact() {
         Ok(key) => Ok(CacheEntryKey::key_only(key)),
-        Err(refused) => Err(refused),
+        Err(refused) => Err(refused.into()),
     }
 }
 
