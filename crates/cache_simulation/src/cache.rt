@@ -18,7 +18,7 @@ use pcache_base::seed::Seed;
 use pcache_evict::eviction::ordered::OrderedManager;
 use pcache_evict::eviction::{sharded_lru, simple_lru};
 use pcache_policies::{clock, fifo, s3_fifo, sieve, two_queues};
-use std::alloc::Global;
+use std::alloc::{AllocError, Global};
 use std::time::Duration;
 
 /// A run over the manager of a policy.
@@ -65,12 +65,11 @@ impl AnyRun {
         most: usize,
         time: Option<Duration>,
         replaces: bool,
-    ) -> Result<AnyRun>
+    ) -> Result<AnyRun, AllocError>
         ensures empty { IfOk result (λ r. Stands [] []
             (rules_of (limits_of (goes_by policy) limit watermark) most replaces)
             (option_map (λ t. none_fresh (as_nanos t)) time) 0 r) }
         ensures policy { IfOk result (λ r. policy_of r ≡ policy) }
-        ensures kind { IfErr result (λ e. e ≡ OutOfMemory) }
     {
         // A run over the same trace should take the same time again, and no outsider chooses its
         // keys.
@@ -215,10 +214,14 @@ pub struct Cache {
 
 impl Cache {
     /// An empty cache.
-    pub fn new(alloc: Global, setting: Setting, policy: Policy, size: usize) -> Result<Cache>
+    pub fn new(
+        alloc: Global,
+        setting: Setting,
+        policy: Policy,
+        size: usize,
+    ) -> Result<Cache, AllocError>
         ensures empty { IfOk result (λ c. StandsIn setting [] [] c) }
         ensures shape { IfOk result (λ c. shape_of c ≡ (policy, size)) }
-        ensures kind { IfErr result (λ e. e ≡ OutOfMemory) }
     {
         let limit = setting.sample.scaled(size);
         let watermark = setting.scaled_watermark();

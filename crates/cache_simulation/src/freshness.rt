@@ -1,18 +1,16 @@
 //! Until when bodies are fresh, if that is limited.
-ghost use Rattle.std.specs.Prelude.{◌≡◌, ◌+◌, OnOk, IfErr};
+ghost use Rattle.std.specs.Prelude.{◌≡◌, ◌+◌, OnOk};
 ghost use Rattle.std.specs.Duration.{as_nanos};
 ghost use Rattle.std.specs.FinMap as map;
-ghost use Rattle.pcache_base.specs.declared.error.ErrorType.TheVariants.{OutOfMemory};
 ghost use Rattle.pcache_evict.specs.Tracked.{without};
 ghost use Rattle.cache_simulation.specs.Fresh.{is_fresh_at, is_fresh_since, none_fresh};
 
 use http::StatusCode;
-use pcache_base::error::Result;
 use pcache_base::moment::Moment;
 use pcache_evict::eviction::CacheEntryKey;
 use pcache_meta::header::ResponseHeader;
 use pcache_meta::meta::CacheMeta;
-use std::alloc::Global;
+use std::alloc::{AllocError, Global};
 use std::collections::HashMap;
 use std::marker::Model;
 use std::time::Duration;
@@ -63,10 +61,9 @@ impl Freshness {
     }
 
     /// Records when a body was added.
-    pub fn set(&mut self, item: CacheEntryKey, now: Moment) -> Result<()>
+    pub fn set(&mut self, item: CacheEntryKey, now: Moment) -> Result<(), AllocError>
         ensures ok { OnOk result (self.new
             ≡ record self.old { came = map.insert self.old.came item now }) }
-        ensures kind { IfErr result (λ e. e ≡ OutOfMemory) }
     {
         self.came.insert(item, now)?;
         Ok(())

@@ -17,7 +17,7 @@ use pcache_base::error::{Error, ErrorType, Result};
 use pcache_base::key::CompactCacheKey;
 use pcache_base::moment::Moment;
 use pcache_evict::eviction::CacheEntryKey;
-use std::alloc::Global;
+use std::alloc::{AllocError, Global};
 use std::thread::Threads;
 
 // How many requests are read before they are made to each cache in turn: so many that a thread has
@@ -42,10 +42,14 @@ pub struct Player {
 impl Player {
     /// The caches that the options ask for, over a trace whose bodies have `distinct` bytes
     /// altogether, each counted once. At most so many threads play to them at once.
-    pub fn new(alloc: Global, options: &Options, distinct: u64, threads: usize) -> Result<Player>
+    pub fn new(
+        alloc: Global,
+        options: &Options,
+        distinct: u64,
+        threads: usize,
+    ) -> Result<Player, AllocError>
         ensures none { IfOk result (λ p. HasRead [] [] p) }
         ensures setting { IfOk result (λ p. p.runs.setting ≡ options.now.setting) }
-        ensures kind { IfErr result (λ e. e ≡ OutOfMemory) }
     {
         Ok(Player {
             runs: Runs::new(alloc, options, distinct, threads)?,
@@ -113,7 +117,7 @@ impl Player {
             until: self.until()?,
             all: self.all,
         };
-        self.runs.rows(span)
+        Ok(self.runs.rows(span)?)
     }
 
     /// The requests and bytes of the lines since the mark.

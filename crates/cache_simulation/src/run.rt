@@ -15,7 +15,7 @@ use pcache_base::error::{Error, ErrorType, Result};
 use pcache_base::moment::Moment;
 use pcache_evict::eviction::CacheEntryKey;
 use pcache_evict::eviction::ordered::OrderedManager;
-use std::alloc::Global;
+use std::alloc::{AllocError, Global};
 use std::time::Duration;
 
 /// A request of a trace.
@@ -88,7 +88,7 @@ impl<M: OrderedManager> Run<M> {
 
     /// Makes one request: a stored body that is fresh is used; any other is added, unless it is too
     /// large. What is counted of a hit is the size that was asked for. A request that fails for memory is not counted; its body may have been added then.
-    pub fn request(&mut self, asked: &Request) -> Result<()>
+    pub fn request(&mut self, asked: &Request) -> Result<(), AllocError>
         requires { self.old.counts.requests < 2 ^ 64 - 1 }
         ensures ok { OnOk result ((e : Event)
             × IsCounted self.old.counts (e ∷ []) self.new.counts
@@ -104,7 +104,6 @@ impl<M: OrderedManager> Run<M> {
         ensures limits { M.limits self.new.manager ≡ M.limits self.old.manager }
         ensures most { self.new.most ≡ self.old.most }
         ensures replaces { self.new.replaces ≡ self.old.replaces }
-        ensures kind { IfErr result (λ e. e ≡ OutOfMemory) }
         ensures err { OnErr result (self.new.counts ≡ self.old.counts) }
     {
         if self.has_fresh(asked) {
@@ -183,7 +182,7 @@ impl<M: OrderedManager> Run<M> {
     }
 
     // Adds a body, or adds it anew.
-    fn bring(&mut self, asked: &Request) -> Result<()>
+    fn bring(&mut self, asked: &Request) -> Result<(), AllocError>
         ensures comes { OnOk result (Brings M.policy (M.limits self.old.manager)
             (comes
             (self.old.replaces && map.contains_key (M.tracked self.old.manager) asked.now.item)
@@ -196,7 +195,6 @@ impl<M: OrderedManager> Run<M> {
         ensures most { self.new.most ≡ self.old.most }
         ensures replaces { self.new.replaces ≡ self.old.replaces }
         ensures counts { self.new.counts ≡ self.old.counts }
-        ensures kind { IfErr result (λ e. e ≡ OutOfMemory) }
     {
         // An option: a body that is validated is a use of its entry, and one that is fetched anew
         // is a new entry, as `Cache` makes of it.
@@ -207,7 +205,7 @@ impl<M: OrderedManager> Run<M> {
     }
 
     // Removes the entry of a body, and adds it anew.
-    fn renew(&mut self, asked: &Request) -> Result<()>
+    fn renew(&mut self, asked: &Request) -> Result<(), AllocError>
         ensures comes { OnOk result (Brings M.policy (M.limits self.old.manager)
             (Renewed asked.now.item asked.now.size) asked.now
             (state (M.tracked self.old.manager) self.old.freshness) (M.order self.old.manager)
@@ -218,14 +216,13 @@ impl<M: OrderedManager> Run<M> {
         ensures most { self.new.most ≡ self.old.most }
         ensures replaces { self.new.replaces ≡ self.old.replaces }
         ensures counts { self.new.counts ≡ self.old.counts }
-        ensures kind { IfErr result (λ e. e ≡ OutOfMemory) }
     {
         self.manager.remove_in_order(&asked.item);
         self.fill(asked)
     }
 
     // Adds a body.
-    fn fill(&mut self, asked: &Request) -> Result<()>
+    fn fill(&mut self, asked: &Request) -> Result<(), AllocError>
         ensures comes { OnOk result (Brings M.policy (M.limits self.old.manager)
             (Came asked.now.item asked.now.size) asked.now
             (state (M.tracked self.old.manager) self.old.freshness) (M.order self.old.manager)
@@ -236,7 +233,6 @@ impl<M: OrderedManager> Run<M> {
         ensures most { self.new.most ≡ self.old.most }
         ensures replaces { self.new.replaces ≡ self.old.replaces }
         ensures counts { self.new.counts ≡ self.old.counts }
-        ensures kind { IfErr result (λ e. e ≡ OutOfMemory) }
     {
         let copy = asked.item.copied()?;
         let out = self.manager.admit_in_order(copy, asked.size, asked.time)?;
@@ -244,14 +240,13 @@ impl<M: OrderedManager> Run<M> {
     }
 
     // Records when a body was added, and forgets those that were evicted.
-    fn remember(&mut self, asked: &Request, gone: Vec<CacheEntryKey>) -> Result<()>
+    fn remember(&mut self, asked: &Request, gone: Vec<CacheEntryKey>) -> Result<(), AllocError>
         ensures fresh { OnOk result (self.new.freshness
             ≡ noted asked.now.item asked.now.time gone.items self.old.freshness) }
         ensures manager { self.new.manager ≡ self.old.manager }
         ensures most { self.new.most ≡ self.old.most }
         ensures replaces { self.new.replaces ≡ self.old.replaces }
         ensures counts { self.new.counts ≡ self.old.counts }
-        ensures kind { IfErr result (λ e. e ≡ OutOfMemory) }
     {
         let Some(freshness) = &mut self.freshness else {
             return Ok(());

@@ -11,7 +11,7 @@ use crate::report::Row;
 use crate::run::Request;
 use crate::side_by_side::play_each;
 use pcache_base::error::Result;
-use std::alloc::Global;
+use std::alloc::{AllocError, Global};
 use std::thread::Threads;
 
 /// The caches of a simulation, for each policy one of each size.
@@ -28,10 +28,14 @@ pub struct Runs {
 impl Runs {
     /// The caches that the options ask for, over a trace whose bodies have `distinct` bytes
     /// altogether, each counted once. At most so many threads play to them at once.
-    pub fn new(alloc: Global, options: &Options, distinct: u64, threads: usize) -> Result<Runs>
+    pub fn new(
+        alloc: Global,
+        options: &Options,
+        distinct: u64,
+        threads: usize,
+    ) -> Result<Runs, AllocError>
         ensures empty { IfOk result (λ r. HasPlayed [] [] r) }
         ensures setting { IfOk result (λ r. r.setting ≡ options.now.setting) }
-        ensures kind { IfErr result (λ e. e ≡ OutOfMemory) }
     {
         let setting = options.setting;
         let mut caches = Vec::new(alloc);
@@ -80,11 +84,10 @@ impl Runs {
 
     /// The results of each cache over the sample of a part of a trace, by policy and size in the order in which
     /// they were given.
-    pub fn rows(&self, span: Span) -> Result<Vec<Row>>
+    pub fn rows(&self, span: Span) -> Result<Vec<Row>, AllocError>
         ensures rows { IfOk result (λ rows. (before asked : List Request)
             → HasPlayed before asked self.now
             → All (IsRow self.now.setting span before asked) rows.items) }
-        ensures kind { IfErr result (λ e. e ≡ OutOfMemory) }
     {
         let mut rows = Vec::new(self.alloc);
         for cache in self.caches.as_slice() {
@@ -102,10 +105,9 @@ fn add(
     sizes: &[Size],
     distinct: u64,
     caches: &mut Vec<Cache>,
-) -> Result<()>
+) -> Result<(), AllocError>
     ensures ok { OnOk result (All (StandsIn setting [] []) caches.old.items
         → All (StandsIn setting [] []) caches.new.items) }
-    ensures kind { IfErr result (λ e. e ≡ OutOfMemory) }
 {
     for size in sizes {
         caches.push(Cache::new(alloc, setting, policy, size.in_bytes(distinct))?)?;

@@ -11,7 +11,7 @@ use crate::run::Request;
 use crate::tiers::Tiers;
 use pcache_base::error::Result;
 use rendezvous::nodes::node_of;
-use std::alloc::Global;
+use std::alloc::{AllocError, Global};
 use std::slice;
 
 impl Tiers {
@@ -24,7 +24,7 @@ impl Tiers {
         size: usize,
         count: u64,
         shield: Option<usize>,
-    ) -> Result<Tiers>
+    ) -> Result<Tiers, AllocError>
         ensures empty { IfOk result (λ t. HasHad [] t) }
         ensures shape { IfOk result (λ t.
             (t.setting ≡ setting) × (t.policy ≡ policy) × (t.size ≡ size)) }
@@ -32,7 +32,6 @@ impl Tiers {
         ensures there { IfOk result (λ t. (length t.there.items ≡ count)
             × EachIndex t.there.items (λ n. slice_index t.there.items n ≡ n)) }
         ensures shield { IfOk result (λ t. option_map (λ c. c.size) t.shield ≡ shield) }
-        ensures kind { IfErr result (λ e. e ≡ OutOfMemory) }
     {
         Ok(Tiers {
             setting,
@@ -84,11 +83,10 @@ impl Tiers {
     }
 
     /// What each node tells, in the order of their numbers.
-    pub fn each_node(&self, alloc: Global) -> Result<Vec<Told>>
+    pub fn each_node(&self, alloc: Global) -> Result<Vec<Told>, AllocError>
         ensures told { IfOk result (λ each. (visits : List Visit)
             → HasHad visits self.now
             → TellEach visits self.now each.items) }
-        ensures kind { IfErr result (λ e. e ≡ OutOfMemory) }
     {
         let mut each = Vec::new(alloc);
         for node in self.nodes.as_slice() {
@@ -156,10 +154,9 @@ fn empty_nodes(
     policy: Policy,
     size: usize,
     count: u64,
-) -> Result<Vec<Cache>>
+) -> Result<Vec<Cache>, AllocError>
     ensures empty { IfOk result (λ nodes. All (Got setting policy size []) nodes.items) }
     ensures count { IfOk result (λ nodes. length nodes.items ≡ count) }
-    ensures kind { IfErr result (λ e. e ≡ OutOfMemory) }
 {
     let mut nodes = Vec::new(alloc);
     for _ in 0..count {
@@ -174,12 +171,11 @@ fn empty_shield(
     setting: Setting,
     policy: Policy,
     size: Option<usize>,
-) -> Result<Option<Cache>>
+) -> Result<Option<Cache>, AllocError>
     ensures empty { IfOk result (λ shield. (c : Cache)
         → shield ≡ Some c
         → Got setting policy c.size [] c) }
     ensures there { IfOk result (λ shield. option_map (λ c. c.size) shield ≡ size) }
-    ensures kind { IfErr result (λ e. e ≡ OutOfMemory) }
 {
     match size {
         // Of the policy of the nodes: two policies would be a table in two dimensions.
@@ -189,11 +185,10 @@ fn empty_shield(
 }
 
 // The numbers below this one, in their order.
-fn numbers(alloc: Global, count: u64) -> Result<Vec<u64>>
+fn numbers(alloc: Global, count: u64) -> Result<Vec<u64>, AllocError>
     ensures all { IfOk result (λ there. (length there.items ≡ count)
         × EachIndex there.items (λ n. slice_index there.items n ≡ n)) }
     ensures below { IfOk result (λ there. All (λ n. n < count) there.items) }
-    ensures kind { IfErr result (λ e. e ≡ OutOfMemory) }
 {
     let mut there = Vec::new(alloc);
     for number in 0..count {

@@ -22,11 +22,11 @@ loop-node-preserved c =
           (tells self.setting self.policy self.size (at_node index visits) item c.told.result c.told.ensures.policy c.told.ensures.ran got) (so_far.each visits had);
     }
 
-pub returns-clause-told : goal.returns-clause-told
-returns-clause-told c = λ visits had.
+pub returns : goal.returns
+returns c =
     let so_far = c.loop-node.invariant in
     let long = so_far.long in
     let upto = so_far.upto in
     let end = c.loop-node-test.false in
     let same = ap length c.as_slice-node-items.ensures.value in
-    record { long = omega arith; each = so_far.each visits had }
+    record { told = λ visits had. record { long = omega arith; each = so_far.each visits had } }
