@@ -1,20 +1,22 @@
 //! The arguments that requests and puts pass to their parts, which no contract sees: a manager, a storage, a lock table
 //! and a policy of a put record what they got, or what was called.
-use crate::made::{key_of, meta_until};
+//!
+//! A row that begins with a number is a call of the request with this number; another one asks what was recorded, or pushes a
+//! response in.
+use crate::noted::waits::Tracing;
+use crate::rows::{Desk, Told, asked_of, compare, number, some_number, word};
 use crate::whole_store::WholeStore;
-use bytes::Bytes;
 use pcache_base::error::Result;
-use pcache_base::key::CacheKey;
+use pcache_base::key::{CacheKey, CompactCacheKey};
 use pcache_base::moment::Moment;
 use pcache_base::seed::Seed;
 use pcache_evict::eviction::{CacheEntryKey, EvictionManager};
-use pcache_lock::lock::CacheLock;
-use pcache_request::cache::*;
-use pcache_request::phase::*;
-use pcache_store::storage::{HandleHit, HandleMiss};
+use pcache_request::cache::HttpCache;
 use std::alloc::{AllocError, Global};
-use std::time::Duration;
+use std::process::Abort;
+use test_rows::key_of;
 
+mod calls;
 mod handed;
 mod readers;
 mod uses;
@@ -103,132 +105,135 @@ struct Parts<M: EvictionManager> {
     alloc: Global,
     store: WholeStore,
     manager: Noting<M>,
-    lock: CacheLock,
-}
-
-fn parts_of<M: EvictionManager>(alloc: Global, list: M) -> Parts<M> {
-    Parts {
-        alloc,
-        store: WholeStore::new(alloc, Seed::fixed()),
-        manager: Noting {
-            list,
-            admitted: None,
-            accessed: None,
-        },
-        lock: CacheLock::new(alloc, Duration::from_secs(10)),
-    }
+    table: Tracing,
 }
 
 type Request = HttpCache<WholeStore>;
 
-fn asks(request: &mut Request, key: CacheKey, lock: bool) {
-    if request.phase().is_disabled() {
-        let uses = InUse {
-            eviction: true,
-            predictor: false,
-            lock,
-        };
-        request.enable(uses, None);
+// Two requests over their parts.
+struct Room<M: EvictionManager> {
+    parts: Parts<M>,
+    one: Request,
+    two: Request,
+}
+
+impl<M: EvictionManager> Room<M> {
+    fn new(alloc: Global, list: M) -> Room<M> {
+        Room {
+            parts: Parts {
+                alloc,
+                store: WholeStore::new(alloc, Seed::fixed()),
+                manager: Noting {
+                    list,
+                    admitted: None,
+                    accessed: None,
+                },
+                table: Tracing::new(alloc),
+            },
+            one: HttpCache::new(alloc),
+            two: HttpCache::new(alloc),
+        }
     }
-    if request.phase().may_take_key() {
-        request.set_cache_key(key);
+
+    // As `play` of `rows`, which takes no desk over a manager of any type.
+    fn play(&mut self, rt: &impl Abort, alloc: Global, rows: &'static str) {
+        let mut told = Told::new(alloc);
+        let mut number = 0u64;
+        for row in rows.trim().lines() {
+            number = number.saturating_add(1);
+            let row = row.trim();
+            told.clear();
+            self.tell(asked_of(row), &mut told);
+            compare(rt, number, row, &told);
+        }
+    }
+
+    fn end(self) {
+        let Room {
+            mut parts,
+            one,
+            two,
+        } = self;
+        let _let_go = one.end(&mut parts.store, &mut parts.table);
+        let _let_go = two.end(&mut parts.store, &mut parts.table);
     }
 }
 
-// A request of a key that uses the manager.
-fn request_of(alloc: Global, name: &str) -> Result<Request> {
-    let key = key_of(alloc, name)?;
-    let mut request = HttpCache::new(alloc);
-    asks(&mut request, key, false);
-    Ok(request)
+impl<M: EvictionManager> Desk for Room<M> {
+    fn tell(&mut self, call: &'static str, told: &mut Told) {
+        let Room { parts, one, two } = self;
+        match some_number(call, 0) {
+            Some(1) => calls::tell(parts, one, call, told),
+            Some(_) => calls::tell(parts, two, call, told),
+            None => tell_of_parts(parts, call, told),
+        }
+    }
 }
 
-// Looks the key up, and takes what is found as this.
-fn takes<M: EvictionManager>(
-    parts: &mut Parts<M>,
-    request: &mut Request,
-    status: HitStatus,
-) -> Result<()> {
-    if !request.phase().may_look_up() {
-        return Ok(());
+fn tell_of_parts<M: EvictionManager>(parts: &mut Parts<M>, call: &'static str, told: &mut Told) {
+    match word(call, 0) {
+        "pushes" => handed::push(parts, word(call, 1), number(call, 2), told),
+        "handed" => {
+            tell_moment("admitted ", parts.manager.admitted, told);
+            tell_moment(", used ", parts.manager.accessed, told);
+            told.say(", purged ");
+            told.named(&parts.store.purged());
+        }
+        "readers" => {
+            let (finished, let_go) = parts.store.ended();
+            told.say("finished ");
+            told.shown(&finished);
+            told.say(", let go ");
+            told.shown(&let_go);
+        }
+        "traced" => parts.table.tell(told),
+        _ => {
+            let key = key_named(parts.alloc, word(call, 1)).to_compact();
+            tell_tracked(parts, key, told);
+        }
     }
-    let now = Moment::from_secs(110);
-    let found = request.cache_lookup_without_policy(&mut parts.store, &mut parts.lock, now)?;
-    let Some((meta, hit)) = found else {
-        return Ok(());
-    };
-    if !request.phase().may_look_up() {
-        hit.let_go(&mut parts.store);
-        return Ok(());
-    }
-    request.cache_found(
-        &mut parts.store,
-        &mut parts.manager,
-        &mut parts.lock,
-        meta,
-        hit,
-        status,
-        now,
-    )
 }
 
-// Goes on as a miss, and begins the write of a response that is fresh until this second.
-fn begins<M: EvictionManager>(
-    parts: &mut Parts<M>,
-    request: &mut Request,
-    second: u64,
-) -> Result<()> {
-    if request.phase().may_miss() {
-        request.cache_miss();
-    }
-    if request.may_take_meta() {
-        request.set_cache_meta(meta_until(parts.alloc, second));
-    }
-    if request.may_write() {
-        request.set_miss_handler(&mut parts.store, &mut parts.lock)?;
-    }
-    Ok(())
+fn key_named(alloc: Global, name: &'static str) -> CacheKey {
+    key_of(alloc, name.as_bytes(), "1")
 }
 
-// Writes five bytes, and ends the write.
-fn fills<M: EvictionManager>(parts: &mut Parts<M>, request: &mut Request) -> Result<()> {
-    if !request.phase().is_filling() {
-        return Ok(());
+fn tell_moment(before: &str, moment: Option<Moment>, told: &mut Told) {
+    told.say(before);
+    match moment {
+        Some(moment) => told.number(moment.secs()),
+        None => told.say("none"),
     }
-    if let Some(writer) = request.miss_handler()
-        && !writer.at_eof(&parts.store)
-    {
-        writer.write_body(&mut parts.store, Bytes::from_static(b"fresh"), true)?;
+}
+
+// Whether the manager tracks the only entry of a key.
+fn tell_tracked<M: EvictionManager>(
+    parts: &Parts<M>,
+    key: Result<CompactCacheKey, AllocError>,
+    told: &mut Told,
+) {
+    match key {
+        Ok(key) => {
+            let entry = CacheEntryKey::from_entry_id(key, None);
+            told.yes_or_no(parts.manager.peek(&entry));
+        }
+        Err(refused) => told.refused(&refused.into()),
     }
-    let _report = request.finish_miss_handler(
-        &mut parts.store,
-        &mut parts.manager,
-        &mut parts.lock,
-    )?;
-    Ok(())
 }
 
-fn begins_and_fills<M: EvictionManager>(
-    parts: &mut Parts<M>,
-    request: &mut Request,
-    second: u64,
-) -> Result<()> {
-    begins(parts, request, second)?;
-    fills(parts, request)
-}
-
-// Stores five bytes under a key, fresh until this second.
-fn stores<M: EvictionManager>(parts: &mut Parts<M>, name: &str, second: u64) -> Result<()> {
-    let mut request = request_of(parts.alloc, name)?;
-    let stored = begins_and_fills(parts, &mut request, second);
-    let _let_go = request.end(&mut parts.store, &mut parts.lock);
-    stored
-}
-
-// Finds what is stored for a key, takes it with this status, and ends the request.
-fn finds<M: EvictionManager>(parts: &mut Parts<M>, name: &str, status: HitStatus) -> Result<()> {
-    let mut request = request_of(parts.alloc, name)?;
-    let found = takes(parts, &mut request, status);
-    let _let_go = request.end(&mut parts.store, &mut parts.lock);
-    found
+// Plays rows over a manager that was just made.
+fn run<M: EvictionManager>(
+    rt: &impl Abort,
+    alloc: Global,
+    made: Result<M, AllocError>,
+    rows: &'static str,
+) {
+    match made {
+        Ok(list) => {
+            let mut room = Room::new(alloc, list);
+            room.play(rt, alloc, rows);
+            room.end();
+        }
+        Err(_refused) => assert!(rt; false, "no memory for a manager"),
+    }
 }

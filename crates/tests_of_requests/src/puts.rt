@@ -344,71 +344,56 @@ fn run_section(rt: &impl Abort, alloc: Global, rows: &'static str) {
 
 const RUST: &[u8] = b"HTTP/1.1 200 OK\r\nContent-Length: 4\r\n\r\nrust";
 
-// Whether the response is stored, in two pieces that are cut there, or in a piece for each byte.
-fn is_stored(alloc: Global, cut: Option<usize>) -> bool {
+// How the response ends, however it is cut.
+const STORED: &str = "
+    finish -> stored 4
+    total -> 4 bytes, weight 4, 0 writes";
+
+// Pushes the response in, in two pieces that are cut there, or in a piece for each byte.
+fn run_cut(rt: &impl Abort, alloc: Global, cut: Option<usize>) {
     match Putting::make(alloc) {
-        Ok(putting) => is_stored_by(putting, cut),
-        Err(_refused) => false,
+        Ok(putting) => {
+            let mut putting = putting;
+            assert!(rt; feed_cut(&mut putting, cut), "cut at {cut:?}");
+            play(rt, alloc, &mut putting, STORED);
+            putting.end();
+        }
+        Err(_refused) => assert!(rt; false),
     }
 }
 
-fn is_stored_by(putting: Putting, cut: Option<usize>) -> bool {
-    let Putting { mut parts, mut put } = putting;
-    let size = match cut {
-        Some(cut) => stored_in_two(&mut parts, &mut put, cut),
-        None => stored_by_bytes(&mut parts, &mut put),
-    };
-    put.end(&mut parts.store);
-    size == Some(4) && parts.store.stored_bytes() == 4 && parts.store.write_records() == 0
+// Whether the put goes on after the last piece.
+fn feed_cut(putting: &mut Putting, cut: Option<usize>) -> bool {
+    match cut {
+        Some(cut) => match RUST.split_at_checked(cut) {
+            Some((first, second)) => {
+                is_fed(putting, first);
+                is_fed(putting, second)
+            }
+            None => false,
+        },
+        None => {
+            let mut is_last_fed = false;
+            for piece in RUST.chunks(1) {
+                is_last_fed = is_fed(putting, piece);
+            }
+            is_last_fed
+        }
+    }
 }
 
-fn is_fed(parts: &mut Parts, put: &mut Put, piece: &'static [u8]) -> bool {
+fn is_fed(putting: &mut Putting, piece: &'static [u8]) -> bool {
+    let Putting { parts, put } = putting;
     let answer = put.cache_put(&Bytes::from_static(piece), &mut parts.store, Moment::EPOCH);
     matches!(answer, Ok(None))
 }
 
-fn finished(parts: &mut Parts, put: &mut Put) -> Option<usize> {
-    match put.finish(&mut parts.store, &mut parts.manager) {
-        Ok(PutOutcome::Stored(report)) => Some(report.size),
-        _ => None,
-    }
-}
-
-fn stored_in_two(parts: &mut Parts, put: &mut Put, cut: usize) -> Option<usize> {
-    let (first, second) = RUST.split_at_checked(cut)?;
-    is_fed(parts, put, first);
-    if is_fed(parts, put, second) {
-        finished(parts, put)
-    } else {
-        None
-    }
-}
-
-fn stored_by_bytes(parts: &mut Parts, put: &mut Put) -> Option<usize> {
-    let mut is_last_fed = false;
-    for piece in RUST.chunks(1) {
-        is_last_fed = is_fed(parts, put, piece);
-    }
-    if is_last_fed {
-        finished(parts, put)
-    } else {
-        None
-    }
-}
-
-fn is_stored_cut_anywhere(alloc: Global) -> bool {
-    for cut in 0..RUST.len() {
-        if !is_stored(alloc, Some(cut)) {
-            return false;
-        }
-    }
-    true
-}
-
 #[test]
 fn a_put_is_stored_however_it_is_cut(rt: HostRuntime) {
-    assert!(rt; is_stored_cut_anywhere(rt.alloc()));
-    assert!(rt; is_stored(rt.alloc(), None));
+    for cut in 0..RUST.len() {
+        run_cut(&rt, rt.alloc(), Some(cut));
+    }
+    run_cut(&rt, rt.alloc(), None);
 }
 
 const ANSWERS: &str = r#"

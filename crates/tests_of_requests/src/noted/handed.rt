@@ -6,13 +6,11 @@ use super::*;
 use crate::lifetimes::{by_seconds, twenty_seconds};
 use bytes::Bytes;
 use http::StatusCode;
-use pcache_base::error::{Error, ErrorType};
 use pcache_control::{CacheMetaDefaults, RespCacheable};
 use pcache_evict::eviction::simple_lru::Manager;
 use pcache_meta::header::ResponseHeader;
 use pcache_put::context::CachePutCtx;
 use pcache_put::policy::CachePut;
-use pcache_store::storage::PurgeType;
 use std::cell::Cell;
 
 // Every status is fresh for twenty seconds, by a policy that counts the heads that it is shown.
@@ -43,68 +41,49 @@ impl CachePut for Twenty<'_> {
 
 const RESPONSE: &[u8] = b"HTTP/1.1 200 OK\r\n\r\nfresh";
 
-// Pushes a response at this second, and writes how many heads its policy was shown.
-fn pushes(parts: &mut Parts<Manager>, name: &str, second: u64) -> Result<u32> {
+/// Pushes a response in at a second, and tells how many heads its policy was shown.
+pub fn push<M: EvictionManager>(
+    parts: &mut Parts<M>,
+    name: &'static str,
+    second: u64,
+    told: &mut Told,
+) {
     let shown = Cell::new(0u32);
-    let key = key_of(parts.alloc, name)?;
+    let key = key_named(parts.alloc, name);
     let mut put = CachePutCtx::new(parts.alloc, Twenty { shown: &shown }, key);
     let response = Bytes::from_static(RESPONSE);
     let fed = put.cache_put(&response, &mut parts.store, Moment::from_secs(second));
-    let finished = put.finish(&mut parts.store, &mut parts.manager).is_ok();
+    let finished = put.finish(&mut parts.store, &mut parts.manager);
     put.end(&mut parts.store);
-    fed?;
-    if finished {
-        Ok(shown.get())
+    if fed.is_ok() && finished.is_ok() {
+        told.shown(&shown.get());
     } else {
-        Err(Error::new(ErrorType::InternalError))
+        told.say("failed");
     }
 }
 
-// Whether the manager gets the end of freshness with each admission, the storage that it is an eviction, and the
-// policy the head, once.
-fn are_told_of_puts(parts: &mut Parts<Manager>) -> Result<bool> {
-    let shown = pushes(parts, "a", 100)?;
-    let first = parts.manager.admitted == Some(Moment::from_secs(120))
-        && parts.store.purged().is_none();
-    let again = pushes(parts, "b", 101)?;
-    let second = parts.manager.admitted == Some(Moment::from_secs(121));
-    let is_eviction = matches!(parts.store.purged(), Some(PurgeType::Eviction));
-    Ok(first && second && is_eviction && shown == 1 && again == 1)
-}
-
-fn purges(parts: &mut Parts<Manager>, request: &mut Request) -> Result<()> {
-    if request.phase().may_purge() {
-        let _was_there = request.purge(&mut parts.store, &mut parts.manager)?;
-    }
-    Ok(())
-}
-
-fn is_purged(parts: &mut Parts<Manager>, name: &str) -> Result<bool> {
-    let mut request = request_of(parts.alloc, name)?;
-    let made = purges(parts, &mut request);
-    let _let_go = request.end(&mut parts.store, &mut parts.lock);
-    made?;
-    Ok(matches!(parts.store.purged(), Some(PurgeType::Invalidation)))
-}
-
-// Whether the manager gets the end of freshness with a use and with the admission of a request's own, and the
-// storage that a purge is an invalidation.
-fn are_told_of_requests(parts: &mut Parts<Manager>) -> Result<bool> {
-    finds(parts, "b", HitStatus::Fresh)?;
-    let is_used = parts.manager.accessed == Some(Moment::from_secs(121));
-    let is_purged = is_purged(parts, "b")?;
-    stores(parts, "c", 150)?;
-    let is_admitted = parts.manager.admitted == Some(Moment::from_secs(150));
-    Ok(is_used && is_purged && is_admitted)
-}
-
-// Of two bodies of five bytes one is kept.
-fn are_told(alloc: Global) -> Result<bool> {
-    let mut parts = parts_of(alloc, Manager::new(alloc, Seed::fixed(), 9)?);
-    Ok(are_told_of_puts(&mut parts)? && are_told_of_requests(&mut parts)?)
-}
+// The manager gets the end of freshness with each admission and use, the storage what a removal is for, and the policy of a put
+// the head, once. Of two bodies of five bytes one is kept.
+const HANDED: &str = "
+    pushes a 100 -> 1
+    handed -> admitted 120, used none, purged None
+    pushes b 101 -> 1
+    handed -> admitted 121, used none, purged Some(Eviction)
+    1 opens b
+    1 takes Fresh at 110
+    1 ends
+    handed -> admitted 121, used 121, purged Some(Eviction)
+    1 opens b
+    1 purges -> yes
+    1 ends
+    handed -> admitted 121, used 121, purged Some(Invalidation)
+    1 opens c
+    1 fills 150
+    1 ends
+    handed -> admitted 150, used 121, purged Some(Invalidation)";
 
 #[test]
 fn parts_are_told_what_belongs_to_a_call(rt: HostRuntime) {
-    assert!(rt; matches!(are_told(rt.alloc()), Ok(true)));
+    let alloc = rt.alloc();
+    run(&rt, alloc, Manager::new(alloc, Seed::fixed(), 9), HANDED);
 }
