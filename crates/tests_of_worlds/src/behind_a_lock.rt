@@ -1,14 +1,14 @@
 //! A world that is called by several, who take turns at a lock.
-use crate::play::{Limits, next_call, tell_reply, world_of};
-use crate::script::{Clock, asked_of};
-use pcache_base::error;
+use crate::play::{Limits, compare, tell_reply, world_of};
+use crate::script::{Clock, call_of};
 use pcache_base::seed::Seed;
 use pcache_evict::eviction::simple_lru::Manager;
 use pcache_world::world::World;
 use pcache_world::world::policy::BySelf;
 use std::alloc::Global;
+use std::process::Abort;
 use std::sync::{Mutex, Wait};
-use std::test::Fail;
+use test_rows::{Told, asked_of};
 
 type Shared = Mutex<World<Manager, BySelf>>;
 
@@ -31,7 +31,7 @@ const PURGED: &str = "open 1 -> Done\n\
     end 2 -> Done\n\
     end 3 -> Done\n";
 
-// Makes the call of a line while the lock is held, and writes its reply. The promises of the
+// Makes the call of a row while the lock is held, and tells its reply. The promises of the
 // history are known whenever the lock is held.
 fn ask(
     rt: &impl Wait,
@@ -39,40 +39,38 @@ fn ask(
     shared: &Shared,
     asked: &'static str,
     clock: &mut Clock,
-    told: &mut String,
-) -> error::Result<()> {
+    told: &mut Told,
+) {
     shared.lock(rt).headline();
-    match next_call(alloc, asked, clock)? {
-        Some(call) => {
-            let reply = shared.lock(rt).step(call)?;
-            tell_reply(alloc, asked, Some(&reply), told)
-        }
-        None => tell_reply(alloc, asked, None, told),
+    match call_of(alloc, asked, clock.next()) {
+        Some(call) => tell_reply(shared.lock(rt).step(call), told),
+        None => told.say("no call"),
     }
 }
 
-fn told(
-    rt: &impl Wait,
-    alloc: Global,
-    shared: &Shared,
-    text: &'static str,
-) -> error::Result<String> {
-    let mut told = String::new(alloc);
+fn play<R: Wait + Abort>(rt: &R, alloc: Global, shared: &Shared, rows: &'static str) {
+    let mut told = Told::new(alloc);
     let mut clock = Clock::new();
-    for line in text.lines() {
-        ask(rt, alloc, shared, asked_of(line), &mut clock, &mut told)?;
+    let mut number = 0u64;
+    for row in rows.lines() {
+        number = number.saturating_add(1);
+        told.clear();
+        ask(rt, alloc, shared, asked_of(row), &mut clock, &mut told);
+        compare(rt, number, row, &told);
     }
-    Ok(told)
 }
 
 // A reader follows a purged write to its end, by calls that take turns at a lock.
 #[test]
-fn nothing_is_left_of_ended_requests(rt: HostRuntime) -> Result<(), Fail> {
+fn nothing_is_left_of_ended_requests(rt: HostRuntime) {
     let alloc = rt.alloc();
-    let shared = Mutex::new(world_of(alloc, Seed::fixed(), Limits::weight(9))?);
-    let told = told(&rt, alloc, &shared, PURGED)?;
-    assert_eq!(rt; told.as_str(), PURGED);
-    let world = shared.into_inner();
-    assert_eq!(rt; (world.slots(), world.history().len()), (0, 17));
-    Ok(())
+    match world_of(alloc, Seed::fixed(), Limits::weight(9)) {
+        Ok(world) => {
+            let shared = Mutex::new(world);
+            play(&rt, alloc, &shared, PURGED);
+            let world = shared.into_inner();
+            assert!(rt; world.slots() == 0 && world.history().len() == 17);
+        }
+        Err(_refused) => assert!(rt; false),
+    }
 }

@@ -1,7 +1,9 @@
-//! Playing texts on worlds: the calls of a text in one run, and one by one.
+//! Playing rows on worlds: the calls of a text in one run, and one by one.
+//!
+//! A row is a call with its reply; one without an arrow is done. A line has a row, or several with `; ` between them.
 ghost use Rattle.std.specs.Prelude.{◌<◌};
 
-use crate::script::{Clock, Line, asked_of, call_of, line_of};
+use crate::script::{Clock, Line, call_of, line_of};
 use pcache_base::error::Result;
 use pcache_base::seed::Seed;
 use pcache_evict::eviction::{EvictionManager, sharded_lru, simple_lru};
@@ -10,11 +12,10 @@ use pcache_world::world::call::{Call, Reply};
 use pcache_world::world::entry::Entry;
 use pcache_world::world::policy::BySelf;
 use pcache_world::world::{Totals, World};
-use std::alloc::Global;
+use std::alloc::{AllocError, Global};
 use std::process::Abort;
-use std::test::Fail;
 use std::time::Duration;
-use test_rows::other_seed;
+use test_rows::{Desk, Told, asked_of, other_seed};
 
 /// The limits of a world's manager, on the weight of its entries and on their number.
 #[derive(Clone, Copy)]
@@ -41,15 +42,17 @@ impl Limits {
     }
 }
 
+/// A world that was just made.
+pub type Made<M> = Result<World<M, BySelf>>;
+
 /// A new world under a seed, whose manager has these limits. Permits are too old after ten seconds.
-pub fn world_of(
-    alloc: Global,
-    seed: Seed,
-    limits: Limits,
-) -> Result<World<simple_lru::Manager, BySelf>> {
+pub fn world_of(alloc: Global, seed: Seed, limits: Limits) -> Made<simple_lru::Manager> {
     let Limits { weight, watermark } = limits;
-    let manager = simple_lru::Manager::new_with_watermark(alloc, seed, weight, watermark)?;
-    Ok(World::new(alloc, seed, manager, Duration::from_secs(10)))
+    world_over(
+        alloc,
+        seed,
+        simple_lru::Manager::new_with_watermark(alloc, seed, weight, watermark),
+    )
 }
 
 /// The same over a manager in `N` shards.
@@ -57,30 +60,50 @@ pub fn sharded_world_of<const N: usize>(
     alloc: Global,
     seed: Seed,
     limits: Limits,
-) -> Result<World<sharded_lru::Manager<N>, BySelf>>
+) -> Made<sharded_lru::Manager<N>>
     requires { 0 < N }
 {
     let Limits { weight, watermark } = limits;
-    let manager = sharded_lru::Manager::<N>::with_capacity_and_watermark(
+    let made = sharded_lru::Manager::<N>::with_capacity_and_watermark(
         alloc, seed, weight, 4, watermark,
-    )?;
-    Ok(World::new(alloc, seed, manager, Duration::from_secs(10)))
+    );
+    world_over(alloc, seed, made)
+}
+
+fn world_over<M: EvictionManager + Drop>(
+    alloc: Global,
+    seed: Seed,
+    made: Result<M, AllocError>,
+) -> Made<M> {
+    match made {
+        Ok(manager) => Ok(World::new(alloc, seed, manager, Duration::from_secs(10))),
+        Err(refused) => Err(refused.into()),
+    }
 }
 
 /// Plays two texts on a new world, all calls of a text in one run, and on another world, under
-/// another seed, one by one. The result is the text each time. Both worlds are dropped with what is
-/// still open in them.
+/// another seed, one by one. Both worlds are dropped with what is still open in them.
 pub fn play(
     rt: &impl Abort,
     alloc: Global,
     limits: Limits,
     first: &'static str,
     text: &'static str,
-) -> std::result::Result<(), Fail> {
-    let mut together = world_of(alloc, Seed::fixed(), limits)?;
-    play_together(rt, alloc, &mut together, first, text)?;
-    let mut apart = world_of(alloc, other_seed(), limits)?;
-    play_apart(rt, alloc, &mut apart, first, text)
+) {
+    play_together(
+        rt,
+        alloc,
+        world_of(alloc, Seed::fixed(), limits),
+        first,
+        text,
+    );
+    play_apart(
+        rt,
+        alloc,
+        world_of(alloc, other_seed(), limits),
+        first,
+        text,
+    );
 }
 
 /// The same over a manager in `N` shards.
@@ -90,13 +113,23 @@ pub fn play_sharded<const N: usize>(
     limits: Limits,
     first: &'static str,
     text: &'static str,
-) -> std::result::Result<(), Fail>
+)
     requires { 0 < N }
 {
-    let mut together = sharded_world_of::<N>(alloc, Seed::fixed(), limits)?;
-    play_together(rt, alloc, &mut together, first, text)?;
-    let mut apart = sharded_world_of::<N>(alloc, other_seed(), limits)?;
-    play_apart(rt, alloc, &mut apart, first, text)
+    play_together(
+        rt,
+        alloc,
+        sharded_world_of::<N>(alloc, Seed::fixed(), limits),
+        first,
+        text,
+    );
+    play_apart(
+        rt,
+        alloc,
+        sharded_world_of::<N>(alloc, other_seed(), limits),
+        first,
+        text,
+    );
 }
 
 /// Plays two texts over the simple manager, and over the manager in one shard.
@@ -106,9 +139,9 @@ pub fn play_on_both(
     limits: Limits,
     first: &'static str,
     text: &'static str,
-) -> std::result::Result<(), Fail> {
-    play(rt, alloc, limits, first, text)?;
-    play_sharded::<1>(rt, alloc, limits, first, text)
+) {
+    play(rt, alloc, limits, first, text);
+    play_sharded::<1>(rt, alloc, limits, first, text);
 }
 
 /// Plays two texts over a manager whose list has a hand, and over one with two queues. The texts may not depend on which
@@ -119,188 +152,261 @@ pub fn play_on_policies(
     limits: Limits,
     first: &'static str,
     text: &'static str,
-) -> std::result::Result<(), Fail> {
+) {
     let Limits { weight, watermark } = limits;
     let seed = Seed::fixed();
-    let hand = sieve::Manager::new_with_watermark(alloc, seed, weight, watermark)?;
-    let mut world = World::new(alloc, seed, hand, Duration::from_secs(10));
-    play_together(rt, alloc, &mut world, first, text)?;
-    let queues = s3_fifo::Manager::new_with_watermark(alloc, seed, weight, watermark)?;
-    let mut world = World::new(alloc, seed, queues, Duration::from_secs(10));
-    play_together(rt, alloc, &mut world, first, text)
+    let hand = sieve::Manager::new_with_watermark(alloc, seed, weight, watermark);
+    play_together(rt, alloc, world_over(alloc, seed, hand), first, text);
+    let queues = s3_fifo::Manager::new_with_watermark(alloc, seed, weight, watermark);
+    play_together(rt, alloc, world_over(alloc, seed, queues), first, text);
 }
 
-/// Makes the calls of each text in one run. The replies make the text, and each call is in the
-/// history, in order, with the reply that was returned.
-pub fn play_together<M: EvictionManager>(
+fn play_together<M: EvictionManager>(
     rt: &impl Abort,
     alloc: Global,
-    world: &mut World<M, BySelf>,
+    made: Made<M>,
     first: &'static str,
     text: &'static str,
-) -> std::result::Result<(), Fail> {
-    for text in [first, text] {
-        let told = told_together(alloc, world, text)?;
-        assert_eq!(rt; told.as_str(), text);
+) {
+    match made {
+        Ok(mut world) => {
+            run(rt, alloc, &mut world, first);
+            run(rt, alloc, &mut world, text);
+        }
+        Err(refused) => assert!(rt; false, "{}", refused.etype().as_str()),
     }
-    Ok(())
 }
 
-// Makes the calls of each text one by one. Their replies make the text.
 fn play_apart<M: EvictionManager>(
     rt: &impl Abort,
     alloc: Global,
-    world: &mut World<M, BySelf>,
+    made: Made<M>,
     first: &'static str,
     text: &'static str,
-) -> std::result::Result<(), Fail> {
-    for text in [first, text] {
-        let told = told_apart(alloc, world, text)?;
-        assert_eq!(rt; told.as_str(), text);
+) {
+    step(rt, alloc, made, false, &[first, text]);
+}
+
+/// Makes the calls of each text one by one, perhaps by the step that says more.
+pub fn step<M: EvictionManager>(
+    rt: &impl Abort,
+    alloc: Global,
+    made: Made<M>,
+    is_bounded: bool,
+    texts: &[&'static str],
+) {
+    match made {
+        Ok(world) => {
+            let mut steps = Steps {
+                alloc,
+                world,
+                clock: Clock::new(),
+                is_bounded,
+            };
+            steps.play_all(rt, alloc, texts);
+        }
+        Err(refused) => assert!(rt; false, "{}", refused.etype().as_str()),
     }
-    Ok(())
 }
 
-/// The calls of a text, each at its moment.
-pub fn calls_of(alloc: Global, text: &'static str) -> Result<Vec<Call>> {
-    let mut calls = Vec::new(alloc);
-    add_calls(alloc, text, &mut calls)?;
-    Ok(calls)
-}
-
-fn add_calls(alloc: Global, text: &'static str, calls: &mut Vec<Call>) -> Result<()> {
-    let mut clock = Clock::new();
-    for line in text.lines() {
-        if let Some(call) = next_call(alloc, asked_of(line), &mut clock)? {
-            calls.push(call)?;
+/// Plays the rows of a text. The first that is told otherwise fails the test.
+pub fn play_rows<D: Desk>(rt: &impl Abort, alloc: Global, desk: &mut D, text: &'static str) {
+    let mut told = Told::new(alloc);
+    let mut number = 0u64;
+    for line in text.trim().lines() {
+        for row in line.trim().split("; ") {
+            number = number.saturating_add(1);
+            told.clear();
+            desk.tell(asked_of(row), &mut told);
+            compare(rt, number, row, &told);
         }
     }
-    Ok(())
 }
 
-/// The call of a line, if it is one. A line with a time sets the clock.
-pub fn next_call(alloc: Global, asked: &'static str, clock: &mut Clock) -> Result<Option<Call>> {
-    match line_of(asked) {
-        Line::Call => call_of(alloc, asked, clock.next()),
-        Line::At(seconds) => {
-            clock.set(seconds);
-            Ok(None)
-        }
-        Line::Stat => Ok(None),
-    }
+/// Fails the test unless a row was told as it has to be.
+pub fn compare(rt: &impl Abort, number: u64, row: &'static str, told: &Told) {
+    let (_call, wanted) = row.split_once(" -> ").unwrap_or((row, "Done"));
+    let said = told.as_str();
+    assert!(rt;
+        told.is(wanted),
+        "row {number}, {row}: told {said}, and not {wanted}"
+    );
 }
 
-fn told_together<M: EvictionManager>(
+/// Makes the calls of a text in one run. The replies are those of the rows, and each call is in the history, in order, with
+/// the reply that was returned.
+pub fn run<M: EvictionManager>(
+    rt: &impl Abort,
     alloc: Global,
     world: &mut World<M, BySelf>,
     text: &'static str,
-) -> Result<String> {
+) {
     let before = world.history().len();
-    let calls = calls_of(alloc, text)?;
-    let replies = world.run(calls)?;
-    tell_all(alloc, world, before, replies.as_slice(), text)
+    match world.run(calls_of(alloc, text)) {
+        Ok(replies) => look_at(rt, alloc, world, before, replies.as_slice(), text),
+        Err(refused) => assert!(rt; false, "{}", refused.etype().as_str()),
+    }
 }
 
-// The text of replies. After them it says where the history has others.
-fn tell_all<M: EvictionManager>(
+fn look_at<M: EvictionManager>(
+    rt: &impl Abort,
     alloc: Global,
     world: &World<M, BySelf>,
     before: usize,
     replies: &[Reply],
     text: &'static str,
-) -> Result<String> {
-    let mut told = String::new(alloc);
-    let mut rest = replies.iter();
-    for line in text.lines() {
-        let asked = asked_of(line);
-        match line_of(asked) {
-            Line::Call => tell_reply(alloc, asked, rest.next(), &mut told)?,
-            Line::At(_) | Line::Stat => tell_other(alloc, asked, numbers_of(world), &mut told)?,
+) {
+    let noted = world.history().get(before..).unwrap_or(&[]);
+    let mut ran = Ran {
+        alloc,
+        replies,
+        noted,
+        numbers: numbers_of(world),
+        place: 0,
+    };
+    play_rows(rt, alloc, &mut ran, text);
+    let place = ran.place;
+    assert!(rt; place == replies.len() && place == noted.len());
+}
+
+/// The calls of a text, each at its moment. A line that is no call is left out.
+pub fn calls_of(alloc: Global, text: &'static str) -> Vec<Call> {
+    let mut calls = Vec::new(alloc);
+    let mut clock = Clock::new();
+    for line in text.trim().lines() {
+        for row in line.trim().split("; ") {
+            add_call(alloc, asked_of(row), &mut clock, &mut calls);
         }
     }
-    let noted = world.history().get(before..).unwrap_or(&[]);
-    if !are_noted(alloc, noted, replies)? {
-        told.push_str("the history has other replies\n")?;
-    }
-    Ok(told)
+    calls
 }
 
-// Whether these entries have these replies.
-fn are_noted(alloc: Global, entries: &[Entry], replies: &[Reply]) -> Result<bool> {
-    let mut are_noted = entries.len() == replies.len();
-    for (entry, reply) in entries.iter().zip(replies) {
-        are_noted = are_noted && is_same(alloc, &entry.reply, reply)?;
-    }
-    Ok(are_noted)
-}
-
-fn is_same(alloc: Global, left: &Reply, right: &Reply) -> Result<bool> {
-    let left = format!(in alloc; "{left:?}")?;
-    let right = format!(in alloc; "{right:?}")?;
-    Ok(left == right)
-}
-
-fn told_apart<M: EvictionManager>(
-    alloc: Global,
-    world: &mut World<M, BySelf>,
-    text: &'static str,
-) -> Result<String> {
-    let mut told = String::new(alloc);
-    let mut clock = Clock::new();
-    for line in text.lines() {
-        step(alloc, world, asked_of(line), &mut clock, &mut told)?;
-    }
-    Ok(told)
-}
-
-// Makes the call of a line, and writes its reply. For a wrong one it writes where it changed a
-// number.
-fn step<M: EvictionManager>(
-    alloc: Global,
-    world: &mut World<M, BySelf>,
-    asked: &'static str,
-    clock: &mut Clock,
-    told: &mut String,
-) -> Result<()> {
-    let before = numbers_of(world);
-    let Some(call) = next_call(alloc, asked, clock)? else {
-        return tell_other(alloc, asked, before, told);
-    };
-    let reply = world.step(call)?;
-    if matches!(reply, Reply::WrongCall) && numbers_of(world) != before {
-        told.push_str("it changed a number: ")?;
-    }
-    tell_reply(alloc, asked, Some(&reply), told)
-}
-
-/// Tells the reply to a call. There is none if the line could not be read.
-pub fn tell_reply(
-    alloc: Global,
-    asked: &str,
-    reply: Option<&Reply>,
-    told: &mut String,
-) -> Result<()> {
-    let line = match reply {
-        Some(reply) => format!(in alloc; "{asked} -> {reply:?}\n")?,
-        None => format!(in alloc; "{asked} -> no call\n")?,
-    };
-    told.push_str(line.as_str())?;
-    Ok(())
-}
-
-// Tells a line that is no call.
-fn tell_other(alloc: Global, asked: &str, numbers: Numbers, told: &mut String) -> Result<()> {
+/// Adds the call of a row, if it has one. A row with a time sets the clock.
+pub fn add_call(alloc: Global, asked: &'static str, clock: &mut Clock, calls: &mut Vec<Call>) {
     match line_of(asked) {
-        Line::Call => tell_reply(alloc, asked, None, told),
-        Line::At(_) => tell_time(asked, told),
-        Line::Stat => tell_numbers(alloc, numbers, told),
+        Line::Call => {
+            if let Some(call) = call_of(alloc, asked, clock.next()) {
+                let _is_there = calls.push(call).is_ok();
+            }
+        }
+        Line::At(seconds) => clock.set(seconds),
+        Line::Stat => {}
     }
 }
 
-fn tell_time(asked: &str, told: &mut String) -> Result<()> {
-    told.push_str(asked)?;
-    told.push('\n')?;
-    Ok(())
+// The replies of a run with the entries that it made, and the numbers of the world after it.
+#[derive(Drop)]
+struct Ran<'a> {
+    alloc: Global,
+    replies: &'a [Reply],
+    noted: &'a [Entry],
+    numbers: Numbers,
+    place: usize,
+}
+
+impl Desk for Ran<'_> {
+    fn tell(&mut self, call: &'static str, told: &mut Told) {
+        match line_of(call) {
+            Line::Call => {
+                let place = self.place;
+                self.place = place.saturating_add(1);
+                tell_noted(
+                    self.alloc,
+                    self.replies.get(place),
+                    self.noted.get(place),
+                    told,
+                );
+            }
+            Line::At(_) => told.say("Done"),
+            Line::Stat => tell_numbers(self.numbers, told),
+        }
+    }
+}
+
+// Tells a reply, and whether the history has another one.
+fn tell_noted(alloc: Global, reply: Option<&Reply>, noted: Option<&Entry>, told: &mut Told) {
+    let Some(reply) = reply else {
+        return told.say("no call");
+    };
+    told.named(reply);
+    let mut other = Told::new(alloc);
+    if let Some(entry) = noted {
+        other.named(&entry.reply);
+    }
+    if !other.is(told.as_str()) {
+        told.say(", and the history has ");
+        told.say(other.as_str());
+    }
+}
+
+// A world whose calls are made one by one.
+#[derive(Drop)]
+struct Steps<M: EvictionManager> {
+    alloc: Global,
+    world: World<M, BySelf>,
+    clock: Clock,
+    is_bounded: bool,
+}
+
+impl<M: EvictionManager> Steps<M> {
+    fn play_all(&mut self, rt: &impl Abort, alloc: Global, texts: &[&'static str]) {
+        for text in texts {
+            self.play(rt, alloc, *text);
+        }
+    }
+
+    // As `play_rows`, which takes no desk over a manager of any type. Each text has a clock of its own.
+    fn play(&mut self, rt: &impl Abort, alloc: Global, text: &'static str) {
+        self.clock = Clock::new();
+        let mut told = Told::new(alloc);
+        let mut number = 0u64;
+        for line in text.trim().lines() {
+            for row in line.trim().split("; ") {
+                number = number.saturating_add(1);
+                told.clear();
+                self.tell(asked_of(row), &mut told);
+                compare(rt, number, row, &told);
+            }
+        }
+    }
+}
+
+impl<M: EvictionManager> Desk for Steps<M> {
+    fn tell(&mut self, call: &'static str, told: &mut Told) {
+        match line_of(call) {
+            Line::Call => ask(self, call, told),
+            Line::At(seconds) => {
+                self.clock.set(seconds);
+                told.say("Done");
+            }
+            Line::Stat => tell_numbers(numbers_of(&self.world), told),
+        }
+    }
+}
+
+// Makes a call. A wrong one changes no number.
+fn ask<M: EvictionManager>(steps: &mut Steps<M>, asked: &'static str, told: &mut Told) {
+    let before = numbers_of(&steps.world);
+    let Some(call) = call_of(steps.alloc, asked, steps.clock.next()) else {
+        return told.say("no call");
+    };
+    let reply = if steps.is_bounded {
+        steps.world.bounded_step(call)
+    } else {
+        steps.world.step(call)
+    };
+    tell_reply(reply, told);
+    if told.is("WrongCall") && numbers_of(&steps.world) != before {
+        told.say(", and it changed a number");
+    }
+}
+
+/// Tells the reply to a call.
+pub fn tell_reply(reply: Result<Reply>, told: &mut Told) {
+    match reply {
+        Ok(reply) => told.named(&reply),
+        Err(refused) => told.refused(&refused),
+    }
 }
 
 // What is stored, what is tracked and what was evicted, with the number of entries at the start.
@@ -321,14 +427,13 @@ fn numbers_of<M: EvictionManager>(world: &World<M, BySelf>) -> Numbers {
     }
 }
 
-fn tell_numbers(alloc: Global, numbers: Numbers, told: &mut String) -> Result<()> {
-    let Numbers {
-        stored,
-        slots,
-        totals,
-        start,
-    } = numbers;
-    let line = format!(in alloc; "stat -> {stored} in {slots}, {totals:?}, {start} before\n")?;
-    told.push_str(line.as_str())?;
-    Ok(())
+fn tell_numbers(numbers: Numbers, told: &mut Told) {
+    told.shown(&numbers.stored);
+    told.say(" in ");
+    told.shown(&numbers.slots);
+    told.say(", ");
+    told.named(&numbers.totals);
+    told.say(", ");
+    told.shown(&numbers.start);
+    told.say(" before");
 }

@@ -1,7 +1,7 @@
-//! Reading the lines of a text: each is a call, with the reply that is wanted after ` -> `.
+//! Reading the rows of a text: each is a call, with the reply that is wanted after ` -> `.
 //!
-//! A line `at S` says that it is second `S` from then on; without one, each call comes three
-//! seconds after the one before. A line `stat`, after the calls, asks for the counts.
+//! A row `at S` says that it is second `S` from then on; without one, each call comes three
+//! seconds after the one before. A row `stat`, after the calls, asks for the counts.
 
 use bytes::Bytes;
 use http::StatusCode;
@@ -17,9 +17,9 @@ use pcache_request::phase::HitStatus;
 use pcache_world::world::boxed::Boxed;
 use pcache_world::world::call::{Act, Call, RequestAct};
 use pcache_world::world::tokens::Tokens;
-use std::alloc::Global;
+use std::alloc::{AllocError, Global};
 use std::fmt::Write;
-pub use test_rows::asked_of;
+use test_rows::key_of;
 
 // The variance of a key that has one.
 const VARIANCE: HashBinary = [0; 16];
@@ -58,7 +58,7 @@ impl Clock {
     }
 }
 
-/// What a line asks for.
+/// What a row asks for.
 #[derive(Clone, Copy)]
 pub enum Line {
     /// A call, or nothing that can be read.
@@ -69,7 +69,7 @@ pub enum Line {
     Stat,
 }
 
-/// What a line asks for, by its first word.
+/// What a row asks for, by its first word.
 pub fn line_of(asked: &str) -> Line {
     if asked == "stat" {
         return Line::Stat;
@@ -80,19 +80,14 @@ pub fn line_of(asked: &str) -> Line {
     }
 }
 
-/// The words of a call: which it is, of which request, and more. Missing ones are empty.
+// The words of a call: which it is, of which request, and more. Missing ones are empty.
 #[derive(Clone, Copy)]
-pub struct Words {
-    /// Which call it is.
-    pub call: &'static str,
-    /// The number of its request.
-    pub request: u64,
-    /// The first further word.
-    pub first: &'static str,
-    /// The second further word.
-    pub second: &'static str,
-    /// The third further word.
-    pub third: &'static str,
+struct Words {
+    call: &'static str,
+    request: u64,
+    first: &'static str,
+    second: &'static str,
+    third: &'static str,
 }
 
 fn number(word: &str) -> Option<u64> {
@@ -110,24 +105,17 @@ fn words_of(asked: &'static str) -> Option<Words> {
     })
 }
 
-/// The call that a line spells, without its reply; none if it spells none.
-pub fn call_of(alloc: Global, asked: &'static str, now: Moment) -> Result<Option<Call>> {
-    match words_of(asked) {
-        Some(words) => call_with_words(alloc, words, now),
-        None => Ok(None),
-    }
-}
-
-/// The call that has these words; none if no call has them.
-pub fn call_with_words(alloc: Global, words: Words, now: Moment) -> Result<Option<Call>> {
+/// The call that a row spells, without its reply; none if it spells none, or if memory runs out.
+pub fn call_of(alloc: Global, asked: &'static str, now: Moment) -> Option<Call> {
+    let words = words_of(asked)?;
     if let Some(call) = plain_call(words.call, words.request, now) {
-        return Ok(Some(call));
+        return Some(call);
     }
     if let Some(call) = set_call(alloc, words.call, words.request) {
-        return Ok(Some(call));
+        return Some(call);
     }
     if let Some(call) = call_with(words, now) {
-        return Ok(Some(call));
+        return Some(call);
     }
     boxed_call(alloc, words)
 }
@@ -179,33 +167,52 @@ fn set_call(alloc: Global, word: &str, request: u64) -> Option<Call> {
 }
 
 // A call that has a value behind a box.
-fn boxed_call(alloc: Global, words: Words) -> Result<Option<Call>> {
+fn boxed_call(alloc: Global, words: Words) -> Option<Call> {
     let request = words.request;
-    Ok(Some(match words.call {
-        "key" => RequestAct::Key {
-            key: Boxed::new(alloc, key_of(alloc, words)?)?,
+    match words.call {
+        "key" => set_key(Boxed::new(alloc, key_with(alloc, words)), request),
+        "put" => put(
+            Boxed::new(alloc, key_of(alloc, words.first.as_bytes(), "1")),
+            words,
+        ),
+        "meta" => Some(RequestAct::Meta {
+            meta: meta_of(alloc, words)?,
         }
-        .of(request),
-        "put" => Act::Put {
-            key: Boxed::new(alloc, key(alloc, words.first, "1")?)?,
-            limit: limit_of(words.second),
+        .of(request)),
+        "revalidate" => Some(RequestAct::Revalidate {
+            meta: meta_of(alloc, words)?,
         }
-        .of(request),
-        "meta" => RequestAct::Meta {
-            meta: Boxed::new(alloc, meta_of(alloc, words)?)?,
+        .of(request)),
+        "uncacheable" => uncacheable(head_of(alloc, words.first), alloc, request),
+        _ => None,
+    }
+}
+
+fn set_key(key: Result<Boxed<CacheKey>, AllocError>, request: u64) -> Option<Call> {
+    match key {
+        Ok(key) => Some(RequestAct::Key { key }.of(request)),
+        Err(_refused) => None,
+    }
+}
+
+// `put R NAME [MAX]`: of a body that may have so many bytes, if that is given.
+fn put(key: Result<Boxed<CacheKey>, AllocError>, words: Words) -> Option<Call> {
+    let limit = words.second.parse::<usize>().ok();
+    match key {
+        Ok(key) => Some(Act::Put { key, limit }.of(words.request)),
+        Err(_refused) => None,
+    }
+}
+
+fn uncacheable(head: Result<ResponseHeader>, alloc: Global, request: u64) -> Option<Call> {
+    let reason = NoCacheReason::InternalError;
+    match head {
+        Ok(head) => {
+            let header = Boxed::new(alloc, head).ok()?;
+            Some(RequestAct::Uncacheable { header, reason }.of(request))
         }
-        .of(request),
-        "revalidate" => RequestAct::Revalidate {
-            meta: Boxed::new(alloc, meta_of(alloc, words)?)?,
-        }
-        .of(request),
-        "uncacheable" => RequestAct::Uncacheable {
-            header: Boxed::new(alloc, head_of(alloc, words.first)?)?,
-            reason: NoCacheReason::InternalError,
-        }
-        .of(request),
-        _ => return Ok(None),
-    }))
+        Err(_refused) => None,
+    }
 }
 
 // A call that has words of its own.
@@ -233,22 +240,17 @@ fn call_with(words: Words, now: Moment) -> Option<Call> {
 }
 
 // `key R NAME [TAG [v]]`: a tag of the user that is not `1`, and with `v` the variance.
-fn key_of(alloc: Global, words: Words) -> Result<CacheKey> {
+fn key_with(alloc: Global, words: Words) -> CacheKey {
     let tag = if words.second.is_empty() {
         "1"
     } else {
         words.second
     };
-    let mut key = key(alloc, words.first, tag)?;
+    let mut key = key_of(alloc, words.first.as_bytes(), tag);
     if words.third == "v" {
         key.set_variance_key(VARIANCE);
     }
-    Ok(key)
-}
-
-// `put R NAME [MAX]`: of a body that may have so many bytes, if that is given.
-fn limit_of(word: &str) -> Option<usize> {
-    word.parse::<usize>().ok()
+    key
 }
 
 // `feed R PIECE`: a head by its name, or bytes as they are.
@@ -262,12 +264,6 @@ fn piece_of(word: &'static str) -> &'static str {
         "ended" => "trol: max-age=60\r\nContent-Length: 4\r\n\r\nru",
         _ => word,
     }
-}
-
-/// A key with this name, and this tag of the user.
-pub fn key(alloc: Global, name: &str, tag: &str) -> Result<CacheKey> {
-    let primary = name.as_bytes().to_vec(alloc)?;
-    Ok(CacheKey::new(primary, String::from_str(alloc, tag)?))
 }
 
 // `look R [defer | ready]`: with the decision of an admission policy.
@@ -293,15 +289,37 @@ fn found(request: u64, word: &str, now: Moment) -> Option<Call> {
 
 // `meta R [S [N]]`: of a response that is fresh until second 60, made at the first moment or at second `S`. With `N` it has so
 // many fields and all else that a meta may have.
-fn meta_of(alloc: Global, words: Words) -> Result<CacheMeta> {
-    let mut meta = meta(alloc, number(words.first).unwrap_or(0));
-    if !words.second.is_empty() {
-        *meta.response_header_mut() = head_of(alloc, words.second)?;
-        meta.set_variance_key(VARIANCE);
-        meta.set_provenance(Moment::from_secs(1));
-        meta.set_epoch_override(Moment::from_secs(2));
+fn meta_of(alloc: Global, words: Words) -> Option<Boxed<CacheMeta>> {
+    let seconds = number(words.first).unwrap_or(0);
+    match head_of(alloc, words.second) {
+        Ok(head) => {
+            let meta = if words.second.is_empty() {
+                meta_with(seconds, head)
+            } else {
+                whole_meta_with(seconds, head)
+            };
+            Boxed::new(alloc, meta).ok()
+        }
+        Err(_refused) => None,
     }
-    Ok(meta)
+}
+
+fn meta_with(seconds: u64, head: ResponseHeader) -> CacheMeta {
+    CacheMeta::new(
+        Moment::from_secs(60),
+        Moment::from_secs(seconds),
+        0,
+        0,
+        head,
+    )
+}
+
+fn whole_meta_with(seconds: u64, head: ResponseHeader) -> CacheMeta {
+    let mut meta = meta_with(seconds, head);
+    meta.set_variance_key(VARIANCE);
+    meta.set_provenance(Moment::from_secs(1));
+    meta.set_epoch_override(Moment::from_secs(2));
+    meta
 }
 
 // `uncacheable R [N]`: a head with so many fields, of status 404, or one of status 200 with none.
@@ -315,11 +333,4 @@ fn head_of(alloc: Global, word: &str) -> Result<ResponseHeader> {
     }
     text.push_str("\r\n")?;
     header_deserialize(alloc, text.as_bytes())
-}
-
-/// The meta of a response that was made at this second, and is fresh until second 60.
-pub fn meta(alloc: Global, seconds: u64) -> CacheMeta {
-    let header = ResponseHeader::build(alloc, StatusCode::OK);
-    let created = Moment::from_secs(seconds);
-    CacheMeta::new(Moment::from_secs(60), created, 0, 0, header)
 }

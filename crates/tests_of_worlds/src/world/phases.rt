@@ -1,16 +1,12 @@
 //! Each call in each phase, with its reply: a wrong call exactly when the phase table does not have
 //! it.
-use crate::play::{Limits, calls_of, tell_reply, world_of};
-use crate::script::{asked_of, call_of};
-use pcache_base::error;
-use pcache_base::moment::Moment;
+use crate::play::{Limits, add_call, calls_of, compare, world_of};
+use crate::script::Clock;
+use pcache_base::error::Result;
 use pcache_base::seed::Seed;
-use pcache_evict::eviction::simple_lru::Manager;
-use pcache_world::world::World;
 use pcache_world::world::call::{Call, Reply};
-use pcache_world::world::policy::BySelf;
 use std::alloc::Global;
-use std::test::Fail;
+use test_rows::{Told, asked_of};
 
 // The calls that another request makes before, to store a body for the key `k`. Nothing is stored
 // for `l`.
@@ -103,87 +99,72 @@ fn mark_of(reply: &Reply) -> char {
     }
 }
 
-// Adds a call of a line to others, if the line is one.
-fn add(alloc: Global, calls: &mut Vec<Call>, asked: &'static str) -> error::Result<()> {
-    if let Some(call) = call_of(alloc, asked, Moment::EPOCH)? {
-        calls.push(call)?;
-    }
-    Ok(())
-}
-
 // Adds the calls that lead a request to its state, and then a call of it.
-fn lead(
-    alloc: Global,
-    calls: &mut Vec<Call>,
-    state: &'static str,
-    call: &'static str,
-) -> error::Result<()> {
-    for asked in asked_of(state).split(',') {
-        add(alloc, calls, asked.trim())?;
+fn lead(alloc: Global, calls: &mut Vec<Call>, state: &'static str, call: &'static str) {
+    let mut clock = Clock::new();
+    clock.set(0);
+    for asked in asked_of(state).split(", ") {
+        add_call(alloc, asked, &mut clock, calls);
     }
-    add(alloc, calls, call)
+    add_call(alloc, call, &mut clock, calls);
 }
 
-// The reply of a new world to the last of these calls.
-fn last_reply(
+// Tells the reply of a new world to a call in a state: its mark, or all of it.
+fn tell_last(
     alloc: Global,
     state: &'static str,
     call: &'static str,
-) -> error::Result<Option<Reply>> {
-    let mut world = world_of(alloc, Seed::fixed(), Limits::weight(100))?;
-    last_reply_of(alloc, &mut world, state, call)
-}
-
-fn last_reply_of(
-    alloc: Global,
-    world: &mut World<Manager, BySelf>,
-    state: &'static str,
-    call: &'static str,
-) -> error::Result<Option<Reply>> {
-    let mut calls = calls_of(alloc, STORING)?;
-    lead(alloc, &mut calls, state, call)?;
-    let mut replies = world.run(calls)?;
-    Ok(replies.pop())
-}
-
-// Writes the reply to a call in each state.
-fn tell_row(alloc: Global, call: &'static str, told: &mut String) -> error::Result<()> {
-    for state in STATES.lines() {
-        let mark = match last_reply(alloc, state, call)? {
-            Some(reply) => mark_of(&reply),
-            None => '?',
-        };
-        told.push(mark)?;
+    is_mark: bool,
+    told: &mut Told,
+) {
+    let mut calls = calls_of(alloc, STORING);
+    lead(alloc, &mut calls, state, call);
+    match world_of(alloc, Seed::fixed(), Limits::weight(100)) {
+        Ok(mut world) => tell_last_of(world.run(calls), is_mark, told),
+        Err(refused) => told.refused(&refused),
     }
-    told.push(' ')?;
-    told.push_str(call)?;
-    told.push('\n')?;
-    Ok(())
+}
+
+fn tell_last_of(replies: Result<Vec<Reply>>, is_mark: bool, told: &mut Told) {
+    match replies {
+        Ok(replies) => match replies.last() {
+            Some(reply) if is_mark => told.letter(mark_of(reply)),
+            Some(reply) => told.named(reply),
+            None => told.say("no call"),
+        },
+        Err(refused) => told.refused(&refused),
+    }
 }
 
 #[test]
-fn each_call_in_each_phase(rt: HostRuntime) -> Result<(), Fail> {
-    let mut told = String::new(rt.alloc());
+fn each_call_in_each_phase(rt: HostRuntime) {
+    let alloc = rt.alloc();
+    let mut told = Told::new(alloc);
+    let mut number = 0u64;
     for row in ROWS.lines() {
-        if let Some((_marks, call)) = row.split_once(' ') {
-            tell_row(rt.alloc(), call, &mut told)?;
+        number = number.saturating_add(1);
+        let (marks, call) = row.split_once(' ').unwrap_or((row, ""));
+        told.clear();
+        for state in STATES.lines() {
+            tell_last(alloc, state, call, true, &mut told);
         }
+        let said = told.as_str();
+        assert!(rt;
+            told.is(marks),
+            "row {number}, {call}: told {said}, and not {marks}"
+        );
     }
-    assert_eq!(rt; told.as_str(), ROWS);
-    Ok(())
-}
-
-fn tell_phase(alloc: Global, state: &'static str, told: &mut String) -> error::Result<()> {
-    let reply = last_reply(alloc, state, "phase 1")?;
-    tell_reply(alloc, asked_of(state), reply.as_ref(), told)
 }
 
 #[test]
-fn the_phase_of_each_state(rt: HostRuntime) -> Result<(), Fail> {
-    let mut told = String::new(rt.alloc());
+fn the_phase_of_each_state(rt: HostRuntime) {
+    let alloc = rt.alloc();
+    let mut told = Told::new(alloc);
+    let mut number = 0u64;
     for state in STATES.lines() {
-        tell_phase(rt.alloc(), state, &mut told)?;
+        number = number.saturating_add(1);
+        told.clear();
+        tell_last(alloc, state, "phase 1", false, &mut told);
+        compare(&rt, number, state, &told);
     }
-    assert_eq!(rt; told.as_str(), STATES);
-    Ok(())
 }

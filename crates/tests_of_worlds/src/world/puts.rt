@@ -1,15 +1,13 @@
 //! Responses that are pushed in, between the calls of requests. None is fresh but for what it says of
 //! itself.
 use crate::play::{Limits, play_on_both, play_on_policies};
-use std::alloc::Global;
-use std::test::Fail;
 
 const NONE: &str = "";
 
 // A response that is pushed in is found as it comes, and at its end it is stored like one that a
 // request filled.
 #[test]
-fn found_while_it_comes(rt: HostRuntime) -> Result<(), Fail> {
+fn found_while_it_comes(rt: HostRuntime) {
     let rows = "put 9 k -> Done\n\
         feed 9 begun -> Done\n\
         open 1 -> Done\n\
@@ -30,13 +28,13 @@ fn found_while_it_comes(rt: HostRuntime) -> Result<(), Fail> {
         read 1 -> Data(b\"rust\")\n\
         read 1 -> Finished\n\
         stat -> 4 in 1, Totals { weight: 4, items: 1, evicted_weight: 0, evicted_items: 0 }, 0 before\n";
-    play_on_policies(&rt, rt.alloc(), Limits::weight(9), NONE, rows)?;
-    play_on_both(&rt, rt.alloc(), Limits::weight(9), NONE, rows)
+    play_on_policies(&rt, rt.alloc(), Limits::weight(9), NONE, rows);
+    play_on_both(&rt, rt.alloc(), Limits::weight(9), NONE, rows);
 }
 
 // A put evicts what a request stored, and is itself evicted.
 #[test]
-fn the_older_goes(rt: HostRuntime) -> Result<(), Fail> {
+fn the_older_goes(rt: HostRuntime) {
     let rows = "put 9 l -> Done\n\
         feed 9 head -> Done\n\
         feed 9 rust -> Done\n\
@@ -49,12 +47,12 @@ fn the_older_goes(rt: HostRuntime) -> Result<(), Fail> {
         feed 9 head -> NotCached(ResponseTooLarge)\n\
         close 9 -> NotCached(ResponseTooLarge)\n\
         stat -> 2 in 1, Totals { weight: 2, items: 1, evicted_weight: 6, evicted_items: 2 }, 0 before\n";
-    play_on_both(&rt, rt.alloc(), Limits::weight(5), super::FILLED, rows)
+    play_on_both(&rt, rt.alloc(), Limits::weight(5), super::FILLED, rows);
 }
 
 // What is not to be stored is not, and of the response whose end is missing nothing stays.
 #[test]
-fn nothing_is_stored(rt: HostRuntime) -> Result<(), Fail> {
+fn nothing_is_stored(rt: HostRuntime) {
     let rows = "put 9 k -> Done\n\
         feed 9 no_store -> NotCached(OriginNotCache)\n\
         feed 9 ru -> NotCached(OriginNotCache)\n\
@@ -79,12 +77,12 @@ fn nothing_is_stored(rt: HostRuntime) -> Result<(), Fail> {
         key 1 k -> Done\n\
         look 1 -> NotFound(Some(Write))\n\
         stat -> 0 in 0, Totals { weight: 0, items: 0, evicted_weight: 0, evicted_items: 0 }, 0 before\n";
-    play_on_both(&rt, rt.alloc(), Limits::weight(9), NONE, rows)
+    play_on_both(&rt, rt.alloc(), Limits::weight(9), NONE, rows);
 }
 
 // A call of a request is wrong on the number of a put, and the other way round.
 #[test]
-fn of_one_kind_each(rt: HostRuntime) -> Result<(), Fail> {
+fn of_one_kind_each(rt: HostRuntime) {
     let rows = "put 9 k -> Done\n\
         feed 9 head -> Done\n\
         open 9 -> WrongCall\n\
@@ -111,5 +109,5 @@ fn of_one_kind_each(rt: HostRuntime) -> Result<(), Fail> {
         close 9 -> WrongCall\n\
         drop 9 -> WrongCall\n\
         open 9 -> Done\n";
-    play_on_both(&rt, rt.alloc(), Limits::weight(9), NONE, rows)
+    play_on_both(&rt, rt.alloc(), Limits::weight(9), NONE, rows);
 }

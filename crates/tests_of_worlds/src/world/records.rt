@@ -1,13 +1,11 @@
 //! The store's records of writes are removed with the requests and puts that name them.
 use crate::play::{Limits, calls_of, world_of};
-use pcache_base::error;
 use pcache_base::seed::Seed;
 use pcache_evict::eviction::simple_lru::Manager;
 use pcache_world::world::World;
-use pcache_world::world::call::Act;
+use pcache_world::world::call::{Act, Call};
 use pcache_world::world::policy::BySelf;
 use std::alloc::Global;
-use std::test::Fail;
 
 // A purged write that is followed, one that is stored, one whose pair is held, and a put.
 const CALLS: &str = "open 1\n\
@@ -41,41 +39,42 @@ const CALLS: &str = "open 1\n\
     close 5\n\
     write 1 c\n";
 
-// How many records are left once the first calls were made, so many as this, and all that is open is ended.
-fn left_after(alloc: Global, count: usize) -> error::Result<(usize, usize)> {
-    let mut world = world_of(alloc, Seed::fixed(), Limits::weight(9))?;
+// The most records that there were while the first calls were made, so many as this, and how many are left once all that is
+// open is ended.
+fn left_after(alloc: Global, count: usize) -> Option<(usize, usize)> {
+    match world_of(alloc, Seed::fixed(), Limits::weight(9)) {
+        Ok(mut world) => {
+            let most = most_of(&mut world, calls_of(alloc, CALLS), count);
+            end_all(&mut world);
+            Some((most, world.write_records()))
+        }
+        Err(_refused) => None,
+    }
+}
+
+fn most_of(world: &mut World<Manager, BySelf>, calls: Vec<Call>, count: usize) -> usize {
     let mut most = 0usize;
-    for call in calls_of(alloc, CALLS)?.into_iter().take(count) {
-        let _reply = world.step(call)?;
+    for call in calls.into_iter().take(count) {
+        let _is_made = world.step(call).is_ok();
         most = most.max(world.write_records());
     }
-    end_all(&mut world)?;
-    Ok((most, world.write_records()))
+    most
 }
 
-fn end_all(world: &mut World<Manager, BySelf>) -> error::Result<()> {
+fn end_all(world: &mut World<Manager, BySelf>) {
     for number in 1..6u64 {
-        let _ended = world.step(Act::End.of(number))?;
-        let _dropped = world.step(Act::Drop.of(number))?;
+        let _is_ended = world.step(Act::End.of(number)).is_ok();
+        let _is_dropped = world.step(Act::Drop.of(number)).is_ok();
     }
-    Ok(())
 }
 
-// Whether each beginning of the calls leaves no record, and the whole had three at once.
-fn none_is_left(alloc: Global) -> error::Result<bool> {
-    let mut all = 0usize;
-    for count in 0..31usize {
-        let (most, left) = left_after(alloc, count)?;
-        if left != 0 {
-            return Ok(false);
-        }
-        all = most;
-    }
-    Ok(all == 3)
-}
-
+// Each beginning of the calls leaves no record, and the whole had three at once.
 #[test]
-fn no_record_is_left_when_all_is_ended(rt: HostRuntime) -> Result<(), Fail> {
-    assert!(rt; none_is_left(rt.alloc())?);
-    Ok(())
+fn no_record_is_left_when_all_is_ended(rt: HostRuntime) {
+    let mut all = None;
+    for count in 0..31usize {
+        all = left_after(rt.alloc(), count);
+        assert!(rt; matches!(all, Some((_, 0))), "after {count} calls");
+    }
+    assert!(rt; matches!(all, Some((3, 0))));
 }

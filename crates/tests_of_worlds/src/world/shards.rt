@@ -3,7 +3,6 @@
 use crate::play::{
     Limits, calls_of, play, play_on_both, play_on_policies, play_sharded, sharded_world_of,
 };
-use pcache_base::error;
 use pcache_base::key::CacheHashKey;
 use pcache_base::seed::Seed;
 use pcache_evict::eviction::sharded_lru::Manager;
@@ -12,8 +11,6 @@ use pcache_world::world::call::Reply;
 use pcache_world::world::entry::{Entry, Event};
 use pcache_world::world::policy::BySelf;
 use std::alloc::Global;
-use std::process::Abort;
-use std::test::Fail;
 
 const FOUR_BODIES: &str = "open 1 -> Done\n\
     key 1 a -> Done\n\
@@ -53,7 +50,7 @@ const FOUR_BODIES: &str = "open 1 -> Done\n\
     end 4 -> Done\n";
 
 #[test]
-fn the_two_oldest_go(rt: HostRuntime) -> Result<(), Fail> {
+fn the_two_oldest_go(rt: HostRuntime) {
     let rows = "open 5 -> Done\n\
         key 5 c -> Done\n\
         look 5 -> Hit(1)\n\
@@ -64,11 +61,11 @@ fn the_two_oldest_go(rt: HostRuntime) -> Result<(), Fail> {
         key 7 a -> Done\n\
         look 7 -> NotFound(Some(Write))\n\
         stat -> 3 in 2, Totals { weight: 3, items: 2, evicted_weight: 3, evicted_items: 2 }, 0 before\n";
-    play_on_both(&rt, rt.alloc(), Limits::weight(4), FOUR_BODIES, rows)
+    play_on_both(&rt, rt.alloc(), Limits::weight(4), FOUR_BODIES, rows);
 }
 
 #[test]
-fn larger_than_the_cache(rt: HostRuntime) -> Result<(), Fail> {
+fn larger_than_the_cache(rt: HostRuntime) {
     let rows = "open 1 -> Done\n\
         key 1 a -> Done\n\
         look 1 -> NotFound(Some(Write))\n\
@@ -82,12 +79,12 @@ fn larger_than_the_cache(rt: HostRuntime) -> Result<(), Fail> {
         key 2 a -> Done\n\
         look 2 -> NotFound(Some(Write))\n\
         stat -> 0 in 0, Totals { weight: 0, items: 0, evicted_weight: 4, evicted_items: 1 }, 0 before\n";
-    play_on_policies(&rt, rt.alloc(), Limits::weight(3), "", rows)?;
-    play_on_both(&rt, rt.alloc(), Limits::weight(3), "", rows)
+    play_on_policies(&rt, rt.alloc(), Limits::weight(3), "", rows);
+    play_on_both(&rt, rt.alloc(), Limits::weight(3), "", rows);
 }
 
 #[test]
-fn one_slot_under_two_tags(rt: HostRuntime) -> Result<(), Fail> {
+fn one_slot_under_two_tags(rt: HostRuntime) {
     let rows = "open 1 -> Done\n\
         key 1 aa -> Done\n\
         look 1 -> NotFound(Some(Write))\n\
@@ -110,11 +107,11 @@ fn one_slot_under_two_tags(rt: HostRuntime) -> Result<(), Fail> {
         key 3 aa -> Done\n\
         look 3 -> Hit(2)\n\
         stat -> 2 in 1, Totals { weight: 2, items: 1, evicted_weight: 3, evicted_items: 1 }, 0 before\n";
-    play_on_both(&rt, rt.alloc(), Limits::weight(4), "", rows)
+    play_on_both(&rt, rt.alloc(), Limits::weight(4), "", rows);
 }
 
 #[test]
-fn the_watermark(rt: HostRuntime) -> Result<(), Fail> {
+fn the_watermark(rt: HostRuntime) {
     let rows = "open 1 -> Done\n\
         key 1 k1 -> Done\n\
         look 1 -> NotFound(Some(Write))\n\
@@ -170,14 +167,14 @@ fn the_watermark(rt: HostRuntime) -> Result<(), Fail> {
         finish 6 -> Stored { size: 1, evicted: 1 }\n\
         end 6 -> Done\n\
         stat -> 4 in 4, Totals { weight: 4, items: 4, evicted_weight: 2, evicted_items: 2 }, 0 before\n";
-    play_on_policies(&rt, rt.alloc(), Limits::with_watermark(1000, 4), "", rows)?;
-    play_on_both(&rt, rt.alloc(), Limits::with_watermark(1000, 4), "", rows)
+    play_on_policies(&rt, rt.alloc(), Limits::with_watermark(1000, 4), "", rows);
+    play_on_both(&rt, rt.alloc(), Limits::with_watermark(1000, 4), "", rows);
 }
 
 // The key `aa` and its variant are in one shard of 16, of the store and of the manager: a purge of
 // the one leaves the other.
 #[test]
-fn two_keys_of_one_shard(rt: HostRuntime) -> Result<(), Fail> {
+fn two_keys_of_one_shard(rt: HostRuntime) {
     let rows = "open 1 -> Done\n\
         key 1 aa -> Done\n\
         look 1 -> NotFound(Some(Write))\n\
@@ -205,8 +202,8 @@ fn two_keys_of_one_shard(rt: HostRuntime) -> Result<(), Fail> {
         open 5 -> Done\n\
         key 5 aa 1 v -> Done\n\
         look 5 -> Hit(2)\n";
-    play(&rt, rt.alloc(), Limits::weight(9), "", rows)?;
-    play_sharded::<16>(&rt, rt.alloc(), Limits::weight(9), "", rows)
+    play(&rt, rt.alloc(), Limits::weight(9), "", rows);
+    play_sharded::<16>(&rt, rt.alloc(), Limits::weight(9), "", rows);
 }
 
 // Whether an event evicted something of a key.
@@ -260,24 +257,17 @@ fn true_look_ups(part: &[Entry], history: &[Entry]) -> usize {
     look_ups
 }
 
-// Makes the calls of a text, whatever the replies.
-fn make(
-    alloc: Global,
-    world: &mut World<Manager<2>, BySelf>,
-    text: &'static str,
-) -> error::Result<()> {
-    let calls = calls_of(alloc, text)?;
-    world.run(calls)?;
-    Ok(())
+// Makes the calls of a text, whatever the replies. Returns whether memory was enough.
+fn makes(alloc: Global, world: &mut World<Manager<2>, BySelf>, text: &'static str) -> bool {
+    world.run(calls_of(alloc, text)).is_ok()
 }
 
-fn within_four(
-    rt: &impl Abort,
-    alloc: Global,
-    world: &mut World<Manager<2>, BySelf>,
-) -> Result<(), Fail> {
-    make(alloc, world, FOUR_BODIES)?;
-    assert!(rt; world.totals().weight <= 4 && world.stored_bytes() <= 4);
+fn is_within_four(world: &World<Manager<2>, BySelf>) -> bool {
+    world.totals().weight <= 4 && world.stored_bytes() <= 4
+}
+
+// Looks all keys up, and returns how many look-ups were true.
+fn look_all_up(alloc: Global, world: &mut World<Manager<2>, BySelf>) -> usize {
     let before = world.history().len();
     let rows = "open 5\n\
         key 5 a\n\
@@ -288,15 +278,22 @@ fn within_four(
         look 5\n\
         key 5 d\n\
         look 5\n";
-    make(alloc, world, rows)?;
+    if !makes(alloc, world, rows) {
+        return 0;
+    }
     let part = world.history().get(before..).unwrap_or(&[]);
-    assert_eq!(rt; true_look_ups(part, world.history()), 4);
-    Ok(())
+    true_look_ups(part, world.history())
 }
 
 // Which of two shards gives up an entry is open.
 #[test]
-fn two_shards_keep_one_limit(rt: HostRuntime) -> Result<(), Fail> {
-    let mut world = sharded_world_of::<2>(rt.alloc(), Seed::fixed(), Limits::weight(4))?;
-    within_four(&rt, rt.alloc(), &mut world)
+fn two_shards_keep_one_limit(rt: HostRuntime) {
+    let alloc = rt.alloc();
+    match sharded_world_of::<2>(alloc, Seed::fixed(), Limits::weight(4)) {
+        Ok(mut world) => {
+            assert!(rt; makes(alloc, &mut world, FOUR_BODIES) && is_within_four(&world));
+            assert!(rt; look_all_up(alloc, &mut world) == 4);
+        }
+        Err(_refused) => assert!(rt; false),
+    }
 }
