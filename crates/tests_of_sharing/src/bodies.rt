@@ -1,6 +1,6 @@
 //! Bodies that are read while they are written, and which of them stay.
 use crate::play::play;
-use std::test::Fail;
+use crate::seats::TWO_ENTRIES;
 
 const A_READER_FOLLOWS_A_WRITE_OF_ANOTHER_THREAD: &str = "\
     0 key a\n\
@@ -52,10 +52,10 @@ const A_BODY_THAT_ANOTHER_THREAD_READS_STAYS: &str = "\
     1 read -> aa";
 
 #[test]
-fn bodies_are_read_while_they_are_written(rt: HostRuntime) -> std::result::Result<(), Fail> {
+fn bodies_are_read_while_they_are_written(rt: HostRuntime) {
     let scenes = [
         A_READER_FOLLOWS_A_WRITE_OF_ANOTHER_THREAD,
         A_BODY_THAT_ANOTHER_THREAD_READS_STAYS,
     ];
-    play(&rt, rt.alloc(), &scenes)
+    play(&rt, rt.alloc(), TWO_ENTRIES, &scenes);
 }

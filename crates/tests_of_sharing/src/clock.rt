@@ -1,6 +1,6 @@
 //! Time that moves while others read. A permit ages out after ten seconds.
 use crate::play::play;
-use std::test::Fail;
+use crate::seats::TWO_ENTRIES;
 
 const A_PERMIT_AGES_WHILE_OTHERS_READ: &str = "\
     2 key f\n\
@@ -46,10 +46,10 @@ const A_BODY_GETS_STALE_WHILE_OTHERS_READ: &str = "\
     2 many a body";
 
 #[test]
-fn time_moves_while_others_read(rt: HostRuntime) -> std::result::Result<(), Fail> {
+fn time_moves_while_others_read(rt: HostRuntime) {
     let scenes = [
         A_PERMIT_AGES_WHILE_OTHERS_READ,
         A_BODY_GETS_STALE_WHILE_OTHERS_READ,
     ];
-    play(&rt, rt.alloc(), &scenes)
+    play(&rt, rt.alloc(), TWO_ENTRIES, &scenes);
 }

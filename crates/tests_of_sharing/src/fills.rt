@@ -74,3 +74,20 @@ pub fn fill<R: Wait>(
     write(rt, cache, request, text, true, told);
     finish(rt, cache, request, told);
 }
+
+/// Sets a limit on the length of the head.
+pub fn limit_head(request: &mut Request, limit: usize, told: &mut Told) {
+    if !request.cache().phase().is_on() {
+        return told.say("wrong");
+    }
+    request.set_max_head_size_bytes(limit);
+    told.say("ok");
+}
+
+/// The length of the head that is stored, and whether it is longer than its limit.
+pub fn head<R: Wait>(rt: &R, cache: &Lists, request: &mut Request, told: &mut Told) {
+    told.named(&cache.head_length(rt, request));
+    if cache.exceeded_max_head_size(rt, request) {
+        told.say(" is longer");
+    }
+}

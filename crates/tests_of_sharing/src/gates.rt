@@ -2,7 +2,8 @@
 ghost use Rattle.std.specs.Prelude.{◌≡◌, IsSome};
 ghost use Rattle.pcache_request.specs.declared.phase.CachePhase.TheVariants.{CacheKey};
 
-use crate::requests::{NOW, Parts, ROOM, Request, fill, finds, request_for};
+use crate::requests::{NOW, fill, finds};
+use crate::seats::{Parts, ROOM, Request, request_for};
 use bytes::Bytes;
 use pcache_base::error::Result;
 use pcache_base::moment::Moment;
@@ -270,7 +271,7 @@ fn reads_beside<R: Wait>(
 }
 
 fn ends_beside<R: Wait>(rt: &R, cache: &GatedParts, gate: &Gate, found: &Gate) -> Result<bool> {
-    let mut request = request_for(cache, "a")?;
+    let mut request = request_for(cache, b"a");
     let read = reads_beside(rt, cache, gate, found, &mut request);
     cache.end(rt, request);
     read

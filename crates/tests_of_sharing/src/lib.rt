@@ -1,10 +1,10 @@
 #![tactic(auto)]
 //! Tests of a cache in parts, which threads call side by side. What a test waits for is counted, so that each ends by itself.
 //!
-//! - `alone`, `ends`, `refills`, `many`, `gates`; `requests`, `puts`: parts by themselves and by a few threads, and their calls
-//! - `waits`, `stale`, `bodies`, `clock`: rows that four threads play, each row in its turn: whatever the schedule, each thread
-//!   is told the same
-//! - `play`, `rows`; `looks`, `fills`, `permits`, `renewals`: what plays them, and their calls
+//! - `waits`, `stale`, `bodies`, `clock`; `alone`, `ends`, `refills`, `puts`: rows that four threads play, each row in its turn:
+//!   whatever the schedule, each thread is told the same; and such rows of one thread
+//! - `play`, `rows`; `looks`, `fills`, `permits`, `renewals`, `counts`, and `puts` too: what plays them, and their calls
+//! - `many`, `gates`; `requests`: parts by a few threads at a time, and their calls
 //! - `purges`: eight threads that fill, read and purge a thousand keys
 //! - `pushes`: puts beside requests
 //! - `seats`: what all of them share
@@ -14,6 +14,8 @@ mod alone;
 mod bodies;
 #[cfg(test)]
 mod clock;
+#[cfg(test)]
+mod counts;
 #[cfg(test)]
 mod ends;
 #[cfg(test)]

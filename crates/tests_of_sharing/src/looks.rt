@@ -1,9 +1,8 @@
 //! Look-ups and reads.
-ghost use Rattle.std.specs.Prelude.{◌≡◌};
 ghost use Rattle.pcache_request.specs.Phases.{MayLookUp};
-ghost use Rattle.pcache_request.specs.declared.phase.CachePhase.TheVariants.{CacheKey};
 
-use crate::seats::{Lists, Request, request_for};
+use crate::requests::finds;
+use crate::seats::{Lists, Request};
 use bytes::Bytes;
 use pcache_base::error::Result;
 use pcache_base::moment::Moment;
@@ -124,31 +123,9 @@ pub fn leave<R: Wait>(rt: &R, cache: &Lists, request: &mut Request, told: &mut T
 /// Finds a key many times, and each time with this body.
 pub fn many<R: Wait>(rt: &R, cache: &Lists, name: &str, body: &str, told: &mut Told) {
     for _ in 0..READS {
-        if !matches!(finds(rt, cache, name, body), Ok(true)) {
+        if !matches!(finds(rt, cache, name, body.as_bytes()), Ok(true)) {
             return told.say("lost");
         }
     }
     told.say("ok");
-}
-
-fn finds<R: Wait>(rt: &R, cache: &Lists, name: &str, body: &str) -> Result<bool> {
-    let mut request = request_for(cache, name.as_bytes());
-    let found = find_in(rt, cache, &mut request, body);
-    cache.end(rt, request);
-    found
-}
-
-fn find_in<R: Wait>(rt: &R, cache: &Lists, request: &mut Request, body: &str) -> Result<bool>
-    requires { request.old.cache.phase ≡ CacheKey }
-{
-    let now = Moment::EPOCH;
-    let Some((meta, hit)) = cache.cache_lookup(rt, request, now)? else {
-        return Ok(false);
-    };
-    cache.cache_found(rt, request, meta, hit, HitStatus::Fresh, now)?;
-    if !request.cache().has_body_reader() {
-        return Ok(false);
-    }
-    let read = cache.read_body(rt, request)?;
-    Ok(matches!(read, Poll::Ready(Some(bytes)) if bytes.as_slice() == body.as_bytes()))
 }

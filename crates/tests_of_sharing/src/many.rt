@@ -3,7 +3,8 @@ ghost use Rattle.std.specs.Prelude.{◌≡◌};
 ghost use Rattle.pcache_request.specs.Phases.{MayLookUp, MayMiss};
 ghost use Rattle.pcache_request.specs.declared.phase.CachePhase.TheVariants.{CacheKey};
 
-use crate::requests::{Lists, NOW, Request, lists_of, meta_of, request_for};
+use crate::requests::{NOW, meta_of};
+use crate::seats::{Lists, ROOM, Request, lists_within, request_for};
 use bytes::Bytes;
 use pcache_base::error::Result;
 use pcache_base::poll::Poll;
@@ -27,7 +28,7 @@ const TURNS: u32 = 1_000;
 // A request until it is served with the whole body. Returns whether it was.
 fn serve<R: Wait>(rt: &R, cache: &Lists, fetches: &AtomicU64) -> Result<bool> {
     for _ in 0..LOOKS {
-        let mut request = request_for(cache, "a")?;
+        let mut request = request_for(cache, b"a");
         let served = answer(rt, cache, &mut request, fetches);
         cache.end(rt, request);
         if served? {
@@ -104,7 +105,7 @@ fn work<R: Wait>(rt: &R, cache: &Lists, fetches: &AtomicU64) -> u32 {
 }
 
 fn all_served<R: Threads + Wait + Sync>(rt: &R, alloc: Global) -> Result<bool> {
-    let cache = lists_of(alloc, 64)?;
+    let cache = lists_within(alloc, 4 * ROOM + 64)?;
     let fetches = AtomicU64::new(0);
     let mut served = [0u32; WORKERS];
     thread::for_each_mut(

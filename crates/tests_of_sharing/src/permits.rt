@@ -106,7 +106,7 @@ pub fn varies<R: Wait>(
 
 /// Hands the permit of the thread's request to its other one.
 pub fn hand<R: Wait>(rt: &R, cache: &Lists, seat: &mut Seat, told: &mut Told) {
-    let Seat { own, other } = seat;
+    let Seat { own, other, .. } = seat;
     if own.place() != other.place()
         || !other.cache().phase().is_on()
         || !own.cache().phase().is_on()

@@ -1,20 +1,15 @@
 //! Rows that threads play: each begins with the number of the thread that makes its call, and each thread waits for its turn.
 use crate::rows::{Seat, tell};
-use crate::seats::{Lists, Request, lists_of, request_for};
-use pcache_base::error::Result;
+use crate::seats::{Lists, Request, lists_within, request_for};
 use std::alloc::Global;
 use std::process::Abort;
 use std::sync::atomic::{AtomicU64, Ordering};
 use std::sync::{Mutex, Wait};
-use std::test::Fail;
 use std::thread;
 use std::thread::Threads;
 use test_rows::{Told, number, rest, word};
 
 const THREADS: usize = 4;
-
-// How many entries each part has room for.
-const ENTRIES: usize = 2;
 
 // How often a thread asks whether its turn has come.
 const TURNS: u64 = 2_000_000;
@@ -22,10 +17,18 @@ const TURNS: u64 = 2_000_000;
 // No row.
 const NONE: u64 = u64::MAX;
 
+// What was told at the first row whose result is not the expected one.
+#[derive(Drop)]
+struct Wrong {
+    place: u64,
+    said: String,
+}
+
 // What the threads share: a request goes from one to another by the hand.
 struct Stage {
     cache: Lists,
     hand: Mutex<Request>,
+    wrong: Mutex<Wrong>,
     turn: AtomicU64,
     rows: &'static str,
 }
@@ -70,93 +73,109 @@ fn is_told<R: Wait>(
     told.is(wanted)
 }
 
-// The number of the first row of a thread whose result is not the expected one; the other threads go on then. A thread keeps its
+// Notes what was told at a row, unless one before it is noted.
+fn note<R: Wait>(rt: &R, wrong: &Mutex<Wrong>, place: u64, told: &Told) {
+    let mut noted = wrong.lock(rt);
+    if place < noted.place {
+        noted.place = place;
+        noted.said.clear();
+        let _is_whole = noted.said.push_str(told.as_str()).is_ok();
+    }
+}
+
+// Plays the rows of a thread up to the first whose result is not the expected one; the other threads go on then. A thread keeps its
 // requests until the last row was begun.
-fn first_wrong<R: Wait>(
-    rt: &R,
-    stage: &Stage,
-    seat: &mut Seat,
-    worker: u64,
-    told: &mut Told,
-) -> u64 {
+fn play_own<R: Wait>(rt: &R, stage: &Stage, seat: &mut Seat, worker: u64, told: &mut Told) {
     let mut place = 0u64;
     for row in stage.rows.lines() {
+        let row = row.trim();
         if number(row, 0) == worker && !is_told(rt, stage, seat, place, row, told) {
+            note(rt, &stage.wrong, place, told);
             stage.turn.fetch_max(NONE, Ordering::SeqCst);
-            return place;
+            return;
         }
         place = place.saturating_add(1);
     }
     reaches(&stage.turn, place);
-    NONE
 }
 
 // Plays the rows of a thread with requests of its own.
-fn work<R: Wait>(rt: &R, stage: &Stage, worker: u64) -> u64 {
+fn work<R: Wait>(rt: &R, stage: &Stage, worker: u64) {
     let mut told = Told::new(stage.cache.alloc());
     let mut seat = Seat {
         own: request_for(&stage.cache, b"a"),
         other: request_for(&stage.cache, b"a"),
+        seen: stage.cache.beginning(0),
     };
-    let wrong = first_wrong(rt, stage, &mut seat, worker, &mut told);
-    let Seat { own, other } = seat;
+    play_own(rt, stage, &mut seat, worker, &mut told);
+    let Seat {
+        own,
+        other,
+        seen: _,
+    } = seat;
     stage.cache.end(rt, own);
     stage.cache.end(rt, other);
-    wrong
 }
 
-// The first of the rows that some thread was told something else of.
-fn first_of_all<R: Threads + Wait + Sync>(rt: &R, stage: &Stage) -> u64 {
-    let mut found = [0u64; THREADS];
+fn work_all<R: Threads + Wait + Sync>(rt: &R, stage: &Stage) {
+    let mut done = [false; THREADS];
     thread::for_each_mut(
         rt,
-        &mut found,
+        &mut done,
         THREADS,
-        &|worker, found| {
-            *found = work(rt, stage, worker as u64);
+        &|worker, done| {
+            work(rt, stage, worker as u64);
+            *done = true;
         },
     );
-    let mut least = NONE;
-    for place in &found {
-        least = least.min(*place);
-    }
-    least
 }
 
-// Plays the rows, and returns the first that is wrong.
-fn wrong_row<R: Threads + Wait + Sync>(
+/// Plays the rows over a cache by four threads, as a test, and returns the cache.
+pub fn play_over<R: Threads + Wait + Abort + Sync>(
     rt: &R,
-    alloc: Global,
+    cache: Lists,
     rows: &'static str,
-) -> Result<Option<&'static str>> {
-    let cache = lists_of(alloc, ENTRIES)?;
-    let hand = Mutex::new(request_for(&cache, b"a"));
+) -> Lists {
+    let alloc = cache.alloc();
     let stage = Stage {
+        hand: Mutex::new(request_for(&cache, b"a")),
+        wrong: Mutex::new(Wrong {
+            place: NONE,
+            said: String::new(alloc),
+        }),
         cache,
-        hand,
         turn: AtomicU64::new(0),
-        rows,
+        rows: rows.trim(),
     };
-    let wrong = first_of_all(rt, &stage);
+    work_all(rt, &stage);
     let Stage {
         cache,
         hand,
+        wrong,
         turn: _,
         rows: _,
     } = stage;
     cache.end(rt, hand.into_inner());
-    Ok(rows.lines().nth(wrong as usize))
+    let Wrong { place, said } = wrong.into_inner();
+    let row = rows.trim().lines().nth(place as usize).unwrap_or("");
+    let (number, row) = (place.saturating_add(1), row.trim());
+    assert!(rt; place == NONE, "row {number}, {row}: told {said}");
+    cache
 }
 
-/// Plays the rows of each scene by four threads, as a test.
+/// Plays the rows of each scene, over a cache of its own with a limit.
 pub fn play<R: Threads + Wait + Abort + Sync>(
     rt: &R,
     alloc: Global,
+    limit: usize,
     scenes: &[&'static str],
-) -> std::result::Result<(), Fail> {
+) {
     for rows in scenes {
-        let wrong = wrong_row(rt, alloc, *rows)?;
-        assert!(rt; wrong.is_none(), "{}", wrong.unwrap_or(""));
+        match lists_within(alloc, limit) {
+            Ok(cache) => {
+                let _cache = play_over(rt, cache, *rows);
+            }
+            Err(refused) => assert!(rt; false, "{}", refused.etype().as_str()),
+        }
     }
-    Ok(())
 }

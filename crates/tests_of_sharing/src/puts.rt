@@ -1,15 +1,16 @@
-//! Puts of a cache in parts: responses that are pushed in, in pieces. A bar stands between two pieces.
+//! Puts of a cache in parts: responses that are pushed in, in pieces. A bar stands between two pieces, which are spelled as
+//! `unescape` reads them.
 ghost use Rattle.pcache_put.specs.Policies.{SaysByDefault};
 ghost use Rattle.tests_of_sharing.specs.Lifetimes.{IsOneSecond};
 
 use crate::gates::Gate;
 use crate::lifetimes::{by_one_second, one_second};
-use crate::requests::{Lists, NOW, fill, finds, lists_of};
+use crate::play::play;
+use crate::requests::{NOW, fill, finds};
+use crate::seats::{Lists, ROOM, key_of, lists_within};
 use bytes::Bytes;
-use pcache_base::error::{ErrorType, Result};
-use pcache_base::key::CacheKey;
+use pcache_base::error::Result;
 use pcache_base::moment::Moment;
-use pcache_base::reason::NoCacheReason;
 use pcache_control::{CacheMetaDefaults, RespCacheable};
 use pcache_meta::header::ResponseHeader;
 use pcache_put::policy::CachePut;
@@ -20,6 +21,12 @@ use std::sync::{Arc, Wait};
 use std::test::Fail;
 use std::thread;
 use std::thread::Threads;
+use test_rows::{Told, rest, size, unescape, word};
+
+// The limit of each cache.
+const LIMIT: usize = 4 * ROOM + 1_024;
+
+const HI: &str = r"HTTP/1.1 200 OK\r\n\r\nh|i";
 
 // A policy that passes a gate, and then goes by defaults under which every status is fresh for a second.
 #[derive(Drop)]
@@ -44,14 +51,7 @@ impl CachePut for OneSecond {
 
 type Put = SharedPut<OneSecond, Unnamed, 4>;
 
-fn put_of(cache: &Lists, gate: &Arc<Gate, Global>, name: &str) -> Result<Put> {
-    let gate = Arc::try_clone(gate)?;
-    let primary = name.as_bytes().to_vec(cache.alloc())?;
-    let key = CacheKey::new(primary, String::new(cache.alloc()));
-    Ok(cache.put(OneSecond { gate }, key))
-}
-
-// Pushes a response in, whose body may have so many bytes. Its policy passes a gate.
+// Pushes a response in, whose body may have so many bytes. Its policy passes a gate. A bar stands between two pieces.
 fn push_through<R: Wait>(
     rt: &R,
     cache: &Lists,
@@ -60,7 +60,10 @@ fn push_through<R: Wait>(
     limit: usize,
     pieces: &'static str,
 ) -> Result<PutOutcome> {
-    let mut put = put_of(cache, gate, name)?;
+    let policy = OneSecond {
+        gate: Arc::try_clone(gate)?,
+    };
+    let mut put = cache.put(policy, key_of(cache.alloc(), name.as_bytes()));
     put.set_max_file_size_bytes(limit);
     let came = push_in(rt, cache, &mut put, pieces);
     cache.end_put(rt, put);
@@ -73,8 +76,12 @@ fn push_in<R: Wait>(
     put: &mut Put,
     pieces: &'static str,
 ) -> Result<PutOutcome> {
+    let mut bytes = Vec::new(cache.alloc());
     for piece in pieces.split('|') {
-        cache.cache_put(rt, put, &Bytes::from_static(piece.as_bytes()), NOW)?;
+        if unescape(piece, &mut bytes) {
+            let piece = Bytes::copy_from_slice(cache.alloc(), bytes.as_slice())?;
+            cache.cache_put(rt, put, &piece, NOW)?;
+        }
     }
     cache.finish_put(rt, put)
 }
@@ -91,99 +98,83 @@ fn push<R: Wait>(
     push_through(rt, cache, &gate, name, limit, pieces)
 }
 
+/// `push NAME LIMIT PIECES`: pushes a response in, and tells how it ended.
+pub fn tell<R: Wait>(rt: &R, cache: &Lists, call: &'static str, told: &mut Told) {
+    let pieces = rest(rest(rest(call)));
+    match push(rt, cache, word(call, 1), size(call, 2), pieces) {
+        Ok(PutOutcome::Stored(_report)) => told.say("stored"),
+        Ok(PutOutcome::NotCached(reason)) => {
+            told.say("not cached: ");
+            told.say(reason.as_str());
+        }
+        Err(refused) => told.refused(&refused),
+    }
+}
+
 fn is_stored(came: Result<PutOutcome>) -> bool {
     matches!(came, Ok(PutOutcome::Stored(_)))
 }
 
-fn is_declined(came: Result<PutOutcome>, why: NoCacheReason) -> bool {
-    matches!(came, Ok(PutOutcome::NotCached(reason)) if reason == why)
-}
-
-fn is_refused(came: Result<PutOutcome>, kind: ErrorType) -> bool {
-    match came {
-        Ok(_outcome) => false,
-        Err(refused) => refused.etype() == kind,
-    }
-}
-
-fn is_empty<R: Wait>(rt: &R, cache: &Lists) -> bool {
-    cache.stored_bytes(rt) == 0 && cache.slots(rt) == 0
-}
+const A_PUSHED_BODY_IS_STORED_AND_FOUND: &str = r"
+    0 push a 2 HTTP/1.1 200 OK\r\nContent-Le|ngth: 2\r\n\r\nh|i -> stored
+    0 key a
+    0 look 0 -> until 1 hit
+    0 read -> hi
+    0 push b 9 HTTP/1.1 200 OK\r\n\r\n|x -> stored
+    0 key b
+    0 look 0 -> until 1 hit
+    0 read -> x
+    0 stored -> 3 in 2";
 
 #[test]
-fn a_pushed_body_is_stored_and_found(rt: HostRuntime) -> Result<()> {
-    let cache = lists_of(rt.alloc(), 1_024)?;
-    let is_there = pushed_and_found(&rt, &cache);
-    assert!(rt; is_there);
-    Ok(())
+fn a_pushed_body_is_stored_and_found(rt: HostRuntime) {
+    play(&rt, rt.alloc(), LIMIT, &[A_PUSHED_BODY_IS_STORED_AND_FOUND]);
 }
 
-fn pushed_and_found<R: Wait>(rt: &R, cache: &Lists) -> bool {
-    let cut = "HTTP/1.1 200 OK\r\nContent-Le|ngth: 2\r\n\r\nh|i";
-    is_stored(push(rt, cache, "a", 2, cut))
-        && matches!(finds(rt, cache, "a", b"hi"), Ok(true))
-        && is_stored(push(rt, cache, "b", 9, "HTTP/1.1 200 OK\r\n\r\n|x"))
-        && matches!(finds(rt, cache, "b", b"x"), Ok(true))
-        && cache.stored_bytes(rt) == 3
-        && cache.slots(rt) == 2
-}
+const WHAT_A_POLICY_DECLINES_IS_NOT_STORED: &str = r"
+    0 push a 9 HTTP/1.1 200 OK\r\nCache-Control: no-store\r\n\r\n|hi|there -> not cached: OriginNotCache
+    0 stored -> 0 in 0
+    0 key a
+    0 look 0 -> key permit
+    0 fill one 60 -> okokokok";
 
 #[test]
-fn what_a_policy_declines_is_not_stored(rt: HostRuntime) -> Result<()> {
-    let cache = lists_of(rt.alloc(), 1_024)?;
-    let is_left_out = declines_are_told(&rt, &cache);
-    assert!(rt; is_left_out);
-    Ok(())
-}
-
-fn declines_are_told<R: Wait>(rt: &R, cache: &Lists) -> bool {
-    let kept_out = "HTTP/1.1 200 OK\r\nCache-Control: no-store\r\n\r\n|hi|there";
-    is_declined(
-        push(rt, cache, "a", 9, kept_out),
-        NoCacheReason::OriginNotCache,
-    ) && is_empty(rt, cache)
-        && matches!(fill(rt, cache, "a", b"one"), Ok(true))
-}
-
-#[test]
-fn a_body_over_its_limit_is_not_stored(rt: HostRuntime) -> Result<()> {
-    let cache = lists_of(rt.alloc(), 1_024)?;
-    let is_left_out = limits_are_kept(&rt, &cache);
-    assert!(rt; is_left_out);
-    Ok(())
+fn what_a_policy_declines_is_not_stored(rt: HostRuntime) {
+    play(
+        &rt,
+        rt.alloc(),
+        LIMIT,
+        &[WHAT_A_POLICY_DECLINES_IS_NOT_STORED],
+    );
 }
 
 // One that declares its length is not begun; one that runs past the limit leaves no write behind.
-fn limits_are_kept<R: Wait>(rt: &R, cache: &Lists) -> bool {
-    let declared = "HTTP/1.1 200 OK\r\nContent-Length: 2\r\n\r\n|hi";
-    let counted = "HTTP/1.1 200 OK\r\n\r\nh|i";
-    let unread = "HTTP/1.1 two\r\n\r\n|hi";
-    is_declined(
-        push(rt, cache, "a", 1, declared),
-        NoCacheReason::ResponseTooLarge,
-    ) && is_refused(
-        push(rt, cache, "a", 1, counted),
-        ErrorType::ResponseTooLarge,
-    ) && is_refused(
-        push(rt, cache, "a", 9, unread),
-        ErrorType::InvalidHttpHeader,
-    ) && is_refused(
-        push(rt, cache, "a", 9, declared_short()),
-        ErrorType::IncompleteHttpBody,
-    ) && is_empty(rt, cache)
-        && is_stored(push(rt, cache, "a", 2, counted))
-        && matches!(finds(rt, cache, "a", b"hi"), Ok(true))
-}
+const A_BODY_OVER_ITS_LIMIT_IS_NOT_STORED: &str = r"
+    0 push a 1 HTTP/1.1 200 OK\r\nContent-Length: 2\r\n\r\n|hi -> not cached: ResponseTooLarge
+    0 push a 1 HTTP/1.1 200 OK\r\n\r\nh|i -> ResponseTooLarge
+    0 push a 9 HTTP/1.1 two\r\n\r\n|hi -> InvalidHttpHeader
+    0 push a 9 HTTP/1.1 200 OK\r\nContent-Length: 3\r\n\r\n|hi -> IncompleteHttpBody
+    0 stored -> 0 in 0
+    0 push a 2 HTTP/1.1 200 OK\r\n\r\nh|i -> stored
+    0 key a
+    0 look 0 -> until 1 hit
+    0 read -> hi";
 
-fn declared_short() -> &'static str {
-    "HTTP/1.1 200 OK\r\nContent-Length: 3\r\n\r\n|hi"
+#[test]
+fn a_body_over_its_limit_is_not_stored(rt: HostRuntime) {
+    play(
+        &rt,
+        rt.alloc(),
+        LIMIT,
+        &[A_BODY_OVER_ITS_LIMIT_IS_NOT_STORED],
+    );
 }
 
 // Each of two threads pushes bodies of its own key in, of another part.
 fn push_over_and_over<R: Wait>(rt: &R, cache: &Lists, worker: usize) -> bool {
     let name = if worker == 0 { "a" } else { "b" };
     for _ in 0..50u32 {
-        if !is_stored(push(rt, cache, name, 9, "HTTP/1.1 200 OK\r\n\r\nh|i"))
+        if !is_stored(push(rt, cache, name, 9, HI))
             || !matches!(finds(rt, cache, name, b"hi"), Ok(true))
         {
             return false;
@@ -193,7 +184,7 @@ fn push_over_and_over<R: Wait>(rt: &R, cache: &Lists, worker: usize) -> bool {
 }
 
 fn both_push<R: Threads + Wait + Sync>(rt: &R, alloc: Global) -> Result<bool> {
-    let cache = lists_of(alloc, 1_024)?;
+    let cache = lists_within(alloc, LIMIT)?;
     let mut done = [false; 2];
     thread::for_each_mut(
         rt,
@@ -222,7 +213,7 @@ fn beside_a_policy<R: Wait>(
     worker: usize,
 ) -> bool {
     if worker == 0 {
-        return is_stored(push_through(rt, cache, gate, "a", 9, "HTTP/1.1 200 OK\r\n\r\nh|i"));
+        return is_stored(push_through(rt, cache, gate, "a", 9, HI));
     }
     let is_beside = gate.is_reached()
         && matches!(fill(rt, cache, "f", b"one"), Ok(true))
@@ -233,7 +224,7 @@ fn beside_a_policy<R: Wait>(
 
 fn goes_on_beside_a_policy<R: Threads + Wait + Sync>(rt: &R, alloc: Global) -> Result<bool> {
     let gate = Arc::new(alloc, Gate::new(1))?;
-    let cache = lists_of(alloc, 1_024)?;
+    let cache = lists_within(alloc, LIMIT)?;
     let mut done = [false; 2];
     thread::for_each_mut(
         rt,

@@ -1,14 +1,16 @@
 //! The calls of rows.
 use crate::seats::{Lists, Request, request_for, request_without, second};
-use crate::{fills, looks, permits, renewals};
+use crate::{counts, fills, looks, permits, puts, renewals};
+use pcache_shared_cache::{Sight, Unnamed};
 use std::mem;
 use std::sync::{Mutex, Wait};
-use test_rows::{Told, number, some_number, word};
+use test_rows::{Told, number, size, some_number, word};
 
-/// What a thread has: a request, and one that it can put in its place.
+/// What a thread has: a request, one that it can put in its place, and what it has seen of a part.
 pub struct Seat {
     pub own: Request,
     pub other: Request,
+    pub seen: Sight<Unnamed>,
 }
 
 /// Makes the call of a row, and writes its result.
@@ -27,11 +29,13 @@ pub fn tell<R: Wait>(
         }
         "trade" => trade(rt, hand, seat, told),
         "hand" => permits::hand(rt, cache, seat, told),
+        "stored" | "place" | "part" | "seen" | "sees" => counts::tell(rt, cache, seat, call, told),
+        "push" => puts::tell(rt, cache, call, told),
         "key" | "end" => tell_of_way(rt, cache, &mut seat.own, call, told),
-        "look" | "vary" | "read" | "follow" | "whole" | "leave" | "many" => {
+        "look" | "vary" | "read" | "follow" | "whole" | "length" | "leave" | "many" => {
             tell_of_look(rt, cache, &mut seat.own, call, told);
         }
-        "miss" | "begin" | "write" | "last" | "finish" | "fill" => {
+        "miss" | "begin" | "write" | "last" | "finish" | "fill" | "limit-head" | "head" => {
             tell_of_fill(rt, cache, &mut seat.own, call, told);
         }
         "poll" | "wait" | "release" | "disable" | "tokens" | "varies" => {
@@ -82,6 +86,7 @@ fn tell_of_look<R: Wait>(
         "read" => looks::read(rt, cache, request, told),
         "follow" => looks::follow(rt, cache, request, told),
         "whole" => told.yes_or_no(cache.is_body_whole(rt, request)),
+        "length" => told.named(&cache.body_length(rt, request)),
         "leave" => looks::leave(rt, cache, request, told),
         _ => looks::many(rt, cache, word(call, 1), word(call, 2), told),
     }
@@ -100,6 +105,8 @@ fn tell_of_fill<R: Wait>(
         "write" => fills::write(rt, cache, request, word(call, 1), false, told),
         "last" => fills::write(rt, cache, request, word(call, 1), true, told),
         "finish" => fills::finish(rt, cache, request, told),
+        "limit-head" => fills::limit_head(request, size(call, 1), told),
+        "head" => fills::head(rt, cache, request, told),
         _ => fills::fill(rt, cache, request, word(call, 1), number(call, 2), told),
     }
 }

@@ -10,6 +10,7 @@ use pcache_base::key::CacheKey as Key;
 use pcache_base::moment::Moment;
 use pcache_base::reason::NoCacheReason;
 use pcache_base::seed::Seed;
+use pcache_evict::eviction::EvictionManager;
 use pcache_evict::eviction::simple_lru::Manager;
 use pcache_meta::header::ResponseHeader;
 use pcache_meta::meta::CacheMeta;
@@ -19,17 +20,30 @@ use std::sync::Wait;
 use std::time::Duration;
 
 /// A cache in four parts.
-pub type Lists = SharedCache<Manager, Unnamed, 4>;
+pub type Parts<M> = SharedCache<M, Unnamed, 4>;
+
+/// The same over recency lists.
+pub type Lists = Parts<Manager>;
 
 /// A request of it.
 pub type Request = SharedRequest<Unnamed, 4>;
 
-// What an entry weighs at most: 16 bytes of a head without fields, 512 for all that is kept beside, and a body of 16 bytes.
-const ENTRY: usize = 544;
+/// What an entry weighs beside its body, if its head has no field: 16 bytes of text, and 512 for all that is kept beside.
+pub const ROOM: usize = 528;
 
-/// A cache with nothing stored, each part of which has room for so many entries. A permit ages out after ten seconds.
+// What an entry weighs at most, with a body of 16 bytes.
+const ENTRY: usize = ROOM + 16;
+
+/// A limit under which each part has room for two entries.
+pub const TWO_ENTRIES: usize = 2 * 4 * ENTRY;
+
+/// A cache with nothing stored, each part of which has room for so many entries.
 pub fn lists_of(alloc: Global, entries: usize) -> Result<Lists> {
-    let limit = entries.saturating_mul(4 * ENTRY);
+    lists_within(alloc, entries.saturating_mul(4 * ENTRY))
+}
+
+/// A cache with nothing stored, and with this limit. A permit ages out after ten seconds.
+pub fn lists_within(alloc: Global, limit: usize) -> Result<Lists> {
     Lists::with_lists(alloc, Seed::fixed(), limit, None, Duration::from_secs(10))
 }
 
@@ -41,7 +55,7 @@ pub fn key_of(alloc: Global, name: &[u8]) -> Key {
 }
 
 /// A request whose key has this name.
-pub fn request_for(cache: &Lists, name: &[u8]) -> Request
+pub fn request_for<M: EvictionManager>(cache: &Parts<M>, name: &[u8]) -> Request
     ensures { result.cache.phase ≡ CacheKey }
 {
     cache.request(key_of(cache.alloc(), name))

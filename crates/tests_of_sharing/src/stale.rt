@@ -1,6 +1,6 @@
 //! Stale bodies, which one request renews while others are served.
 use crate::play::play;
-use std::test::Fail;
+use crate::seats::TWO_ENTRIES;
 
 // The first thread serves the stale body, and hands its permit to a request that the second one renews the body with. The third is
 // served the stale body meanwhile, and the fourth waits for the new one.
@@ -105,12 +105,12 @@ const WHAT_IS_EXPIRED_OR_PURGED_IS_SO_FOR_ALL: &str = "\
     1 read -> new";
 
 #[test]
-fn stale_bodies_are_served_while_one_renews_them(rt: HostRuntime) -> std::result::Result<(), Fail> {
+fn stale_bodies_are_served_while_one_renews_them(rt: HostRuntime) {
     let scenes = [
         A_PERMIT_IS_HANDED_ON_WHILE_THE_STALE_BODY_IS_SERVED,
         A_CONFIRMED_BODY_IS_FRESH_FOR_ALL,
         A_RESPONSE_THAT_IS_NOT_STORED_GIVES_THE_PERMIT_UP,
         WHAT_IS_EXPIRED_OR_PURGED_IS_SO_FOR_ALL,
     ];
-    play(&rt, rt.alloc(), &scenes)
+    play(&rt, rt.alloc(), TWO_ENTRIES, &scenes);
 }

@@ -1,7 +1,7 @@
 //! Permits that end while others wait. The keys `a`, `f` and `h` are of the last of four parts, `c` and `d` of the first: told by another
 //! program, the first eight bytes of BLAKE2b with 16 bytes out, modulo four.
 use crate::play::play;
-use std::test::Fail;
+use crate::seats::TWO_ENTRIES;
 
 // The number of a permit is that of another one in the first part, whose waiters are told nothing.
 const A_RELEASE_WAKES_THOSE_OF_ITS_KEY: &str = "\
@@ -136,7 +136,7 @@ const A_PERMIT_OF_A_VARIANT_ENDS_WITH_ANOTHER_VARIANCE: &str = "\
     2 look 0 -> key permit";
 
 #[test]
-fn permits_end_for_all_who_wait(rt: HostRuntime) -> std::result::Result<(), Fail> {
+fn permits_end_for_all_who_wait(rt: HostRuntime) {
     let scenes = [
         A_RELEASE_WAKES_THOSE_OF_ITS_KEY,
         A_PERMIT_THAT_ANOTHER_TAKES_THE_PLACE_OF_IS_LET_GO,
@@ -144,5 +144,5 @@ fn permits_end_for_all_who_wait(rt: HostRuntime) -> std::result::Result<(), Fail
         A_PUBLISHED_TOKEN_ENDS_THE_WAITS_THAT_CANNOT_USE_IT,
         A_PERMIT_OF_A_VARIANT_ENDS_WITH_ANOTHER_VARIANCE,
     ];
-    play(&rt, rt.alloc(), &scenes)
+    play(&rt, rt.alloc(), TWO_ENTRIES, &scenes);
 }
