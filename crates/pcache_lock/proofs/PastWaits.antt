@@ -1,6 +1,6 @@
 -- What a table knows of a lock is what its past says.
 use Rattle.std.proofs.Common.{inl, inr}
-use Rattle.pcache_lock.specs.PastWaits.{held_by, is_held, status_by, status_said, given_by, given_at, is_late, stage_by, ReturnsBy, EndsByPastAlways, StatusByPastAlways}
+use Rattle.pcache_lock.specs.PastWaits.{held_since, is_held, status_by, status_said, given_by, given_at, is_late, stage_by, ReturnsBy, EndsByPastAlways, StatusByPastAlways}
 use Rattle.pcache_lock.proofs.Words.{◌≡◌, ◌==◌, ℕ, Bool, true, false, ◌||◌, Option, None, Some, List, [], ◌∷◌, cond, refl, sym, ◌∙◌, ap, subst, arith, nat_cmp, nat_cmp_total, unsigned_tied, FinMap, get, insert, remove, get-insert, get-remove, get-empty, nat_tests, UnusableFill, PermitState, LockStatus, IsReason, is_aged, is_waiting, Core, Watch, new_core, is_named, with_reader, without_reader, spent, released_status, dropped_status, Locks, no_locks_from, with_read_lock, without_entry, kept, left, released_on, permit_dropped, reader_dropped, changed, ended, after_poll, polled, table_at, permit_state, answer_at, told_or_pending, watched, watch_at, aged, is_old, with_publication, is_old_at, Deed, Granted, Joined, Released, LetGo, Aged, Left, Polled, Published, Made, ReadLocked, Unlocked, Does, IsPastOf, PastLeads, number_of}
 use Rattle.pcache_lock.specs.declared.lock.outcome.PermitState.TheVariants as stage
 use Rattle.pcache_lock.specs.declared.lock.status.LockStatus.TheVariants as status
@@ -183,7 +183,7 @@ knows-left : (b : Bool) (d : Core) (held : Bool) (s : LockStatus) (given : ℕ �
 knows-left true d held s given e k = k
 knows-left false d held s given e k = sym k.0 ∙ unheld d.held _ e
 
-knows-by : (age : ℕ) (deed : Deed) (u t : Locks) → Does deed u t → (held : Bool) (s : LockStatus) (given : ℕ × ℕ) (o : Option Core) → Knows held s given o → Knows (held_by deed held) (status_by deed s) (given_by age deed given) (turned age deed o)
+knows-by : (age : ℕ) (deed : Deed) (u t : Locks) → Does deed u t → (held : Bool) (s : LockStatus) (given : ℕ × ℕ) (o : Option Core) → Knows held s given o → Knows (held_since deed held) (status_by deed s) (given_by age deed given) (turned age deed o)
 knows-by age (Granted slot m stale now) u t h held s given o k = (refl, refl, refl, λ e. cc)
 knows-by age (Joined slot m now) u t h held s given None k = k
 knows-by age (Joined slot m now) u t h held s given (Some c) k = k
@@ -224,7 +224,7 @@ knows (deed ∷ past) start age t n h =
     ∙ ap (λ a. cond (n == m) (turned a deed (get s.cores m)) (get s.cores n)) (age-said past start age s h.1.0)
     ∙ own_by (turned age deed) (get s.cores) m n (get s.cores n) (n == m) refl in
     subst (Knows (is_held n (deed ∷ past)) (status_said n (deed ∷ past)) (given_at age n (deed ∷ past))) (sym is)
-    (knows-cond (n == m) (is_held n past) (held_by deed (is_held n past)) (status_said n past) (status_by deed (status_said n past)) (given_at age n past) (given_by age deed (given_at age n past)) (get s.cores n) (turned age deed (get s.cores n))
+    (knows-cond (n == m) (is_held n past) (held_since deed (is_held n past)) (status_said n past) (status_by deed (status_said n past)) (given_at age n past) (given_by age deed (given_at age n past)) (get s.cores n) (turned age deed (get s.cores n))
     (knows-by age deed s t h.1.1 (is_held n past) (status_said n past) (given_at age n past) (get s.cores n) before) before)
 
 -- What a poll returns.

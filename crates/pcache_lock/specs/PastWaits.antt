@@ -32,17 +32,17 @@ number_of (ReadLocked m) = m
 number_of (Unlocked m reason) = m
 
 -- whether a permit is held, after one more deed that was done to its lock
-abbrev pub held_by : Deed → Bool → Bool
-held_by (Granted slot m stale now) before = true
-held_by (Released m reason) before = false
-held_by (LetGo m) before = false
-held_by (Made m age_timeout stale now) before = true
-held_by _ before = before
+abbrev pub held_since : Deed → Bool → Bool
+held_since (Granted slot m stale now) before = true
+held_since (Released m reason) before = false
+held_since (LetGo m) before = false
+held_since (Made m age_timeout stale now) before = true
+held_since _ before = before
 
 -- a permit is held: it was given, and since then neither released nor let go
 abbrev pub is_held : ℕ → List Deed → Bool
 is_held n [] = false
-is_held n (deed ∷ past) = cond (n == number_of deed) (held_by deed (is_held n past)) (is_held n past)
+is_held n (deed ∷ past) = cond (n == number_of deed) (held_since deed (is_held n past)) (is_held n past)
 
 -- the status of a lock, after one more deed that was done to it
 abbrev pub status_by : Deed → LockStatus → LockStatus

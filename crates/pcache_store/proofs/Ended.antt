@@ -4,7 +4,7 @@ use Rattle.std.specs.Prelude.{IfSome}
 use Rattle.std.proofs.lemmas.Bool.{false≢true, ne_eqb}
 use Rattle.std.proofs.lemmas.List.{append_assoc}
 use Rattle.pcache_store.specs.Store.{is_told, is_whole_part}
-use Rattle.pcache_store.specs.Reading.{Act, Begins, Adds, Finishes, Drops, Follows, Leaves, Alters, after_act, after_acts, MayBe, MayAllBe, added_by, added, ends_well, has_ended_well, GivesWhatWasAdded, IsWholeExactly}
+use Rattle.pcache_store.specs.Reading.{Act, Begins, Adds, Finishes, Drops, Follows, Leaves, Alters, after_act, after_acts, MayBe, MayAllBe, added_by, added_bytes, ends_well, has_ended_well, GivesWhatWasAdded, IsWholeExactly}
 use Rattle.pcache_store.proofs.Words.{◌≡◌, ℕ, ◌==◌, ◌≤◌, ◌<◌, ◌+◌, ◌-◌, ◌&&◌, ◌||◌, ◌++◌, Bool, true, false, cond, Option, None, Some, List, [], ◌∷◌, refl, sym, ap, subst, ◌∙◌, arith, length, IsSome, ◌↔◌, nat_cmp, eq_by_cmp, nat_cmp_total, FinMap, get, insert, remove, get-insert, get-remove, and_parts, eqb-true, nat_tests, append-nil, Meta, numbered, Store, Written, kept, grounded, is_named, new_write, begun, wrote_on, finished_on, dropped_on, followed_on, left_on, closed_on}
 
 abbrev Map : Type 0
@@ -130,16 +130,16 @@ knows-next n (Leaves w) s b t lt may k =
 knows-next n (Alters slots) s b t lt may k = plain b t _ k
 
 -- and after many
-knows-all : (n : ℕ) (acts : List Act) (s : Store) (b : List ℕ) (t : Bool) → n < s.next → MayAllBe acts s → Knows b t (get s.writes n) → Knows (b ++ added n acts) (t || has_ended_well n acts) (get (after_acts acts s).writes n)
+knows-all : (n : ℕ) (acts : List Act) (s : Store) (b : List ℕ) (t : Bool) → n < s.next → MayAllBe acts s → Knows b t (get s.writes n) → Knows (b ++ added_bytes n acts) (t || has_ended_well n acts) (get (after_acts acts s).writes n)
 knows-all n [] s b t lt may k = plain b t _ k
 knows-all n (a ∷ acts) s b t lt may k =
     let more = next-is a s in
     let all = knows-all n acts (after_act a s) (b ++ added_by n a) (t || ends_well n a) (omega (arith, lt, more)) may.1 (knows-next n a s b t lt may.0 k) in
-    subst (λ y. Knows (b ++ (added_by n a ++ added n acts)) y (get (after_acts acts (after_act a s)).writes n)) (or-assoc t (ends_well n a) (has_ended_well n acts))
-    (subst (λ y. Knows y ((t || ends_well n a) || has_ended_well n acts) (get (after_acts acts (after_act a s)).writes n)) (append_assoc b (added_by n a) (added n acts)) all)
+    subst (λ y. Knows (b ++ (added_by n a ++ added_bytes n acts)) y (get (after_acts acts (after_act a s)).writes n)) (or-assoc t (ends_well n a) (has_ended_well n acts))
+    (subst (λ y. Knows y ((t || ends_well n a) || has_ended_well n acts) (get (after_acts acts (after_act a s)).writes n)) (append_assoc b (added_by n a) (added_bytes n acts)) all)
 
 -- of a write that was just begun
-begins : (s : Store) (k : ℕ) (m : Meta) (acts : List Act) → MayAllBe acts (begun s k m) → Knows (added s.next acts) (has_ended_well s.next acts) (get (after_acts acts (begun s k m)).writes s.next)
+begins : (s : Store) (k : ℕ) (m : Meta) (acts : List Act) → MayAllBe acts (begun s k m) → Knows (added_bytes s.next acts) (has_ended_well s.next acts) (get (after_acts acts (begun s k m)).writes s.next)
 begins s k m acts may =
     let new : Written = new_write k (numbered s.next m) in
     let first : get (begun s k m).writes s.next ≡ Some new = get-set s.writes s.next new s.next ∙ ap (λ x. cond x (Some new) (get s.writes s.next)) (own s.next) in
@@ -149,7 +149,7 @@ begins s k m acts may =
     own n = grind (arith, nat_tests)
 
 pub gives_what_was_added : GivesWhatWasAdded
-gives_what_was_added s k m acts may = elim (get (after_acts acts (begun s k m)).writes s.next) as (λ o. Knows (added s.next acts) (has_ended_well s.next acts) o → IfSome o (λ w. w.bytes ≡ added s.next acts)) [
+gives_what_was_added s k m acts may = elim (get (after_acts acts (begun s k m)).writes s.next) as (λ o. Knows (added_bytes s.next acts) (has_ended_well s.next acts) o → IfSome o (λ w. w.bytes ≡ added_bytes s.next acts)) [
   | None ↦ λ _. tt
   | Some w ↦ λ h. h.0
 ] (begins s k m acts may)
@@ -169,4 +169,4 @@ whole-one b t place (Some w) some h = (
     more n e = grind (arith, nat_tests)
 
 pub is_whole_exactly : IsWholeExactly
-is_whole_exactly s k m acts place may some = whole-one (added s.next acts) (has_ended_well s.next acts) place (get (after_acts acts (begun s k m)).writes s.next) some (begins s k m acts may)
+is_whole_exactly s k m acts place may some = whole-one (added_bytes s.next acts) (has_ended_well s.next acts) place (get (after_acts acts (begun s k m)).writes s.next) some (begins s k m acts may)

@@ -48,9 +48,9 @@ added_by n (Adds w bytes eof) = cond (w == n) bytes []
 added_by n _ = []
 
 -- the bytes that these calls added to the write, one piece after another
-abbrev pub added : ℕ → List Act → List ℕ
-added n [] = []
-added n (a ∷ acts) = added_by n a ++ added n acts
+abbrev pub added_bytes : ℕ → List Act → List ℕ
+added_bytes n [] = []
+added_bytes n (a ∷ acts) = added_by n a ++ added_bytes n acts
 
 -- a call ends the write well: it announces its end, or finishes it
 abbrev pub ends_well : ℕ → Act → Bool
@@ -66,7 +66,7 @@ has_ended_well n acts = list_any (ends_well n) acts
 abbrev pub GivesWhatWasAdded : Type 0
 GivesWhatWasAdded =
     (s : Store) (k : ℕ) (m : Meta) (acts : List Act) → MayAllBe acts (begun s k m)
-    → IfSome (get (after_acts acts (begun s k m)).writes s.next) (λ w. w.bytes ≡ added s.next acts)
+    → IfSome (get (after_acts acts (begun s k m)).writes s.next) (λ w. w.bytes ≡ added_bytes s.next acts)
 
 -- and a reader of it, which its record outlives, has given the whole body exactly if it gave as many bytes as were added, and
 -- the end of the write was announced, or it was finished
@@ -74,4 +74,4 @@ abbrev pub IsWholeExactly : Type 0
 IsWholeExactly =
     (s : Store) (k : ℕ) (m : Meta) (acts : List Act) (place : ℕ) → MayAllBe acts (begun s k m)
     → IsSome (get (after_acts acts (begun s k m)).writes s.next)
-    → (is_whole (after_acts acts (begun s k m)) (Part s.next place) ≡ true) ↔ ((length (added s.next acts) ≤ place) × (has_ended_well s.next acts ≡ true))
+    → (is_whole (after_acts acts (begun s k m)) (Part s.next place) ≡ true) ↔ ((length (added_bytes s.next acts) ≤ place) × (has_ended_well s.next acts ≡ true))

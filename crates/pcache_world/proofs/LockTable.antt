@@ -6,7 +6,7 @@ use Rattle.pcache_lock.specs.Deeds.{LetGo, Aged, Left, Made}
 use Rattle.pcache_lock.specs.declared.lock.permit.Locked.TheVariants.{Read}
 use Rattle.pcache_lock.specs.Permits.{Reader}
 use Rattle.pcache_lock.specs.Past.{Does}
-use Rattle.pcache_lock.specs.PastWaits.{given_by, held_by, number_of, status_by}
+use Rattle.pcache_lock.specs.PastWaits.{given_by, held_since, number_of, status_by}
 use Rattle.pcache_lock.proofs.Calls.{any_tidy}
 use Rattle.pcache_lock.proofs.Kept.{gives, publications-then, publications_by, readers-then, readers_by, there-before}
 use Rattle.pcache_lock.proofs.PastWaits.{age-then, known-by, own_by, turned, turns}
@@ -102,7 +102,7 @@ said-then age deed None before old there = absurd (cc)
 module _ (past qs : List table.Deed) (k : SaysAs past qs) where
   pub says-same : (deed : table.Deed) → SaysAs (deed ∷ past) (deed ∷ qs)
   says-same deed = record {
-    held = λ l. ap (λ h. cond (l == number_of deed) (held_by deed h) h) (k.held l);
+    held = λ l. ap (λ h. cond (l == number_of deed) (held_since deed h) h) (k.held l);
     status = λ l. ap (λ s. cond (l == number_of deed) (status_by deed s) s) (k.status l);
     given = λ age l. ap (λ g. cond (l == number_of deed) (given_by age deed g) g) (k.given age l);
   }
