@@ -324,6 +324,25 @@ static void handed_on(void) {
     check("end", pcache_request_end(&cache, waiter), PCACHE_OK);
 }
 
+/* A stale body is confirmed: it is renewed where it still stands, and nothing is where it was removed meanwhile. */
+static void confirmed(void) {
+    for (int is_removed = 0; is_removed < 2; is_removed++) {
+        uint64_t request = request_for("gg");
+        uint32_t set;
+        pcache_handle meta = {0, 0};
+        look(request);
+        check("take", pcache_request_take(&cache, request, PCACHE_IS_EXPIRED, 1, 0), PCACHE_OK);
+        check("meta", pcache_request_meta(&cache, request, &meta), PCACHE_OK);
+        if (is_removed) purge("gg");
+        check("renew", pcache_request_renew(&cache, request, &meta, &set), PCACHE_OK);
+        printf("renewed %u ", (unsigned)set);
+        read_once(request);
+        printf("\n");
+        check("end", pcache_end(&meta), PCACHE_OK);
+        check("end", pcache_request_end(&cache, request), PCACHE_OK);
+    }
+}
+
 /* A request that cannot use a fill waits no longer once the one that fills it says which it is. Another one waits on. */
 static void published(void) {
     const uint64_t unusable[2] = {206, 501}, said[1] = {501};
@@ -422,6 +441,7 @@ int main(void) {
     variants();
     served_on();
     handed_on();
+    confirmed();
     published();
     too_large();
     refused();

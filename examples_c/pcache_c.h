@@ -38,7 +38,8 @@ enum {
     PCACHE_INCOMPLETE = 10,
     PCACHE_REMOVED = 11,
     PCACHE_EXHAUSTED = 12,
-    PCACHE_IO = 13
+    PCACHE_IO = 13,
+    PCACHE_SUPERSEDED = 14       /* a newer body of the key stands */
 };
 
 /* An object, or nothing if all is zero. The fields are the library's. */
@@ -423,7 +424,9 @@ uint32_t pcache_request_miss(pcache_handle *cache, uint64_t request);
 uint32_t pcache_request_meta(pcache_handle *cache, uint64_t request, pcache_handle *meta);
 /* These two copy the meta; its handle keeps it. */
 uint32_t pcache_request_set_meta(pcache_handle *cache, uint64_t request, pcache_handle *meta);
-uint32_t pcache_request_renew(pcache_handle *cache, uint64_t request, pcache_handle *meta);
+/* Only the body that the request found is renewed: `set` is 0 if that is no longer what is stored under the key, and then nothing that
+ * is stored changes. The request serves what it found, with this meta, in both cases. */
+uint32_t pcache_request_renew(pcache_handle *cache, uint64_t request, pcache_handle *meta, uint32_t *set);
 /* The same with a copy of the head of that answer alone, which is not stored, for a reason: what is stored stays as it is, and what
  * the request holds is released as the reason says. */
 uint32_t pcache_request_serve_on(pcache_handle *cache, uint64_t request, pcache_handle *head, uint32_t reason);
@@ -445,7 +448,8 @@ uint32_t pcache_request_exceeds_head(pcache_handle *cache, uint64_t request, uin
 uint32_t pcache_request_write(pcache_handle *cache, uint64_t request, const uint8_t *bytes,
                               size_t bytes_len, uint32_t eof);
 /* `stored` is what the entry weighs: the bytes of the body, or all that is kept for it, as the limit of the cache counts.
- * PCACHE_NONE if there is no write. PCACHE_REMOVED if its key was purged since it began. */
+ * PCACHE_NONE if there is no write. PCACHE_REMOVED if its key was purged since it began, PCACHE_SUPERSEDED if a newer body of the
+ * key stands. */
 uint32_t pcache_request_finish(pcache_handle *cache, uint64_t request, size_t *stored,
                                size_t *evicted);
 /* `more` is 1 if bytes were written to the buffer, 2 if nothing is there yet, 0 at the end of all that was to be read, and 3

@@ -309,6 +309,23 @@ fn too_large(cache: &Cache) -> Result<(), Error> {
     hit(cache, "hh")
 }
 
+/// A stale body is confirmed: it is renewed where it still stands, and nothing is where it was removed meanwhile.
+fn confirmed(cache: &Cache) -> Result<(), Error> {
+    for is_removed in [false, true] {
+        let mut request = cache.request(b"gg", "1")?;
+        assert_eq!(request.look(NOW)?, Looked::Found);
+        request.take(HitStatus::Expired, NOW)?;
+        let mut meta = request.meta()?;
+        if is_removed {
+            purge(cache, "gg")?;
+        }
+        print!("renewed {} ", u32::from(request.renew(&mut meta)?));
+        read_once(&mut request)?;
+        println!();
+    }
+    Ok(())
+}
+
 /// What may not be called is refused.
 fn refused(cache: &Cache) -> Result<(), Error> {
     let mut request = cache.request(b"aa", "1")?;
@@ -342,6 +359,7 @@ fn main() -> Result<(), Error> {
     variants(&cache)?;
     served_on(&cache)?;
     handed_on(&cache)?;
+    confirmed(&cache)?;
     published(&cache)?;
     too_large(&cache)?;
     refused(&cache)?;

@@ -35,7 +35,7 @@ def clauses(text):
 
 def sources():
     for folder, folders, files in os.walk(f"{TOP}/crates"):
-        folders[:] = sorted(it for it in folders if it not in ("out", "proofs", "specs", "wrong-bodies", "must-fail"))
+        folders[:] = sorted(it for it in folders if it not in ("out", "proofs", "specs", "wrong-bodies"))
         for file in sorted(files):
             if file.endswith(".rt"):
                 with open(f"{folder}/{file}", encoding="utf-8") as it:

@@ -8,9 +8,8 @@
   bench/contracts/edits_seen.py --sample MINUTES --seed TEXT [NAME..]      some of them, picked by the text, in so many processor minutes
   bench/contracts/edits_seen.py --named MINUTES [--lanes N] [NAME..]       those of bench/contracts/mistakes.txt, side by side, in so many minutes
 
-The gate tries the one file in must-fail/, and sees only that the edited crate as a whole is refused. This reads the files in
-wrong-bodies/ too, tries as many edits at once as turn functions of their own, in a copy, and looks for the function that each
-turns:
+This reads the files in wrong-bodies/ of a crate, tries as many edits at once as turn functions of their own, in a copy, and looks
+for the function that each turns:
 
   by itself    a goal of this very function fails
   by callers   the function is still proved, but something that uses it is not, with this edit alone
@@ -172,13 +171,11 @@ def edits_in(path):
 
 
 def files_of(crate):
-    """The files of wrong bodies of a crate: the one that the gate tries, and those that only this script reads."""
-    found = []
-    for folder in ("must-fail", "wrong-bodies"):
-        at = f"{TOP}/crates/{crate}/{folder}"
-        if os.path.isdir(at):
-            found += sorted(f"{folder}/{it}" for it in os.listdir(at) if it.endswith(".edit"))
-    return found
+    """The files of wrong bodies of a crate."""
+    at = f"{TOP}/crates/{crate}/wrong-bodies"
+    if not os.path.isdir(at):
+        return []
+    return sorted(f"wrong-bodies/{it}" for it in os.listdir(at) if it.endswith(".edit"))
 
 
 def every_crate():

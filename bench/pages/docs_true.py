@@ -235,7 +235,7 @@ def wrong_pictures(text):
         for name, at in level.items():
             yield from (f"{name} stands below {it}, which it uses" for it in uses[name] if it in level and level[it] < at)
         for name in uses:
-            if name not in level and not name.startswith("test") and name != "cache_torment" and not re.match(r"cache_\w+", name):
+            if name not in level and not name.startswith("test") and not re.match(r"cache_\w+", name):
                 yield f"the picture has no {name}"
 
 
@@ -244,7 +244,7 @@ def figures():
     """What a script counts, by its name in the pages."""
     sources = [it for it in files_of(".rt") if "/src/" in it]
     crates = [it for it in uses_of()]
-    edits = glob.glob(f"{TOP}/crates/*/wrong-bodies/*.edit") + glob.glob(f"{TOP}/crates/*/must-fail/*.edit")
+    edits = glob.glob(f"{TOP}/crates/*/wrong-bodies/*.edit")
     return {
         "tests": sum(len(re.findall(r"(?m)^\s*#\[test\]", read(it))) for it in sources),
         "crates": len(crates),
@@ -300,7 +300,7 @@ def made_seeds(change=lambda text: text):
     """Where a library makes a seed, though docs/PROMISES.md says that each has the one that it is given: no contract can say so of a
     store, a predictor or a cache. The library for C makes one of its caller's bytes."""
     for file in files_of(".rt"):
-        found = re.search(r"crates/(pcache\w*|pingora_cache)/src/(\S+)", file)
+        found = re.search(r"crates/(pcache_\w+|pingora_cache)/src/(\S+)", file)
         if not found or found[1] == "pcache_base":
             continue
         made = len(re.findall(r"\bSeed::(?:new|fixed)\b|\bSeed \{", change(read(file))))

@@ -26,6 +26,7 @@ KINDS = {
     "WriteRemoved": "REMOVED",
     "NumbersExhausted": "EXHAUSTED",
     "Io": "IO",
+    "Superseded": "SUPERSEDED",
 }
 # The struct of a handle: C sees two words of what the sources keep in two structs.
 HANDLE = [("tag", "u64"), ("at", "*mut u8")]

@@ -2,7 +2,8 @@
 # Plays the programs of examples_c/ and examples_rust/ over the library for C, and the tests of the crate in rust/. What a program in C
 # prints is compared with what is written down, and with what the same program in Rust prints. The headers and pcache_parts.c are read
 # by a C and by a C++ compiler, and pcache_c.h and the crate are compared with the exports. It wants gcc, g++, rustc and cargo (Debian:
-# apt-get install gcc g++ rustc cargo), fetches nothing, and ends with 2 where one is missing, and with 1 where something differs.
+# apt-get install gcc g++ rustc cargo), fetches nothing, and ends with 77 where one is missing, so that it could not be tried here, and
+# with 1 where something differs. With no word it also makes build/dist, and uses it from an empty folder (bench/plays/dist.sh).
 #
 #   bench/plays/from_c.sh                    over build/c, where the library is built without a proof first (two to three minutes), if it
 #                                            does not stand there
@@ -10,13 +11,14 @@
 #   bench/plays/from_c.sh threads            twice a million calls of eight threads under ThreadSanitizer, which takes some minutes
 #   bench/plays/from_c.sh border             what a call over the border takes
 #   bench/plays/from_c.sh memory             what a cache takes of memory, with bodies and heads of several lengths
-#   bench/plays/from_c.sh proxy              the proxy (bench/plays/proxy.py)
+#   bench/plays/from_c.sh proxy              the proxy (bench/plays/proxy.py and hard_proxy.py)
+#   bench/plays/from_c.sh load [SECONDS]     the proxy under a load that checks each answer (bench/plays/checked_load.py)
 set -eu
 cd "$(dirname "$0")/../.."
 for tool in gcc g++ rustc cargo; do
     command -v "$tool" >/dev/null || {
         echo "from_c: there is no $tool"
-        exit 2
+        exit 77
     }
 done
 start=$(date +%s)
@@ -58,9 +60,13 @@ threads)
 border | memory)
     run "$1"
     ;;
-proxy)
+proxy | load)
     (cd rust && cargo build --quiet --offline --release --example proxy)
-    bench/plays/proxy.py build/rust/release/examples/proxy
+    proxy=build/rust/release/examples/proxy
+    case "$1" in
+    load) bench/plays/checked_load.py "$proxy" "${2:-120}" ;;
+    *) bench/plays/proxy.py "$proxy" && bench/plays/hard_proxy.py "$proxy" ;;
+    esac
     ;;
 *)
     for text in /dev/null examples_c/pcache_parts.c; do
@@ -82,6 +88,8 @@ proxy)
     done
     run eviction_trait
     (cd rust && cargo test --quiet --offline --release)
+    bench/make/dist.py "$(cut -d' ' -f1 "$made/made-of")"
+    bench/plays/dist.sh
     ;;
 esac
 echo "$(($(date +%s) - start)) s"

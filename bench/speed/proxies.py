@@ -197,7 +197,7 @@ def start_all(proxy, room):
     """The origin, and the three in front of it."""
     origin, to_nginx, to_varnish = free_port(), free_port(), free_port()
     start_nginx("origin", ORIGIN, 1, room, port=origin)
-    ours = Server("ours", [os.path.realpath(proxy), "127.0.0.1:0", f"127.0.0.1:{origin}", "1000000000"], room)
+    ours = Server("ours", [os.path.realpath(proxy), "127.0.0.1:0", f"127.0.0.1:{origin}", "--limit", "1000000000"], room)
     until = time.time() + 30
     while not (said := open(f"{room}/ours.said", encoding="utf-8").read()).endswith("\n") and time.time() < until:
         time.sleep(0.1)

@@ -27,6 +27,8 @@ pub enum Error {
     Exhausted,
     /// Input or output failed.
     Io,
+    /// A newer body of the key stands.
+    Superseded,
     /// A code of the library that this crate cannot cause, as one of a handle.
     Other(u32),
 }
@@ -45,6 +47,7 @@ impl Error {
             raw::REMOVED => Error::Removed,
             raw::EXHAUSTED => Error::Exhausted,
             raw::IO => Error::Io,
+            raw::SUPERSEDED => Error::Superseded,
             _ => Error::Other(code),
         }
     }
@@ -64,6 +67,7 @@ impl fmt::Display for Error {
             Error::Removed => "the key was removed since its write began",
             Error::Exhausted => "the numbers of writes or locks are used up",
             Error::Io => "input or output failed",
+            Error::Superseded => "a newer body of the key stands",
             Error::Other(code) => return write!(to, "code {code}"),
         })
     }

@@ -28,7 +28,7 @@ enum At {
 /// A response that is pushed in for a key, in pieces of the bytes in which it came (RFC 9112). Its head says whether it is stored, as
 /// [`Head::meta`] of a request without an Authorization; where it is not, further pieces are ignored. The body has as many bytes as the
 /// first Content-Length says, and what follows is ignored; without one that can be read it lasts to the end. It takes no permit, so
-/// what is fetched meanwhile for the key is stored too, and what ends last is served. A put that is dropped stores nothing.
+/// what is fetched meanwhile for the key is stored too, and of both what began last is served. A put that is dropped stores nothing.
 ///
 /// ```
 /// use pcache::{Cache, Moment, Options, PutOptions};

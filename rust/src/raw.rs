@@ -132,6 +132,7 @@ pub const INCOMPLETE: u32 = 10;
 pub const REMOVED: u32 = 11;
 pub const EXHAUSTED: u32 = 12;
 pub const IO: u32 = 13;
+pub const SUPERSEDED: u32 = 14;
 
 extern "C" {
     pub fn pcache_is_proved() -> u32;
@@ -461,6 +462,7 @@ extern "C" {
         cache: *mut PcacheHandle,
         request: u64,
         meta: *mut PcacheHandle,
+        set: *mut u32,
     ) -> u32;
     pub fn pcache_request_seek(
         cache: *mut PcacheHandle,

@@ -444,12 +444,15 @@ impl Request {
     }
 
     /// Serves a stale body on, of which the origin said that it is good, with this meta's moments, head and variance ([`Meta::vary`]).
+    /// Only the body that this request found is renewed, and the result says whether it was: if it is no longer what is stored under the
+    /// key, nothing that is stored changes, and the answer is for this request alone.
     ///
     /// # Errors
     /// [`Error::WrongCall`] if it is not stale, [`Error::NoMemory`].
-    pub fn renew(&mut self, meta: &mut Meta) -> Result<(), Error> {
-        let meta = &mut meta.0 .0;
-        self.change(|cache, request| unsafe { raw::pcache_request_renew(cache, request, meta) })
+    pub fn renew(&mut self, meta: &mut Meta) -> Result<bool, Error> {
+        let (meta, mut set) = (&mut meta.0 .0, 0);
+        self.change(|cache, request| unsafe { raw::pcache_request_renew(cache, request, meta, &mut set) })?;
+        Ok(set != 0)
     }
 
     /// Serves a stale body on, of which the origin said that it is good, with the head of that answer, which is not stored, for a reason:
@@ -688,7 +691,8 @@ impl Fill<'_> {
     /// Adds the last bytes, and stores the body.
     ///
     /// # Errors
-    /// [`Error::Removed`] if the key was purged since the write began, [`Error::NoMemory`]: the write is gone, and nothing is stored.
+    /// [`Error::Removed`] if the key was purged since the write began, [`Error::Superseded`] if a newer body of the key stands,
+    /// [`Error::NoMemory`]: the write is gone, and nothing is stored.
     pub fn finish(self, last: impl AsRef<[u8]>) -> Result<Stored, Error> {
         self.request.add(last.as_ref(), true)?;
         self.request.finish_write()

@@ -1,5 +1,5 @@
 #!/usr/bin/env python3
-"""Refuses requests for memory of `cache_torment`, and compares what it tells with a plain reading of the definitions.
+"""Refuses requests for memory of `cache_replay torment`, and compares what it tells with a plain reading of the definitions.
 
   bench/plays/torment/torment.py PROGRAM                               every script, each request refused in turn
   bench/plays/torment/torment.py PROGRAM --minutes M --seed TEXT       as much of that as there is time for, in an order that the text decides
@@ -10,8 +10,8 @@
 The Nth request of a run is refused, for each N until a run meets no refusal: of the rows beside this file, and of puts cut in two
 at each place and byte by byte, with the manager in one list and in two shards. Then random scripts of 250 lines, with requests
 refused at a rate and in windows. `plain.py` says what may be told. Besides: a run with one refused request answers one refusal at
-most, but for what a put repeats; a run with none answers none; nothing leaks. It wants gcc. It ends with 1 if a run is wrong, and
-says which, and with 2 if it could not begin.
+most, but for what a put repeats; a run with none answers none; nothing leaks. It ends with 1 if a run is wrong, and says which,
+with 77 where there is no gcc, so that it could not be tried here, and with 2 if it could not begin for another reason.
 """
 import argparse
 import concurrent.futures
@@ -19,6 +19,7 @@ import hashlib
 import multiprocessing
 import os
 import random
+import shutil
 import signal
 import subprocess
 import sys
@@ -84,7 +85,7 @@ class Harness:
         """What it told of a script, and how many requests there were, were refused and are not given back."""
         environment = {"LD_PRELOAD": self.library, "REFUSE": refuse, **self.quirks}
         done = subprocess.run(
-            [self.program, manager, *script.limits], input="".join(f"{line}\n" for line in script.lines).encode("latin-1"),
+            [self.program, "torment", manager, *script.limits], input="".join(f"{line}\n" for line in script.lines).encode("latin-1"),
             stdout=subprocess.PIPE, stderr=subprocess.PIPE, env=environment, timeout=60, close_fds=False, check=False)
         errors = done.stderr.decode("latin-1").split("\n")
         words = errors[-2].split(" ") if len(errors) > 1 else []
@@ -198,6 +199,9 @@ def main():
     with tempfile.TemporaryDirectory() as folder:
         library = said.library or f"{folder}/refuse.so"
         if not said.library:
+            if not shutil.which("gcc"):
+                print("torment: there is no gcc")
+                return 77
             command = ["gcc", "-O1", "-shared", "-fPIC", "-o", library, "-x", "c", f"{HERE}/refuse.c.txt"]
             if subprocess.run(command, check=False).returncode != 0 or not os.access(said.program, os.X_OK):
                 print(f"torment: no library, or no program {said.program}")

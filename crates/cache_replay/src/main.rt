@@ -1,5 +1,6 @@
 #![tactic(auto)]
-//! `cache_replay LIMIT [WATERMARK]`: runs a script of cache calls from standard input.
+//! `cache_replay LIMIT [WATERMARK]`: runs a script of cache calls from standard input. `cache_replay torment MANAGER LIMIT
+//! [WATERMARK]` goes on after calls that failed, for tests that refuse requests for memory.
 
 use cache_script::replay::{refuse_arguments, replay};
 use std::io::ErrorKind;

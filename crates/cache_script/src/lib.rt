@@ -13,4 +13,4 @@ mod policy;
 pub mod replay;
 mod reply;
 mod script;
-pub mod torment;
+mod torment;

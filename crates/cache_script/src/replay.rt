@@ -3,8 +3,8 @@ ghost use Rattle.std.specs.Prelude.{◌≡◌, ◌≤◌};
 
 use crate::policy::OneSecond;
 use crate::reply::{write_reply, write_stat};
-use crate::script;
 use crate::script::{Line, Unread, read};
+use crate::{script, torment};
 use pcache_base::moment::Moment;
 use pcache_base::seed::Seed;
 use pcache_evict::eviction::simple_lru::Manager;
@@ -52,8 +52,9 @@ pub(crate) struct Limits {
 }
 
 /// Runs the script that `input` has, with `LIMIT [WATERMARK]` as arguments, and writes one reply for
-/// each line. Managers are saved in `files` and loaded from there. Returns the status: 0, or 1 after a
-/// line to `errors` that says what was wrong.
+/// each line. Managers are saved in `files` and loaded from there. With `torment MANAGER LIMIT [WATERMARK]`
+/// it goes on after a call that failed for memory, and writes all that each call did. Returns the
+/// status: 0, or 1 after a line to `errors` that says what was wrong.
 pub fn replay<F: Files, R: Read + Drop, W: Write + Drop, E: Write>(
     alloc: Global,
     args: &[String],
@@ -64,9 +65,14 @@ pub fn replay<F: Files, R: Read + Drop, W: Write + Drop, E: Write>(
 ) -> u8
     ensures { result ≤ 1 }
 {
-    let stop = match run(alloc, args, files, input, output) {
-        Ok(()) => return 0,
-        Err(stop) => stop,
+    let ran = match args {
+        [first, others @ ..] if first.as_str() == "torment" => {
+            torment::run(alloc, others, input, output)
+        }
+        _ => run(alloc, args, files, input, output),
+    };
+    let Err(stop) = ran else {
+        return 0;
     };
     stop.tell(errors);
     1

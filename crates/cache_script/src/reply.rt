@@ -92,6 +92,7 @@ fn error_number(kind: ErrorType) -> u8 {
         ErrorType::WriteRemoved => 6,
         ErrorType::NumbersExhausted => 7,
         ErrorType::Io => 8,
+        ErrorType::Superseded => 9,
     }
 }
 

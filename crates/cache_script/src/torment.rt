@@ -3,7 +3,6 @@
 //! A failed call does not end the run: the next line follows. After each call the program writes the reply, the
 //! entry of the history, the world's counts and the length of the history, so that all of it can be compared with
 //! the definitions.
-ghost use Rattle.std.specs.Prelude.{◌≤◌};
 
 use crate::entry::write_entry;
 use crate::policy::OneSecond;
@@ -24,27 +23,8 @@ use std::time::Duration;
 const LINE: usize = 4096;
 
 /// Runs the script that `input` has, with `MANAGER LIMIT [WATERMARK]` as arguments, where MANAGER is `simple`, or
-/// `shards` for the manager in two shards, and writes what each line did. Returns the status: 0, or 1 after a
-/// line to `errors` that says what was wrong.
-pub fn torment<R: Read + Drop, W: Write + Drop, E: Write>(
-    alloc: Global,
-    args: &[String],
-    input: R,
-    output: W,
-    errors: &mut E,
-) -> u8
-    ensures { result ≤ 1 }
-{
-    match run(alloc, args, input, output) {
-        Ok(()) => 0,
-        Err(stop) => {
-            stop.tell(errors);
-            1
-        }
-    }
-}
-
-fn run<R: Read + Drop, W: Write + Drop>(
+/// `shards` for the manager in two shards, and writes what each line did.
+pub(crate) fn run<R: Read + Drop, W: Write + Drop>(
     alloc: Global,
     args: &[String],
     input: R,

@@ -1,13 +1,13 @@
 //! Reading along: a request serves a body while another one is still writing it.
 ghost use Rattle.std.specs.Prelude.{◌≡◌, OnOk, true};
-ghost use Rattle.pcache.specs.Words.{CacheKey, Miss};
+ghost use Rattle.pingora_cache.specs.Words.{CacheKey, Miss};
 
 use crate::front::{FrontCache, Request, meta_of, request_for};
 use bytes::Bytes;
-use pcache::error::Result;
-use pcache::moment::Moment;
-use pcache::poll::Poll;
-use pcache::{HitStatus, NoCacheReason};
+use pingora_cache::error::Result;
+use pingora_cache::moment::Moment;
+use pingora_cache::poll::Poll;
+use pingora_cache::{HitStatus, NoCacheReason};
 
 /// What a proxy sends after one read, in the chunked coding (RFC 9112, 7.1).
 #[derive(Clone, Copy, Debug)]

@@ -1,15 +1,15 @@
 //! A cache as one value, and requests of it: what the short examples share.
 ghost use Rattle.std.specs.Prelude.{◌≡◌, IfOk, true};
-ghost use Rattle.pcache.specs.Words.{CacheKey};
+ghost use Rattle.pingora_cache.specs.Words.{CacheKey};
 
 use bytes::Bytes;
 use http::StatusCode;
-use pcache::error::Result;
-use pcache::eviction::simple_lru::Manager;
-use pcache::header::ResponseHeader;
-use pcache::moment::Moment;
-use pcache::seed::Seed;
-use pcache::{Cache, CacheMeta, CacheRequest};
+use pingora_cache::error::Result;
+use pingora_cache::eviction::simple_lru::Manager;
+use pingora_cache::header::ResponseHeader;
+use pingora_cache::moment::Moment;
+use pingora_cache::seed::Seed;
+use pingora_cache::{Cache, CacheMeta, CacheRequest};
 use std::alloc::Global;
 use std::time::Duration;
 
@@ -49,7 +49,7 @@ pub fn request_for(alloc: Global, path: &str) -> Result<Request>
     let mut request = CacheRequest::new(alloc);
     request
         .cache
-        .set_cache_key(pcache::CacheKey::new(primary, String::new(alloc)));
+        .set_cache_key(pingora_cache::CacheKey::new(primary, String::new(alloc)));
     Ok(request)
 }
 

@@ -18,9 +18,9 @@ mod waiting;
 
 use anyhow::{Context, Result, anyhow};
 use parts::Parts;
-use pcache::eviction::simple_lru::Manager;
-use pcache::moment::Moment;
-use pcache::seed::Seed;
+use pingora_cache::eviction::simple_lru::Manager;
+use pingora_cache::moment::Moment;
+use pingora_cache::seed::Seed;
 use simulate::Counts;
 use std::alloc::Global;
 use std::env;

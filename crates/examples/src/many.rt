@@ -1,11 +1,11 @@
 //! Many open requests: a `Vec` of values that must be spent.
 ghost use Rattle.std.specs.Prelude.{◌≡◌, ◌<◌, vec_len};
-ghost use Rattle.pcache.specs.Words.{CacheKey};
+ghost use Rattle.pingora_cache.specs.Words.{CacheKey};
 
 use crate::front::{FrontCache, Request, request_for};
 use crate::waiting::{self, Next};
-use pcache::error::{Error, ErrorType, Result};
-use pcache::moment::Moment;
+use pingora_cache::error::{Error, ErrorType, Result};
+use pingora_cache::moment::Moment;
 
 /// Adds a request. If there is no memory for it, `push` returns it, and it is ended here.
 pub fn add(cache: &mut FrontCache, requests: &mut Vec<Request>, request: Request) -> Result<()> {

@@ -2,12 +2,12 @@
 use bytes::Bytes;
 use http::StatusCode;
 use http_header::{CACHE_CONTROL, HeaderMapError, HeaderValue};
-use pcache::cache_control::CacheControl;
-use pcache::error::{Error, ErrorType, Result};
-use pcache::filters::resp_cacheable;
-use pcache::header::ResponseHeader;
-use pcache::moment::Moment;
-use pcache::{CacheMetaDefaults, RespCacheable};
+use pingora_cache::cache_control::CacheControl;
+use pingora_cache::error::{Error, ErrorType, Result};
+use pingora_cache::filters::resp_cacheable;
+use pingora_cache::header::ResponseHeader;
+use pingora_cache::moment::Moment;
+use pingora_cache::{CacheMetaDefaults, RespCacheable};
 use std::alloc::Global;
 use std::time::Duration;
 

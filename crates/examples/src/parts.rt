@@ -1,12 +1,12 @@
 //! The parts that requests borrow.
 ghost use Rattle.std.specs.Prelude.{◌≡◌, IfOk};
-ghost use Rattle.pcache.specs.Words.{CacheKey};
+ghost use Rattle.pingora_cache.specs.Words.{CacheKey};
 
-use pcache::error::Result;
-use pcache::eviction::simple_lru::Manager;
-use pcache::lock::CacheLock;
-use pcache::seed::Seed;
-use pcache::{HttpCache, InUse, MemCache};
+use pingora_cache::error::Result;
+use pingora_cache::eviction::simple_lru::Manager;
+use pingora_cache::lock::CacheLock;
+use pingora_cache::seed::Seed;
+use pingora_cache::{HttpCache, InUse, MemCache};
 use std::alloc::Global;
 use std::time::Duration;
 
@@ -47,7 +47,7 @@ pub fn request_for(alloc: Global, path: &str) -> Result<Request>
     ensures { IfOk result (λ request. request.phase ≡ CacheKey) }
 {
     let primary = path.as_bytes().to_vec(alloc)?;
-    let key = pcache::CacheKey::new(primary, String::new(alloc));
+    let key = pingora_cache::CacheKey::new(primary, String::new(alloc));
     let mut request = HttpCache::new(alloc);
     let uses = InUse {
         eviction: true,

@@ -1,18 +1,18 @@
 //! A proxy's request, from the look-up through a miss to a hit. The clock is the caller's.
 ghost use Rattle.std.specs.Prelude.{◌≡◌, OnOk, None};
-ghost use Rattle.pcache.specs.Words.{MayLookUp, MayMiss};
-ghost use Rattle.pcache.specs.Words.{MayWrite, phase_found};
-ghost use Rattle.pcache.specs.Words.{CacheKey, Miss};
+ghost use Rattle.pingora_cache.specs.Words.{MayLookUp, MayMiss};
+ghost use Rattle.pingora_cache.specs.Words.{MayWrite, phase_found};
+ghost use Rattle.pingora_cache.specs.Words.{CacheKey, Miss};
 
 use crate::origin;
 use crate::parts::{Parts, Request, request_for};
 use bytes::Bytes;
-use pcache::error::Result;
-use pcache::memory::MemHitHandler;
-use pcache::moment::Moment;
-use pcache::poll::Poll;
-use pcache::storage::HandleMiss;
-use pcache::{CacheMeta, HitStatus, NoCacheReason, RespCacheable};
+use pingora_cache::error::Result;
+use pingora_cache::memory::MemHitHandler;
+use pingora_cache::moment::Moment;
+use pingora_cache::poll::Poll;
+use pingora_cache::storage::HandleMiss;
+use pingora_cache::{CacheMeta, HitStatus, NoCacheReason, RespCacheable};
 
 /// How a request was served.
 #[derive(Clone, Copy, Debug)]

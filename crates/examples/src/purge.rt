@@ -1,9 +1,9 @@
 //! A purge service: removes what is stored for a path from the store and from the manager.
 ghost use Rattle.std.specs.Prelude.{◌≡◌};
-ghost use Rattle.pcache.specs.Words.{CacheKey};
+ghost use Rattle.pingora_cache.specs.Words.{CacheKey};
 
 use crate::parts::{Parts, Request, request_for};
-use pcache::error::Result;
+use pingora_cache::error::Result;
 
 /// Purges a path, and returns whether anything was stored: a body, or writes in flight, whose end
 /// then fails.

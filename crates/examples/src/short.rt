@@ -2,8 +2,8 @@
 use crate::front::FrontCache;
 use crate::{along, many, stale, variants, waiting};
 use anyhow::Result;
-use pcache::NoCacheReason;
-use pcache::moment::Moment;
+use pingora_cache::NoCacheReason;
+use pingora_cache::moment::Moment;
 
 /// Runs them one after the other.
 pub fn show_all(rt: &impl Print, cache: &mut FrontCache) -> Result<()> {

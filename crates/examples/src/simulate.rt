@@ -1,8 +1,8 @@
 //! A simulator: what a cache of some size would have served of a trace of requests.
-use pcache::error::Result;
-use pcache::eviction::simple_lru::Manager;
-use pcache::moment::Moment;
-use pcache::{CacheEntryKey, CacheKey};
+use pingora_cache::error::Result;
+use pingora_cache::eviction::simple_lru::Manager;
+use pingora_cache::moment::Moment;
+use pingora_cache::{CacheEntryKey, CacheKey};
 use std::alloc::Global;
 
 /// The counts over a trace.

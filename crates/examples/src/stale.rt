@@ -1,14 +1,14 @@
 //! Stale-while-revalidate: a stale body is served at once, while one request renews it.
 ghost use Rattle.std.specs.Prelude.{◌≡◌, IfOk, IfSome, IsSome, true};
-ghost use Rattle.pcache.specs.Words.{permit_in};
-ghost use Rattle.pcache.specs.Words.{CacheKey, Stale};
+ghost use Rattle.pingora_cache.specs.Words.{permit_in};
+ghost use Rattle.pingora_cache.specs.Words.{CacheKey, Stale};
 
 use crate::front::{FrontCache, Request, fill, request_for};
 use bytes::Bytes;
-use pcache::error::Result;
-use pcache::moment::Moment;
-use pcache::poll::Poll;
-use pcache::{CachePhase, HitStatus};
+use pingora_cache::error::Result;
+use pingora_cache::moment::Moment;
+use pingora_cache::poll::Poll;
+use pingora_cache::{CachePhase, HitStatus};
 
 /// How a request was served, with the length of the body.
 #[derive(Clone, Copy, Debug)]

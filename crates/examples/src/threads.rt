@@ -1,18 +1,18 @@
 //! The proxy over four threads, which share one cache in parts. A request that has to wait asks again, and holds no lock while
 //! other threads run.
 ghost use Rattle.std.specs.Prelude.{◌≡◌, IfOk, None};
-ghost use Rattle.pcache.specs.Words.{MayLookUp, MayMiss};
-ghost use Rattle.pcache.specs.Words.{CacheKey, Miss};
+ghost use Rattle.pingora_cache.specs.Words.{MayLookUp, MayMiss};
+ghost use Rattle.pingora_cache.specs.Words.{CacheKey, Miss};
 
 use crate::origin;
 use bytes::Bytes;
-use pcache::error::Result;
-use pcache::eviction::simple_lru::Manager;
-use pcache::memory::MemHitHandler;
-use pcache::moment::Moment;
-use pcache::poll::Poll;
-use pcache::seed::Seed;
-use pcache::{CacheMeta, HitStatus, RespCacheable, SharedCache, SharedRequest, Unnamed};
+use pingora_cache::error::Result;
+use pingora_cache::eviction::simple_lru::Manager;
+use pingora_cache::memory::MemHitHandler;
+use pingora_cache::moment::Moment;
+use pingora_cache::poll::Poll;
+use pingora_cache::seed::Seed;
+use pingora_cache::{CacheMeta, HitStatus, RespCacheable, SharedCache, SharedRequest, Unnamed};
 use std::alloc::Global;
 use std::sync::Wait;
 use std::sync::atomic::{AtomicU64, Ordering};
@@ -104,7 +104,7 @@ fn request_for(cache: &Parts, path: &str) -> Result<Request>
 {
     let alloc = cache.alloc();
     let primary = path.as_bytes().to_vec(alloc)?;
-    Ok(cache.request(pcache::CacheKey::new(primary, String::new(alloc))))
+    Ok(cache.request(pingora_cache::CacheKey::new(primary, String::new(alloc))))
 }
 
 fn answer<R: Wait>(

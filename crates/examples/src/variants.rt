@@ -1,14 +1,14 @@
 //! Variants: what a response varies on, and a purge of a key with all its variants.
 ghost use Rattle.std.specs.Prelude.{◌≡◌, OnOk, IfOk, true};
-ghost use Rattle.pcache.specs.Words.{CacheKey};
+ghost use Rattle.pingora_cache.specs.Words.{CacheKey};
 
 use crate::front::{FrontCache, Request, meta_of, request_for};
 use bytes::Bytes;
-use pcache::error::Result;
-use pcache::key::HashBinary;
-use pcache::memory::MemHitHandler;
-use pcache::moment::Moment;
-use pcache::{CacheMeta, VarianceBuilder};
+use pingora_cache::error::Result;
+use pingora_cache::key::HashBinary;
+use pingora_cache::memory::MemHitHandler;
+use pingora_cache::moment::Moment;
+use pingora_cache::{CacheMeta, VarianceBuilder};
 use std::alloc::Global;
 
 /// Whether a visit found its variant, or filled it.

@@ -1,13 +1,13 @@
 //! A request that has to wait, since another one fills its key.
 ghost use Rattle.std.specs.Prelude.{◌≡◌};
-ghost use Rattle.pcache.specs.Words.{CacheKey};
+ghost use Rattle.pingora_cache.specs.Words.{CacheKey};
 
 use crate::front::{FrontCache, Request, request_for};
-use pcache::NoCacheReason;
-use pcache::error::Result;
-use pcache::lock::LockWaitOutcome;
-use pcache::moment::Moment;
-use pcache::poll::Poll;
+use pingora_cache::NoCacheReason;
+use pingora_cache::error::Result;
+use pingora_cache::lock::LockWaitOutcome;
+use pingora_cache::moment::Moment;
+use pingora_cache::poll::Poll;
 
 /// What to do next.
 #[derive(Clone, Copy, Debug)]

@@ -8,8 +8,8 @@ mod serve;
 
 use anyhow::{Context, Result};
 use front::ProxyCache;
-use pcache::moment::Moment;
-use pcache::seed::Seed;
+use pingora_cache::moment::Moment;
+use pingora_cache::seed::Seed;
 use serve::Served;
 use std::random::RandomSource;
 use std::rt::Clock;

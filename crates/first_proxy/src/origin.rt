@@ -1,6 +1,6 @@
 //! In place of the origin: a proxy fetches the body over a connection.
 use bytes::Bytes;
-use pcache::error::Result;
+use pingora_cache::error::Result;
 use std::alloc::Global;
 
 /// The body of a path.

@@ -1,15 +1,15 @@
 //! The way of a request: a fresh body is served, and else one request for the key fetches it.
 ghost use Rattle.std.specs.Prelude.{◌≡◌, IsSome, true};
-ghost use Rattle.pcache.specs.Words.{MayMiss};
-ghost use Rattle.pcache.specs.Words.{CacheKey};
+ghost use Rattle.pingora_cache.specs.Words.{MayMiss};
+ghost use Rattle.pingora_cache.specs.Words.{CacheKey};
 
 use crate::front::{ProxyCache, Request, meta_of, request_for};
 use crate::origin::fetch;
 use bytes::Bytes;
-use pcache::HitStatus;
-use pcache::error::Result;
-use pcache::moment::Moment;
-use pcache::poll::Poll;
+use pingora_cache::HitStatus;
+use pingora_cache::error::Result;
+use pingora_cache::moment::Moment;
+use pingora_cache::poll::Poll;
 
 /// How a request was served.
 pub enum Served {

@@ -24,6 +24,8 @@ pub enum ErrorType {
     NumbersExhausted,
     /// A device failed.
     Io,
+    /// A newer body of the key stands.
+    Superseded,
 }
 
 impl ErrorType {
@@ -38,6 +40,7 @@ impl ErrorType {
             ErrorType::WriteRemoved => "WriteRemoved",
             ErrorType::NumbersExhausted => "NumbersExhausted",
             ErrorType::Io => "Io",
+            ErrorType::Superseded => "Superseded",
         }
     }
 }

@@ -37,6 +37,7 @@ code_of error.IncompleteHttpBody = 10
 code_of error.WriteRemoved = 11
 code_of error.NumbersExhausted = 12
 code_of error.Io = 13
+code_of error.Superseded = 14
 
 -- the moment of these seconds and nanoseconds, if the nanoseconds are below a second
 abbrev pub moment_at : ℕ → ℕ → Option ℕ

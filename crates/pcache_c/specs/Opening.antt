@@ -22,7 +22,7 @@ use Rattle.pcache_c.specs.declared.served.Served.{Served}
 -- permits age out after so many nanoseconds
 abbrev pub new_cache : Weighing → Tracked → Limits → Evicted → ℕ → Parts
 new_cache how tracked limits evicted age = record {
-  store = record { slots = empty; writes = empty; next = 0 };
+  store = record { slots = empty; writes = empty; next = 0; newest = true };
   past = [];
   weighing = how;
   tracked = tracked;

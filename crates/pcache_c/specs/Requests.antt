@@ -151,9 +151,10 @@ pub record Renewed (result : Result Bool ErrorType) (m : Meta) (c d : Parts) (o 
   pub takes : revalidating.Revalidates result m o.request.cache p.request.cache c d
   pub rest : KeepsFound o p
 
--- if it fails, there was no memory for a copy of the meta, or for what the cache does
-abbrev pub Renews : Meta → Parts → Parts → Open → Open → ℕ → Type 0
-Renews m c d o p code = Outcome (MayRevalidate o.request.cache) ((there : Bool) × Renewed (Ok there) m c d o p) ⊥
+-- whether the meta was set, for the body that the request found; if it fails, there was no memory for a copy of the meta, or for what
+-- the cache does
+abbrev pub Renews : Meta → ℕ → Parts → Parts → Open → Open → ℕ → Type 0
+Renews m set c d o p code = Outcome (MayRevalidate o.request.cache) ((there : Bool) × (set ≡ from_bool there) × Renewed (Ok there) m c d o p) ⊥
     (λ e. (e ≡ OutOfMemory) × (IsUnchanged c d o p ⊎ Renewed (Err e) m c d o p)) (IsUnchanged c d o p) code
 
 -- a stale body is served while another request renews it

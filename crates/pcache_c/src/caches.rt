@@ -389,9 +389,16 @@ pub extern "C" fn pcache_request_set_meta(
 }
 
 // The same with the meta itself.
-fn renew_to(alloc: Global, cache: &mut PcacheHandle, request: u64, object: &Object) -> u32
+fn renew_to(
+    alloc: Global,
+    cache: &mut PcacheHandle,
+    request: u64,
+    object: &Object,
+    set: &mut u32,
+) -> u32
     ensures { OnKind (as_meta object.now) result (IsSame cache.old cache.new) (λ m.
-        OnRequest request cache.old cache.new result (λ c d o p. Renews m c d o p result)) }
+        OnRequest request cache.old cache.new result (λ c d o p.
+        Renews m set.new c d o p result)) }
 {
     let Object::Meta(meta) = object else {
         return WRONG_KIND;
@@ -399,27 +406,30 @@ fn renew_to(alloc: Global, cache: &mut PcacheHandle, request: u64, object: &Obje
     let Some(mut object) = cache.take(alloc) else {
         return BAD_HANDLE;
     };
-    let code = reached::renew(&mut *object, request, meta);
+    let code = reached::renew(&mut *object, request, meta, set);
     cache.put(object);
     code
 }
 
-/// Renews a stale body, of which the origin said that it is good, by the meta of that answer.
+/// Renews the stale body that the request found, of which the origin said that it is good, by the meta of that answer. Says whether that
+/// body still stands under the key, 1 or 0: if not, nothing that is stored has another meta than before.
 #[unsafe(no_mangle)]
 pub extern "C" fn pcache_request_renew(
     alloc: Global,
     cache: &mut PcacheHandle,
     request: u64,
     meta: &mut PcacheHandle,
+    set: &mut u32,
 ) -> u32
     ensures does { AsksOf as_meta meta.old result (IsSame cache.old cache.new) (λ m.
-        OnRequest request cache.old cache.new result (λ c d o p. Renews m c d o p result)) }
+        OnRequest request cache.old cache.new result (λ c d o p.
+        Renews m set.new c d o p result)) }
     ensures meta { IsSame meta.old meta.new }
 {
     let Some(object) = meta.take(alloc) else {
         return BAD_HANDLE;
     };
-    let code = renew_to(alloc, cache, request, &*object);
+    let code = renew_to(alloc, cache, request, &*object, set);
     meta.put(object);
     code
 }

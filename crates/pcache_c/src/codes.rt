@@ -44,5 +44,6 @@ pub(crate) fn code_of(error: Error) -> u32
         ErrorType::WriteRemoved => 11,
         ErrorType::NumbersExhausted => 12,
         ErrorType::Io => 13,
+        ErrorType::Superseded => 14,
     }
 }

@@ -189,9 +189,9 @@ pub(crate) fn set_meta(object: &mut Object, number: u64, meta: &CacheMeta) -> u3
 }
 
 /// Renews a stale body.
-pub(crate) fn renew(object: &mut Object, number: u64, meta: &CacheMeta) -> u32
+pub(crate) fn renew(object: &mut Object, number: u64, meta: &CacheMeta, set: &mut u32) -> u32
     ensures { OnNumber number object.old object.new result (λ c d o p.
-        Renews meta.now c d o p result) }
+        Renews meta.now set.new c d o p result) }
 {
     let Object::Cache(boxed) = object else {
         return WRONG_KIND;
@@ -200,7 +200,7 @@ pub(crate) fn renew(object: &mut Object, number: u64, meta: &CacheMeta) -> u32
     let Some(request) = served.seats.find(number) else {
         return BAD_HANDLE;
     };
-    requests::renew(&mut served.cache, request, meta)
+    requests::renew(&mut served.cache, request, meta, set)
 }
 
 /// Serves a stale body while another request renews it.

@@ -227,9 +227,10 @@ pub(crate) fn meta_of(opened: &Open) -> Result<CacheMeta, u32>
     }
 }
 
-/// Serves a stale body on, of which the origin said that it is good, with this meta's dates and head.
-pub(crate) fn renew(cache: &mut AnyCache, opened: &mut Open, meta: &CacheMeta) -> u32
-    ensures { Renews meta.now cache.old cache.new opened.old opened.new result }
+/// Serves a stale body on, of which the origin said that it is good, with this meta's dates and head. Says whether the meta was set for
+/// what is stored, 1 or 0.
+pub(crate) fn renew(cache: &mut AnyCache, opened: &mut Open, meta: &CacheMeta, set: &mut u32) -> u32
+    ensures { Renews meta.now set.new cache.old cache.new opened.old opened.new result }
 {
     if !opened.request.cache.may_revalidate() {
         return WRONG_CALL;
@@ -239,7 +240,10 @@ pub(crate) fn renew(cache: &mut AnyCache, opened: &mut Open, meta: &CacheMeta) -
         Err(_) => return NO_MEMORY,
     };
     match cache.revalidate_cache_meta(&mut opened.request, meta) {
-        Ok(_) => OK,
+        Ok(there) => {
+            *set = u32::from(there);
+            OK
+        }
         Err(e) => code_of(e),
     }
 }

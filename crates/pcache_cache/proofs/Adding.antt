@@ -11,16 +11,17 @@ use Rattle.pcache_lock.specs.declared.lock.permit.Locked.TheVariants.{Write, Rea
 use Rattle.pcache_lock.specs.declared.lock.status.LockStatus.TheVariants.{TransientError}
 use Rattle.pcache_put.specs.Pasts.{EndsPutPast, past_begun, past_left, past_wrote}
 use Rattle.pcache_put.specs.declared.report.Written.{Written}
-use Rattle.pcache_request.specs.Finishing.{TakesAll}
+use Rattle.pcache_request.specs.Finishing.{TakesAll, entry_slot}
 use Rattle.pcache_request.specs.LockPasts.{asked_deeds, ended_deeds, given_deed, key_locked_deeds, let_go_deed, polled_deeds}
 use Rattle.pcache_request.specs.LockWaits.{unusable_in, wait_result}
 use Rattle.pcache_request.specs.Requests.{asks_as_stale, asks_for_hit, begin_followed}
-use Rattle.pcache_request.specs.StorePasts.{EndsPast, EndsRequestPast, begun_past, begun_past_for, entry_past, found_past, hidden_past, left_past, searched_past, taken_past, writing_past}
+use Rattle.pcache_request.specs.StorePasts.{EndsPast, EndsRequestPast, begun_past, begun_past_for, entry_past, found_past, hidden_past, left_past, looked_past, searched_past, taken_past, writing_past}
 use Rattle.pcache_request.specs.Variants.{leaves_variant}
 use Rattle.pcache_request.specs.WriteEnds.{status_after}
-use Rattle.pcache_store.specs.Notes.{leave_noted, look_noted, noted}
+use Rattle.pcache_evict.specs.Entry.{id_of}
+use Rattle.pcache_store.specs.Notes.{expiry_noted, leave_noted, look_noted, noted, removal_noted}
 use Rattle.pcache_store.specs.Past.{Began, Dropped, Finished, MetaSet, Purged, Wrote}
-use Rattle.pcache_store.specs.Store.{Guarantees, Reader as BodyReader, is_told}
+use Rattle.pcache_store.specs.Store.{Guarantees, Part, Reader as BodyReader, Whole, is_told}
 use Rattle.pcache_cache.proofs.Words.{◌≡◌, inl, inr, ℕ, Bool, true, false, List, [], ◌∷◌, Option, None, Some, Result, Ok, Err, cond, refl, sym, subst, option_map, get, Key, slot, ErrorType, NoCacheReason, put_past, IsNotSet, IsSet, Renews, Stock, meta_given, reweighs, Weighing, Limits, CacheEntryKey, Deed, Locks, is_unlocking, Locked, LockStatus, Done, Meta, Decision, Put, Stage, InHead, InBody, HasDeclined, IsOver, write_in, stage_begun, write_end, PutEnd, is_deferral, Deeds, end_deeds, found_deeds, handed_deeds, let_go_deeds, looked_deeds, looked_with_deeds, published_deeds, settled_deeds, varied_deeds, waited_deeds, Request, found_for, is_treated_as_miss, Past, dropped_past, is_hidden, is_unseen_for, WriteEnd, HitStatus, Note, Store}
 use Rattle.pcache_lock.specs.Deeds as deeds
 use Rattle.pcache_put.specs.Steps as steps
@@ -104,30 +105,67 @@ end_keeps keeps (Some w) h how p is = settled_keeps keeps (status_after how) h p
 
 -- ---- notes
 
--- each note leaves it true
+-- a note that a meta was set
+abbrev pub is_set : Option Note → Bool
+is_set (Some (MetaSet k m)) = true
+is_set _ = false
+
+-- each note leaves it true, but for one that a meta was set
 abbrev pub KeptByNotes : (Past → Type 0) → Type 0
-KeptByNotes Q = (n : Option Note) (p : Past) → Q p → Q (noted n p)
+KeptByNotes Q = (n : Option Note) (p : Past) → is_set n ≡ false → Q p → Q (noted n p)
+
+no_set_left : (r : BodyReader) → is_set (leave_noted r) ≡ false
+no_set_left (Whole id body start stop done) = refl
+no_set_left (Part n place) = refl
+
+no_set_looked : (f : Option (Meta × BodyReader)) → is_set (look_noted f) ≡ false
+no_set_looked None = refl
+no_set_looked (Some (m, Whole id body start stop done)) = refl
+no_set_looked (Some (m, Part n place)) = refl
+
+no_set_removed : (numbers : Bool) (k : ℕ) (id : Option ℕ) → is_set (removal_noted numbers k id) ≡ false
+no_set_removed numbers k None = refl
+no_set_removed true k (Some n) = refl
+no_set_removed false k (Some n) = refl
+
+pub no_set_expired : (now : ℕ) (k : Option ℕ) → is_set (expiry_noted now k) ≡ false
+no_set_expired now None = refl
+no_set_expired now (Some k) = refl
+
+pub no_set_purged : (k : Option Key) → is_set (option_map (λ x. Purged (slot x)) k) ≡ false
+no_set_purged None = refl
+no_set_purged (Some k) = refl
 
 pub left_keeps : {Q : Past → Type 0} → KeptByNotes Q → (r : Option BodyReader) (p : Past) → Q p → Q (left_past r p)
 left_keeps keeps None p is = is
-left_keeps keeps (Some r) p is = keeps (leave_noted r) p is
+left_keeps keeps (Some r) p is = keeps (leave_noted r) p (no_set_left r) is
+
+-- a reader that was found is let go again
+pub left_one_keeps : {Q : Past → Type 0} → KeptByNotes Q → (r : BodyReader) (p : Past) → Q p → Q (noted (leave_noted r) p)
+left_one_keeps keeps r p is = keeps (leave_noted r) p (no_set_left r) is
 
 pub dropped_keeps : {Q : Past → Type 0} → KeptByNotes Q → (w : Option ℕ) (p : Past) → Q p → Q (dropped_past w p)
 dropped_keeps keeps None p is = is
-dropped_keeps keeps (Some w) p is = keeps (Some (Dropped w)) p is
+dropped_keeps keeps (Some w) p is = keeps (Some (Dropped w)) p refl is
 
 hidden_keeps : {Q : Past → Type 0} → KeptByNotes Q → (from : Option ℕ) (f : Option (Meta × BodyReader)) (p : Past) → Q p → Q (hidden_past from f p)
 hidden_keeps keeps from None p is = is
-hidden_keeps {Q} keeps from (Some q) p is = one_of Q (is_hidden from q.0.created) (noted (leave_noted q.1) p) p (keeps (leave_noted q.1) p is) is
+hidden_keeps {Q} keeps from (Some q) p is = one_of Q (is_hidden from q.0.created) (noted (leave_noted q.1) p) p (keeps (leave_noted q.1) p (no_set_left q.1) is) is
 
 pub searched_keeps : {Q : Past → Type 0} → KeptByNotes Q → (s : Store) (r : Request) (p : Past) → Q p → Q (searched_past s r p)
-searched_keeps keeps s r p is = hidden_keeps keeps r.valid_after (found_for s r.key) (found_past s r.key p) (keeps (look_noted (found_for s r.key)) p is)
+searched_keeps keeps s r p is = hidden_keeps keeps r.valid_after (found_for s r.key) (found_past s r.key p) (keeps (look_noted (found_for s r.key)) p (no_set_looked (found_for s r.key)) is)
+
+pub looked_past_keeps : {Q : Past → Type 0} → KeptByNotes Q → (d : Option Decision) (s : Store) (r : Request) (p : Past) → Q p → Q (looked_past d s r p)
+looked_past_keeps {Q} keeps d s r p is =
+    one_of Q (is_deferral d) (left_past r.reader (dropped_past r.write (found_past s r.key p))) (searched_past s r p)
+    (left_keeps keeps r.reader (dropped_past r.write (found_past s r.key p)) (dropped_keeps keeps r.write (found_past s r.key p) (keeps (look_noted (found_for s r.key)) p (no_set_looked (found_for s r.key)) is)))
+    (searched_keeps keeps s r p is)
 
 pub taken_keeps : {Q : Past → Type 0} → KeptByNotes Q → (s : HitStatus) (h : BodyReader) (r : Request) (p : Past) → Q p → Q (taken_past s h r p)
-taken_keeps {Q} keeps s h r p is = left_keeps keeps r.reader (cond (is_treated_as_miss s) (noted (leave_noted h) p) p) (one_of Q (is_treated_as_miss s) (noted (leave_noted h) p) p (keeps (leave_noted h) p is) is)
+taken_keeps {Q} keeps s h r p is = left_keeps keeps r.reader (cond (is_treated_as_miss s) (noted (leave_noted h) p) p) (one_of Q (is_treated_as_miss s) (noted (leave_noted h) p) p (keeps (leave_noted h) p (no_set_left h) is) is)
 
 begun_for_keeps : {Q : Past → Type 0} → KeptByNotes Q → (k : Option Key) (m : Option Meta) (s : Store) (p : Past) → Q p → Q (begun_past_for k m s p)
-begun_for_keeps keeps (Some k) (Some m) s p is = keeps (Some (Began (slot k) s.next m)) p is
+begun_for_keeps keeps (Some k) (Some m) s p is = keeps (Some (Began (slot k) s.next m)) p refl is
 begun_for_keeps keeps (Some k) None s p is = is
 begun_for_keeps keeps None m s p is = is
 
@@ -138,11 +176,11 @@ pub writing_keeps : {Q : Past → Type 0} → KeptByNotes Q → (streams : Bool)
 writing_keeps {Q} keeps streams s r p is =
     let begun = begun_keeps keeps s r p is in
     one_of Q streams (left_past r.reader (noted (look_noted (begin_followed s r)) (begun_past s r p))) (begun_past s r p)
-    (left_keeps keeps r.reader (noted (look_noted (begin_followed s r)) (begun_past s r p)) (keeps (look_noted (begin_followed s r)) (begun_past s r p) begun)) begun
+    (left_keeps keeps r.reader (noted (look_noted (begin_followed s r)) (begun_past s r p)) (keeps (look_noted (begin_followed s r)) (begun_past s r p) (no_set_looked (begin_followed s r)) begun)) begun
 
 pub written_keeps : {Q : Past → Type 0} → KeptByNotes Q → (s : Store) (w : Option ℕ) (bytes : List ℕ) (eof : Bool) (p : Past) → Q p → Q (written_past s w bytes eof p)
 written_keeps keeps s None bytes eof p is = is
-written_keeps {Q} keeps s (Some w) bytes eof p is = one_of Q (is_told (get s.writes w)) p (noted (Some (Wrote w bytes eof)) p) is (keeps (Some (Wrote w bytes eof)) p is)
+written_keeps {Q} keeps s (Some w) bytes eof p is = one_of Q (is_told (get s.writes w)) p (noted (Some (Wrote w bytes eof)) p) is (keeps (Some (Wrote w bytes eof)) p refl is)
 
 taken_all_keeps : {Q : Past → Type 0} (step : Past → CacheEntryKey → Past) → ((p : Past) (e : CacheEntryKey) → Q p → Q (step p e)) → (p : Past) (es : List CacheEntryKey) (n : ℕ) (q : Past) → TakesAll step p es n q → Q p → Q q
 taken_all_keeps {Q} step keeps p [] n q takes is = subst Q (sym takes.1) is
@@ -152,10 +190,10 @@ taken_all_keeps step keeps p (e ∷ es) n q (inr takes) is = taken_all_keeps ste
 ends_keeps : {Q : Past → Type 0} → KeptByNotes Q → (g : Guarantees) (k : Key) (w : ℕ) (how : WriteEnd) (p q : Past) → EndsPast g k w how p q → Q p → Q q
 ends_keeps {Q} keeps g k w end.Nothing p q ends is = subst Q (sym ends) is
 ends_keeps keeps g k w (end.Stored f) p q ends is =
-    taken_all_keeps (entry_past g.numbers) (λ x e. keeps _ x) (noted (Some (Finished w)) p) f.evicted.items f.failed_purges q ends (keeps (Some (Finished w)) p is)
-ends_keeps {Q} keeps g k w (end.Dropped e) p q ends is = subst Q (sym ends) (keeps (Some (Dropped w)) p is)
-ends_keeps {Q} keeps g k w (end.Withdrawn e) p q (inl ends) is = subst Q (sym ends) (keeps (Some (Purged (slot k))) (noted (Some (Finished w)) p) (keeps (Some (Finished w)) p is))
-ends_keeps {Q} keeps g k w (end.Withdrawn e) p q (inr ends) is = subst Q (sym ends.1) (keeps (Some (Finished w)) p is)
+    taken_all_keeps (entry_past g.numbers) (λ x e. keeps (removal_noted g.numbers (entry_slot e) (id_of e)) x (no_set_removed g.numbers (entry_slot e) (id_of e))) (noted (Some (Finished w)) p) f.evicted.items f.failed_purges q ends (keeps (Some (Finished w)) p refl is)
+ends_keeps {Q} keeps g k w (end.Dropped e) p q ends is = subst Q (sym ends) (keeps (Some (Dropped w)) p refl is)
+ends_keeps {Q} keeps g k w (end.Withdrawn e) p q (inl ends) is = subst Q (sym ends) (keeps (Some (Purged (slot k))) (noted (Some (Finished w)) p) refl (keeps (Some (Finished w)) p refl is))
+ends_keeps {Q} keeps g k w (end.Withdrawn e) p q (inr ends) is = subst Q (sym ends.1) (keeps (Some (Finished w)) p refl is)
 
 pub ends_request_keeps : {Q : Past → Type 0} → KeptByNotes Q → (g : Guarantees) (k : Option Key) (w : Option ℕ) (how : WriteEnd) (p q : Past) → EndsRequestPast g k w how p q → Q p → Q q
 ends_request_keeps {Q} keeps g k None how p q ends is = subst Q (sym ends) is
@@ -164,12 +202,12 @@ ends_request_keeps keeps g (Some k) (Some w) how p q ends is = ends_keeps keeps 
 
 begun_put_keeps : {Q : Past → Type 0} → KeptByNotes Q → (k : ℕ) (m : Option Meta) (next : ℕ) (p : Past) → Q p → Q (past_begun k m next p)
 begun_put_keeps keeps k None next p is = is
-begun_put_keeps keeps k (Some m) next p is = keeps (Some (Began k next m)) p is
+begun_put_keeps keeps k (Some m) next p is = keeps (Some (Began k next m)) p refl is
 
 wrote_put_keeps : {Q : Past → Type 0} → KeptByNotes Q → (w : Option ℕ) (b : Option Written) (p : Past) → Q p → Q (past_wrote w b p)
 wrote_put_keeps keeps None b p is = is
 wrote_put_keeps keeps (Some w) None p is = is
-wrote_put_keeps keeps (Some w) (Some b) p is = keeps (Some (Wrote w b.bytes b.eof)) p is
+wrote_put_keeps keeps (Some w) (Some b) p is = keeps (Some (Wrote w b.bytes b.eof)) p refl is
 
 left_put_keeps : {Q : Past → Type 0} → KeptByNotes Q → (answered : Result (Option NoCacheReason) ErrorType) (stage : Stage) (p : Past) → Q p → Q (past_left answered stage p)
 left_put_keeps keeps (Ok a) stage p is = is
@@ -187,19 +225,19 @@ ends_put_keeps {Q} keeps g k (HasDeclined reason) how p q ends is = subst Q (sym
 ends_put_keeps {Q} keeps g k (IsOver kind) how p q ends is = subst Q (sym ends) is
 ends_put_keeps keeps g k (InBody w id fresh_until) how p q ends is = ends_keeps keeps g k w (write_end how) p q ends is
 
--- the meta of a body was set
-set_keeps : {Q : Past → Type 0} → KeptByNotes Q → (again : Bool) (how : Weighing) (limits : Limits) (x : Meta) (key : Option Key) (a b : Stock) → IsSet again how limits x key a b → Q (Some a.past) → Q (Some b.past)
-set_keeps {Q} keeps false how limits x key a b set is = subst (λ (s : Stock). Q (Some s.past)) (sym set) (keeps (option_map (λ k. MetaSet (slot k) x) key) (Some a.past) is)
-set_keeps keeps true how limits x None a b set is = absurd set
-set_keeps keeps true how limits x (Some k) a b set is = taken_all_keeps (entry_past true) (λ l e. keeps _ l) (Some (meta_given x (Some k) a).past) set.0 0 (Some b.past) set.1.past (keeps (Some (MetaSet (slot k) x)) (Some a.past) is)
+-- the meta of a body was set, which leaves it true too
+set_keeps : {Q : Past → Type 0} → KeptByNotes Q → (again : Bool) (how : Weighing) (limits : Limits) (x : Meta) (key : Option Key) (a b : Stock) → Q (Some (meta_given x key a).past) → IsSet again how limits x key a b → Q (Some b.past)
+set_keeps {Q} keeps false how limits x key a b given set = subst (λ (s : Stock). Q (Some s.past)) (sym set) given
+set_keeps keeps true how limits x None a b given set = absurd set
+set_keeps keeps true how limits x (Some k) a b given set = taken_all_keeps (entry_past true) (λ l e. keeps (removal_noted true (entry_slot e) (id_of e)) l (no_set_removed true (entry_slot e) (id_of e))) (Some (meta_given x (Some k) a).past) set.0 0 (Some b.past) set.1.past given
 
 -- or memory was refused for that
-unset_keeps : {Q : Past → Type 0} → KeptByNotes Q → (again : Bool) (x : Meta) (key : Option Key) (a b : Stock) → IsNotSet again x key a b → Q (Some a.past) → Q (Some b.past)
-unset_keeps {Q} keeps false x key a b stays is = subst (λ (s : Stock). Q (Some s.past)) (sym stays) is
-unset_keeps keeps true x None a b never is = absurd never
-unset_keeps {Q} keeps true x (Some k) a b (inl stays) is = subst (λ (s : Stock). Q (Some s.past)) (sym stays) is
-unset_keeps {Q} keeps true x (Some k) a b (inr gone) is = subst (λ (s : Stock). Q (Some s.past)) (sym gone) (keeps (Some (Purged (slot k))) (Some (meta_given x (Some k) a).past) (keeps (Some (MetaSet (slot k) x)) (Some a.past) is))
+unset_keeps : {Q : Past → Type 0} → KeptByNotes Q → (again : Bool) (x : Meta) (key : Option Key) (a b : Stock) → Q (Some (meta_given x key a).past) → IsNotSet again x key a b → Q (Some a.past) → Q (Some b.past)
+unset_keeps {Q} keeps false x key a b given stays is = subst (λ (s : Stock). Q (Some s.past)) (sym stays) is
+unset_keeps keeps true x None a b given never is = absurd never
+unset_keeps {Q} keeps true x (Some k) a b given (inl stays) is = subst (λ (s : Stock). Q (Some s.past)) (sym stays) is
+unset_keeps {Q} keeps true x (Some k) a b given (inr gone) is = subst (λ (s : Stock). Q (Some s.past)) (sym gone) (keeps (Some (Purged (slot k))) (Some (meta_given x (Some k) a).past) refl given)
 
-pub renews_keeps : {Q : Past → Type 0} → KeptByNotes Q → (how : Weighing) (limits : Limits) (x : Meta) (key : Option Key) (result : Result Bool ErrorType) (a b : Stock) → Renews how limits x key result a b → Q (Some a.past) → Q (Some b.past)
-renews_keeps keeps how limits x key (Ok there) a b renews is = set_keeps keeps (reweighs how x key a.store) how limits x key a b renews.1 is
-renews_keeps keeps how limits x key (Err e) a b renews is = unset_keeps keeps (reweighs how x key a.store) x key a b renews.2 is
+pub renews_keeps : {Q : Past → Type 0} → KeptByNotes Q → (how : Weighing) (limits : Limits) (x : Meta) (key : Option Key) (result : Result Bool ErrorType) (a b : Stock) → Q (Some (meta_given x key a).past) → Renews how limits x key result a b → Q (Some a.past) → Q (Some b.past)
+renews_keeps keeps how limits x key (Ok there) a b given renews is = set_keeps keeps (reweighs how x key a.store) how limits x key a b given renews.1
+renews_keeps keeps how limits x key (Err e) a b given renews is = unset_keeps keeps (reweighs how x key a.store) x key a b given renews.2 is

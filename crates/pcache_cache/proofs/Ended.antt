@@ -9,6 +9,7 @@ use Rattle.pcache_store.specs.Store.{Written, finished_on, is_untouched_in, is_u
 use Rattle.pcache_cache.proofs.Words.{in_memory, ◌≡◌, ◌≢◌, ℕ, inl, inr, Bool, true, false, cond, Option, None, Some, Result, Ok, Err, List, [], ◌∷◌, refl, ap, sym, subst, ◌∙◌, arith, nat_eq, option_map, option_and_then, option_eq, nat_cmp, eq_by_cmp, is_eq, tied_itself, FinMap, get, insert, remove, get-insert, get-remove, both_ways, eq-eqb, eqb-true, compact_of, Key, slot, ErrorType, CacheEntryKey, entry_cmp, entries_total, id_of, Tracked, IsFair, Limits, without, Locks, LockStatus, PurgesAll, Stores, Withdraws, entry_slot, tracked_before, tracked_before_end, without_entry, Request, entry_of, settled, Ends, EndsBody, EndsIdle, FinishReport, WriteEnd, Created, entry_purged, Store, Slot, Stored, complete_body, dropped, finished, is_untouched, is_write_under, purged, is_idle, with_slot, body_without, has_body_of, write_purged, IsBounded, IsKept, MayEnd, TracksExactly, is_own_write, body_weight, ending_weight, entered, write_weight, Weighing}
 use Rattle.pcache_request.specs.declared.cache.finish.WriteEnd.TheVariants as end
 use Rattle.pcache_cache.proofs.Kept.{kept_fewer}
+use Rattle.pcache_cache.proofs.Modes.{mode-dropped, mode-entry, mode-finished}
 use Rattle.pcache_cache.proofs.Standing.{Fewer, Stands, body-insert, body-remove, cmp_same, fewer-dropped, same-key}
 use Rattle.pcache_cache.proofs.Sums.{bounded-fewer, bounded-within, entries-apart, entry-same}
 
@@ -17,6 +18,10 @@ use Rattle.pcache_cache.proofs.Sums.{bounded-fewer, bounded-within, entries-apar
 abbrev pub purged_each : Store → List CacheEntryKey → Store
 purged_each s [] = s
 purged_each s (e ∷ es) = purged_each (entry_purged true s e) es
+
+mode-purged_each : (s : Store) (es : List CacheEntryKey) → (purged_each s es).newest ≡ s.newest
+mode-purged_each s [] = refl
+mode-purged_each s (e ∷ es) = mode-purged_each (entry_purged true s e) es ∙ mode-entry s (entry_slot e) (id_of e)
 
 -- none of these is the entry of a body under a key
 abbrev NoneNames : ℕ → Stored → List CacheEntryKey → Type 0
@@ -157,13 +162,13 @@ module _ (wg : Weighing) (limits : Limits) (m : Tracked) (s t : Store) (k : Key)
             )
       ] refl (sym (here q) ∙ p.0)
 
-  pub kept-anew : (out : List CacheEntryKey) (s' : Store) (m' : Tracked) → IsFair limits admitted_now out → s' ≡ purged_each t out → m' ≡ without out admitted_now → IsKept wg limits m' s'
-  kept-anew out s' m' fair store tracked =
+  pub kept-anew : (out : List CacheEntryKey) (s' : Store) (m' : Tracked) → IsFair limits admitted_now out → s' ≡ purged_each t out → m' ≡ without out admitted_now → t.newest ≡ true → IsKept wg limits m' s'
+  kept-anew out s' m' fair store tracked mode =
       let exact = exact-anew out in
-      let kept' : IsKept wg limits (without out admitted_now) (purged_each t out) = record { exact = exact; bounded = bounded-within wg limits (purged_each t out) (without out admitted_now) exact fair.enough } in
+      let kept' : IsKept wg limits (without out admitted_now) (purged_each t out) = record { exact = exact; bounded = bounded-within wg limits (purged_each t out) (without out admitted_now) exact fair.enough; newest = mode-purged_each t out ∙ mode } in
       subst (λ x. IsKept wg limits m' x) (sym store) (subst (λ x. IsKept wg limits x (purged_each t out)) (sym tracked) kept')
 
-module _ (wg : Weighing) (limits : Limits) (m : Tracked) (s : Store) (k : Key) (w : ℕ) (x : Written) (is : get s.writes w ≡ Some x) (of : x.slot ≡ slot k) (named : x.meta.entry_id ≡ Some w) (others : ExactBut wg (slot k) s m) (bounded : IsBounded wg limits s) where
+module _ (wg : Weighing) (limits : Limits) (m : Tracked) (s : Store) (k : Key) (w : ℕ) (x : Written) (is : get s.writes w ≡ Some x) (of : x.slot ≡ slot k) (named : x.meta.entry_id ≡ Some w) (others : ExactBut wg (slot k) s m) (bounded : IsBounded wg limits s) (mode : s.newest ≡ true) where
   abbrev pub mine : CacheEntryKey
   mine = entry_of k (Some w)
 
@@ -171,7 +176,7 @@ module _ (wg : Weighing) (limits : Limits) (m : Tracked) (s : Store) (k : Key) (
   kept-stored Lets size failed out s' m' stores =
       kept-anew wg limits m s (finished s w) k mine (record { meta = x.meta; bytes = x.bytes }) (write_weight wg (get s.writes w))
       (λ q. body-stored s w x q is stores.untouched ∙ ap (λ y. cond (eq_by_cmp nat_cmp q y) (Some (record { meta = x.meta; bytes = x.bytes })) (complete_body (get s.slots q))) of)
-      refl (sym named) (ap (write_weight wg) is) others out s' m' stores.admitted.0 (purges-each (finished s w) s' out failed (stores.sure refl) stores.purges) stores.admitted.1
+      refl (sym named) (ap (write_weight wg) is) others out s' m' stores.admitted.0 (purges-each (finished s w) s' out failed (stores.sure refl) stores.purges) stores.admitted.1 (mode-finished s w ∙ mode)
 
   -- a body that is purged again leaves what was complete under other keys
   fewer-withdrawn : is_untouched s w ≡ true → Fewer wg s.slots (purged (finished s w) (slot k)).slots
@@ -195,13 +200,13 @@ module _ (wg : Weighing) (limits : Limits) (m : Tracked) (s : Store) (k : Key) (
   kept-withdrawn Lets e s' m' ends =
       subst (λ n. IsKept wg limits n s') (sym ends.tracked)
       (elim ends.purged [
-        | inl gone ↦ subst (IsKept wg limits m) (sym gone) (record { exact = exact-withdrawn ends.untouched; bounded = bounded-fewer wg limits s (purged (finished s w) (slot k)) (fewer-withdrawn ends.untouched) bounded })
+        | inl gone ↦ subst (IsKept wg limits m) (sym gone) (record { exact = exact-withdrawn ends.untouched; bounded = bounded-fewer wg limits s (purged (finished s w) (slot k)) (fewer-withdrawn ends.untouched) bounded; newest = mode-finished s w ∙ mode })
         | inr never ↦ let no : true ≡ false = never.0 in absurd (cc)
       ])
 
 kept-drops : (wg : Weighing) (limits : Limits) (Lets : LockStatus → Type 0) (w : ℕ) (e : ErrorType) (s s' : Store) (m m' : Tracked) → Drops Lets w e s s' m m' → IsKept wg limits m s → IsKept wg limits m' s'
 kept-drops wg limits Lets w e s s' m m' drops kept =
-    subst (λ n. IsKept wg limits n s') (sym drops.tracked) (subst (IsKept wg limits m) (sym drops.dropped) (kept_fewer wg limits m s (dropped s w) (fewer-dropped wg s w) kept))
+    subst (λ n. IsKept wg limits n s') (sym drops.tracked) (subst (IsKept wg limits m) (sym drops.dropped) (kept_fewer wg limits m s (dropped s w) (fewer-dropped wg s w) (mode-dropped s w) kept))
 
 -- a write of the key of a slot
 pub written-under : (k w : ℕ) (s : Store) → is_write_under k w (get s.writes w) ≡ true → (x : Written) × (get s.writes w ≡ Some x) × (x.slot ≡ k) × (x.meta.entry_id ≡ Some w)
@@ -218,9 +223,9 @@ written-under k w s own =
 -- any end of a write of a key
 pub kept_body : (wg : Weighing) (limits : Limits) (Lets : LockStatus → Type 0) (k : Key) (w : ℕ) (replaced : Option ℕ) (how : WriteEnd) (s s' : Store) (m m' : Tracked) → is_write_under (slot k) w (get s.writes w) ≡ true → EndsBody in_memory true (Some w) Lets k w (entered wg s (Some w)) limits how s s' (tracked_before true k replaced how m) m' → IsKept wg limits m s → IsKept wg limits m' s'
 kept_body wg limits Lets k w replaced end.Nothing s s' m m' own ends kept = absurd ends
-kept_body wg limits Lets k w replaced (end.Stored f) s s' m m' own ends kept = let x = written-under (slot k) w s own in kept-stored wg limits (without_entry true (compact_of k) replaced m) s k w x.0 x.1 x.2 x.3 (exact-but wg s m k replaced kept.exact) kept.bounded Lets f.size f.failed_purges f.evicted.items s' m' ends
+kept_body wg limits Lets k w replaced (end.Stored f) s s' m m' own ends kept = let x = written-under (slot k) w s own in kept-stored wg limits (without_entry true (compact_of k) replaced m) s k w x.0 x.1 x.2 x.3 (exact-but wg s m k replaced kept.exact) kept.bounded kept.newest Lets f.size f.failed_purges f.evicted.items s' m' ends
 kept_body wg limits Lets k w replaced (end.Dropped e) s s' m m' own ends kept = kept-drops wg limits Lets w e s s' m m' ends kept
-kept_body wg limits Lets k w replaced (end.Withdrawn e) s s' m m' own ends kept = let x = written-under (slot k) w s own in kept-withdrawn wg limits (without_entry true (compact_of k) replaced m) s k w x.0 x.1 x.2 x.3 (exact-but wg s m k replaced kept.exact) kept.bounded Lets e s' m' ends
+kept_body wg limits Lets k w replaced (end.Withdrawn e) s s' m m' own ends kept = let x = written-under (slot k) w s own in kept-withdrawn wg limits (without_entry true (compact_of k) replaced m) s k w x.0 x.1 x.2 x.3 (exact-but wg s m k replaced kept.exact) kept.bounded kept.newest Lets e s' m' ends
 
 -- the same end, with what the request uses and the number of its entry apart
 abbrev pub EndsOf : Bool → Option ℕ → Option ℕ → Request → Option Key → Option ℕ → MissFinishType → Limits → WriteEnd → Store → Store → Tracked → Tracked → Locks → Locks → Type 0

@@ -6,6 +6,7 @@ use Rattle.pcache_put.specs.declared.report.PutEnd.TheVariants as end
 use Rattle.pcache_put.specs.declared.report.PutOutcome.TheVariants as answer
 use Rattle.pcache_cache.proofs.Ended.{kept_body}
 use Rattle.pcache_cache.proofs.Kept.{kept_dropped, kept_fewer}
+use Rattle.pcache_cache.proofs.Modes.{mode-dropped}
 use Rattle.pcache_cache.proofs.Own.{flies-begun, flies-under, wrote-own}
 use Rattle.pcache_cache.proofs.Standing.{fewer-begun, fewer-dropped}
 
@@ -13,12 +14,12 @@ use Rattle.pcache_cache.proofs.Standing.{fewer-begun, fewer-dropped}
 
 kept-begun : (wg : Weighing) (limits : Limits) (m : Tracked) (s : Store) (k : ℕ) (began : Option Meta) → IsKept wg limits m s → IsKept wg limits m (store_begun k began s)
 kept-begun wg limits m s k None kept = kept
-kept-begun wg limits m s k (Some x) kept = kept_fewer wg limits m s (begun s k x) (fewer-begun wg s k x) kept
+kept-begun wg limits m s k (Some x) kept = kept_fewer wg limits m s (begun s k x) (fewer-begun wg s k x) refl kept
 
 kept-wrote : (wg : Weighing) (limits : Limits) (m : Tracked) (s : Store) (w : Option ℕ) (b : Option Written) → IsKept wg limits m s → IsKept wg limits m (store_wrote w b s)
 kept-wrote wg limits m s None b kept = kept
 kept-wrote wg limits m s (Some w) None kept = kept
-kept-wrote wg limits m s (Some w) (Some b) kept = record { exact = kept.exact; bounded = record { bytes = kept.bounded.bytes; weights = kept.bounded.weights; count = kept.bounded.count } }
+kept-wrote wg limits m s (Some w) (Some b) kept = record { exact = kept.exact; bounded = record { bytes = kept.bounded.bytes; weights = kept.bounded.weights; count = kept.bounded.count }; newest = kept.newest }
 
 kept-left : (wg : Weighing) (limits : Limits) (m : Tracked) (s : Store) (stage : Stage) (answered : Result (Option NoCacheReason) ErrorType) → IsKept wg limits m s → IsKept wg limits m (store_left answered stage s)
 kept-left wg limits m s stage (Ok a) kept = kept
@@ -58,7 +59,7 @@ own_nothing t k now stage at none = subst (λ x. is_own_write t (Some k) x ≡ t
 
 kept-early : (wg : Weighing) (limits : Limits) (k : Key) (parser : Parsed) (w : ℕ) (replaced : Option ℕ) (how : PutEnd) (s s' : Store) (m m' : Tracked) → EndsEarly parser w how s s' (tracked_before_put k replaced how m) m' → IsKept wg limits m s → IsKept wg limits m' s'
 kept-early wg limits k parser w replaced how s s' m m' ends kept =
-    subst (λ n. IsKept wg limits n s') (sym (ends.4 ∙ ap (λ h. tracked_before_put k replaced h m) ends.2)) (subst (IsKept wg limits m) (sym ends.3) (kept_fewer wg limits m s (dropped s w) (fewer-dropped wg s w) kept))
+    subst (λ n. IsKept wg limits n s') (sym (ends.4 ∙ ap (λ h. tracked_before_put k replaced h m) ends.2)) (subst (IsKept wg limits m) (sym ends.3) (kept_fewer wg limits m s (dropped s w) (fewer-dropped wg s w) (mode-dropped s w) kept))
 
 kept-still : (wg : Weighing) (limits : Limits) (s s' : Store) (m m' : Tracked) → s' ≡ s → m' ≡ m → IsKept wg limits m s → IsKept wg limits m' s'
 kept-still wg limits s s' m m' store tracked kept = subst (λ n. IsKept wg limits n s') (sym tracked) (subst (IsKept wg limits m) (sym store) kept)

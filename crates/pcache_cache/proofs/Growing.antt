@@ -1,6 +1,7 @@
 -- Each call of a cache leaves its two pasts as they were, or adds to them.
 use Rattle.pcache_cache.specs.Growing.{Grew}
-use Rattle.pcache_cache.proofs.Words.{◌≡◌, List, [], ◌∷◌, Option, None, Some, Result, Ok, Err, OnErr, OnOk, refl, sym, ap, subst, ErrorType, Adds, Deed, Note}
+use Rattle.pcache_cache.proofs.Words.{◌≡◌, List, [], ◌∷◌, Option, None, Some, Result, Ok, Err, OnErr, OnOk, refl, sym, ap, subst, ErrorType, Adds, Deed, Note, Past}
+use Rattle.pcache_store.specs.Notes.{noted}
 use Rattle.pcache_cache.proofs.Adding.{KeptByDeeds, KeptByNotes}
 
 -- the same of a past that may not be kept
@@ -18,10 +19,13 @@ grew_same p q is = ([], is)
 one_more : {A : Type 0} (x : A) (p q : List A) → Grew p q → Grew p (x ∷ q)
 one_more x p q grew = (x ∷ grew.0, ap (λ l. x ∷ l) grew.1)
 
+pub grown_by_note : (p : List Note) (n : Option Note) (q : Past) → GrewFrom (Some p) q → GrewFrom (Some p) (noted n q)
+grown_by_note p n None is = is
+grown_by_note p None (Some q) is = is
+grown_by_note p (Some n) (Some q) is = one_more n p q is
+
 pub kept_by_notes : (p : List Note) → KeptByNotes (GrewFrom (Some p))
-kept_by_notes p n None is = is
-kept_by_notes p None (Some q) is = is
-kept_by_notes p (Some n) (Some q) is = one_more n p q is
+kept_by_notes p n q other is = grown_by_note p n q is
 
 pub kept_by_deeds : (p : List Deed) → KeptByDeeds (GrewFrom (Some p))
 kept_by_deeds p d None other is = is

@@ -7,31 +7,34 @@ use Rattle.pcache_request.specs.Variants.{searched, without_hidden}
 use Rattle.pcache_cache.proofs.Words.{◌≡◌, ◌≢◌, ℕ, ◌≤◌, arith, inl, inr, Bool, true, false, cond, Option, None, Some, is_some, Result, Ok, Err, refl, ap, sym, subst, ◌∙◌, option_map, IfErr, IfSome, OnErr, OnOk, eq_by_cmp, nat_cmp, get, remove, get-remove, nat_cmp_total, total-empty, body_count, body_size, slots, both_ways, eq-eqb, Key, slot, compact_of, ErrorType, CacheEntryKey, entries_total, id_of, Tracked, Limits, Meta, expired_at, Decision, is_deferral, Locks, FailsToBegin, entry_slot, Deeds, Request, begun_for, dropped_by, entry_of, found_for, followed_for, left_by, store_writing, tracked_gone, tracked_gone_for, is_treated_as_miss, Past, is_hidden, HitStatus, purge_outcome, purged_at, expire_outcome, slot_outcome, Store, Slot, Reader, complete_body, followed, left, meta_changed, purged, number_of_body, NotFound, Expired, IsKept, body_weight, slot_weight, Weighing}
 use Rattle.pcache_store.specs.Purge as purge
 use Rattle.pcache_cache.proofs.Standing.{Fewer, body-remove, cmp_same, fewer-begun_for, fewer-changed, fewer-dropped_by, fewer-purged_at, fewer-slots, fewer-then, slots-followed, slots-left, slots-left_by}
+use Rattle.pcache_cache.proofs.Modes.{mode-begun_for, mode-dropped_by, mode-following, mode-left_by, mode-looked_with, mode-searched}
 use Rattle.pcache_cache.proofs.Sums.{bounded-fewer, entries-apart}
 
 -- ---- nothing is stored
 
-pub kept_none : (wg : Weighing) (limits : Limits) (m : Tracked) (s : Store) → s ≡ record { slots = empty; writes = empty; next = 0 } → IsKept wg limits m s
+pub kept_none : (wg : Weighing) (limits : Limits) (m : Tracked) (s : Store) → s ≡ record { slots = empty; writes = empty; next = 0; newest = true } → IsKept wg limits m s
 kept_none wg limits m s is = subst (IsKept wg limits m) (sym is) (record {
   exact = λ q b complete. let none = ap complete_body (get-empty nat_cmp q) in absurd (cc);
   bounded = record { bytes = let none = total-empty nat_cmp_total body_size in omega arith; weights = let none = total-empty nat_cmp_total (slot_weight wg) in omega arith; count = at_most limits.watermark };
+  newest = refl;
 })
   where
-    at_most : (o : Option ℕ) → IfSome o (λ most. slots (record { slots = empty; writes = empty; next = 0 }) ≤ most)
+    at_most : (o : Option ℕ) → IfSome o (λ most. slots (record { slots = empty; writes = empty; next = 0; newest = true }) ≤ most)
     at_most None = tt
     at_most (Some most) = let none = total-empty nat_cmp_total body_count in omega arith
 
 -- ---- the store alone
 
-pub kept_fewer : (wg : Weighing) (limits : Limits) (m : Tracked) (s t : Store) → Fewer wg s.slots t.slots → IsKept wg limits m s → IsKept wg limits m t
-kept_fewer wg limits m s t fewer k = record {
+pub kept_fewer : (wg : Weighing) (limits : Limits) (m : Tracked) (s t : Store) → Fewer wg s.slots t.slots → t.newest ≡ s.newest → IsKept wg limits m s → IsKept wg limits m t
+kept_fewer wg limits m s t fewer mode k = record {
   exact = λ q b is. let p = fewer q b is in let e = k.exact q p.0 p.1 in (e.0, e.1, e.2 ∙ ap Some p.4, e.3 ∙ p.3);
   bounded = bounded-fewer wg limits s t fewer k.bounded;
+  newest = mode ∙ k.newest;
 }
 
 -- the slots stay
-pub kept_slots : (wg : Weighing) (limits : Limits) (m : Tracked) (s t : Store) → t.slots ≡ s.slots → IsKept wg limits m s → IsKept wg limits m t
-kept_slots wg limits m s t same k = kept_fewer wg limits m s t (fewer-slots wg s t same) k
+pub kept_slots : (wg : Weighing) (limits : Limits) (m : Tracked) (s t : Store) → t.slots ≡ s.slots → t.newest ≡ s.newest → IsKept wg limits m s → IsKept wg limits m t
+kept_slots wg limits m s t same mode k = kept_fewer wg limits m s t (fewer-slots wg s t same) mode k
 
 -- what holds at both ends of a call that may fail
 pub on-both : {A : Type 0} (result : Result A ErrorType) {P Q R : Type 0} → OnOk result P → OnErr result Q → (P → R) → (Q → R) → R
@@ -57,10 +60,10 @@ slots-searched s r = slots-without r.valid_after (found s r) (followed s (found 
 pub kept_looked : {A : Type 0} (wg : Weighing) (limits : Limits) (m : Tracked) (s t : Store) (p q : Past) (r : Request) (result : Result A ErrorType) → OnOk result (t ≡ searched s r) → OnErr result (FailsToLook s r p t q) → IsKept wg limits m s → IsKept wg limits m t
 kept_looked wg limits m s t p q r result ok err k =
     on-both result ok err
-    (λ is. kept_slots wg limits m s t (ap (λ (x : Store). x.slots) is ∙ slots-searched s r) k)
+    (λ is. kept_slots wg limits m s t (ap (λ (x : Store). x.slots) is ∙ slots-searched s r) (ap (λ (x : Store). x.newest) is ∙ mode-searched s r) k)
     (λ is. elim is [
       | inl same ↦ subst (IsKept wg limits m) (sym same.0) k
-      | inr is ↦ kept_slots wg limits m s t (ap (λ (x : Store). x.slots) is.0 ∙ slots-searched s r) k
+      | inr is ↦ kept_slots wg limits m s t (ap (λ (x : Store). x.slots) is.0 ∙ slots-searched s r) (ap (λ (x : Store). x.newest) is.0 ∙ mode-searched s r) k
     ])
 
 fewer-looked_with : (wg : Weighing) (deferred : Bool) (r : Request) (s : Store) → Fewer wg s.slots (cond deferred (left_by r.reader (dropped_by r.write s)) (searched s r)).slots
@@ -70,10 +73,10 @@ fewer-looked_with wg false r s = fewer-slots wg s (searched s r) (slots-searched
 pub kept_looked_with : {A : Type 0} (wg : Weighing) (limits : Limits) (m : Tracked) (s t : Store) (p q : Past) (r : Request) (d : Option Decision) (result : Result A ErrorType) → OnOk result (t ≡ store_looked_with d r s) → OnErr result (FailsToLook s r p t q) → IsKept wg limits m s → IsKept wg limits m t
 kept_looked_with wg limits m s t p q r d result ok err k =
     on-both result ok err
-    (λ is. subst (IsKept wg limits m) (sym is) (kept_fewer wg limits m s (store_looked_with d r s) (fewer-looked_with wg (is_deferral d) r s) k))
+    (λ is. subst (IsKept wg limits m) (sym is) (kept_fewer wg limits m s (store_looked_with d r s) (fewer-looked_with wg (is_deferral d) r s) (mode-looked_with (is_deferral d) r s) k))
     (λ is. elim is [
       | inl same ↦ subst (IsKept wg limits m) (sym same.0) k
-      | inr is ↦ kept_slots wg limits m s t (ap (λ (x : Store). x.slots) is.0 ∙ slots-searched s r) k
+      | inr is ↦ kept_slots wg limits m s t (ap (λ (x : Store). x.slots) is.0 ∙ slots-searched s r) (ap (λ (x : Store). x.newest) is.0 ∙ mode-searched s r) k
     ])
 
 -- ---- what was found is taken
@@ -90,16 +93,16 @@ pub slots_taken : {A : Type 0} (s t : Store) (status : HitStatus) (h : Reader) (
 slots_taken s t status h r (Ok a) store left_store = ap (λ (x : Store). x.slots) store ∙ slots-found status h r s
 slots_taken s t status h r (Err e) store left_store = ap (λ (x : Store). x.slots) left_store ∙ slots-left s h
 
-pub kept_found : (wg : Weighing) (limits : Limits) (m n : Tracked) (s t : Store) → t.slots ≡ s.slots → n ≡ m → IsKept wg limits m s → IsKept wg limits n t
-kept_found wg limits m n s t same tracked k = subst (λ x. IsKept wg limits x t) (sym tracked) (kept_slots wg limits m s t same k)
+pub kept_found : (wg : Weighing) (limits : Limits) (m n : Tracked) (s t : Store) → t.slots ≡ s.slots → t.newest ≡ s.newest → n ≡ m → IsKept wg limits m s → IsKept wg limits n t
+kept_found wg limits m n s t same mode tracked k = subst (λ x. IsKept wg limits x t) (sym tracked) (kept_slots wg limits m s t same mode k)
 
 -- ---- a reader goes, and what else is given back
 
 pub kept_left : (wg : Weighing) (limits : Limits) (m : Tracked) (s t : Store) (o : Option Reader) → t ≡ left_by o s → IsKept wg limits m s → IsKept wg limits m t
-kept_left wg limits m s t o is k = kept_slots wg limits m s t (ap (λ (x : Store). x.slots) is ∙ slots-left_by s o) k
+kept_left wg limits m s t o is k = kept_slots wg limits m s t (ap (λ (x : Store). x.slots) is ∙ slots-left_by s o) (ap (λ (x : Store). x.newest) is ∙ mode-left_by s o) k
 
 pub kept_dropped : (wg : Weighing) (limits : Limits) (m : Tracked) (s t : Store) (w : Option ℕ) → t ≡ dropped_by w s → IsKept wg limits m s → IsKept wg limits m t
-kept_dropped wg limits m s t w is k = subst (IsKept wg limits m) (sym is) (kept_fewer wg limits m s (dropped_by w s) (fewer-dropped_by wg s w) k)
+kept_dropped wg limits m s t w is k = subst (IsKept wg limits m) (sym is) (kept_fewer wg limits m s (dropped_by w s) (fewer-dropped_by wg s w) (mode-dropped_by s w) k)
 
 pub kept_ended : (wg : Weighing) (limits : Limits) (m : Tracked) (s t : Store) (o : Option Reader) (w : Option ℕ) → t ≡ left_by o (dropped_by w s) → IsKept wg limits m s → IsKept wg limits m t
 kept_ended wg limits m s t o w is k = kept_left wg limits m (dropped_by w s) t o is (kept_dropped wg limits m s (dropped_by w s) w refl k)
@@ -113,10 +116,11 @@ slots-writing false n r t = refl
 pub kept_writing : (wg : Weighing) (limits : Limits) (m : Tracked) (s t : Store) (streams : Bool) (n : ℕ) (r : Request) → t ≡ store_writing streams n r s → IsKept wg limits m s → IsKept wg limits m t
 kept_writing wg limits m s t streams n r is k =
     kept_slots wg limits m (begun_for r.key r.meta s) t (ap (λ (x : Store). x.slots) is ∙ slots-writing streams n r (begun_for r.key r.meta s))
-    (kept_fewer wg limits m s (begun_for r.key r.meta s) (fewer-begun_for wg r.key r.meta s) k)
+    (ap (λ (x : Store). x.newest) is ∙ mode-following streams n r (begun_for r.key r.meta s))
+    (kept_fewer wg limits m s (begun_for r.key r.meta s) (fewer-begun_for wg r.key r.meta s) (mode-begun_for r.key r.meta s) k)
 
 pub kept_begun : (wg : Weighing) (limits : Limits) (m : Tracked) (s t : Store) (r : Request) → t ≡ begun_for r.key r.meta s → IsKept wg limits m s → IsKept wg limits m t
-kept_begun wg limits m s t r is k = subst (IsKept wg limits m) (sym is) (kept_fewer wg limits m s (begun_for r.key r.meta s) (fewer-begun_for wg r.key r.meta s) k)
+kept_begun wg limits m s t r is k = subst (IsKept wg limits m) (sym is) (kept_fewer wg limits m s (begun_for r.key r.meta s) (fewer-begun_for wg r.key r.meta s) (mode-begun_for r.key r.meta s) k)
 
 -- a begin that may fail, before or after the write began
 pub kept_beginning : {A : Type 0} (wg : Weighing) (limits : Limits) (m : Tracked) (s t : Store) (p q : Past) (x y : Locks) (d e : Deeds) (r r' : Request) (result : Result A ErrorType) → OnOk result (t ≡ store_writing true s.next r s)
@@ -140,6 +144,7 @@ kept_purged wg limits m s k e of kept = record {
             (old.0, old.1, get-remove entries_total m e old.0 ∙ ap (λ y. cond y None (get m old.0)) (entries-apart old.0 e q k old.1 of ne) ∙ old.2, old.3)
       ] refl (sym here ∙ is);
   bounded = bounded-fewer wg limits s (purged s k) (fewer-purged_at wg s (Some k)) kept.bounded;
+  newest = kept.newest;
 }
 
 -- an entry of a key is of its slot, whatever number it has
@@ -150,8 +155,8 @@ entry-of-slot k (Some n) = refl
 -- the outcome of a purge, by what was there
 kept-gone : (wg : Weighing) (limits : Limits) (m : Tracked) (s : Store) (uses : Bool) (k : Key) (x : Option Slot) → IsKept wg limits m s → IsKept wg limits (tracked_gone uses (compact_of k) (slot_outcome true x) m) (purged s (slot k))
 kept-gone wg limits m s true k (Some x) kept = kept_purged wg limits m s (slot k) (entry_of k (number_of_body x.body)) (entry-of-slot k (number_of_body x.body)) kept
-kept-gone wg limits m s false k (Some x) kept = kept_fewer wg limits m s (purged s (slot k)) (fewer-purged_at wg s (Some (slot k))) kept
-kept-gone wg limits m s uses k None kept = kept_fewer wg limits m s (purged s (slot k)) (fewer-purged_at wg s (Some (slot k))) kept
+kept-gone wg limits m s false k (Some x) kept = kept_fewer wg limits m s (purged s (slot k)) (fewer-purged_at wg s (Some (slot k))) refl kept
+kept-gone wg limits m s uses k None kept = kept_fewer wg limits m s (purged s (slot k)) (fewer-purged_at wg s (Some (slot k))) refl kept
 
 kept-gone_for : (wg : Weighing) (limits : Limits) (m : Tracked) (s : Store) (uses : Bool) (key : Option Key) → IsKept wg limits m s
     → IsKept wg limits (tracked_gone_for uses key (purge_outcome true s (option_map slot key)) m) (purged_at s (option_map slot key))
@@ -167,8 +172,8 @@ kept_removed wg limits m n s t uses key (Err e) store tracked same_store same_tr
 
 -- an expiry takes nothing out
 kept-stale : (wg : Weighing) (limits : Limits) (m : Tracked) (s : Store) (uses : Bool) (k : Key) (now : ℕ) (there : Bool) → IsKept wg limits m s → IsKept wg limits (tracked_gone uses (compact_of k) (cond there Expired NotFound) m) (meta_changed (expired_at now) s (slot k))
-kept-stale wg limits m s uses k now true kept = kept_fewer wg limits m s (meta_changed (expired_at now) s (slot k)) (fewer-changed wg (expired_at now) (λ x. refl) (λ x. refl) s (slot k)) kept
-kept-stale wg limits m s uses k now false kept = kept_fewer wg limits m s (meta_changed (expired_at now) s (slot k)) (fewer-changed wg (expired_at now) (λ x. refl) (λ x. refl) s (slot k)) kept
+kept-stale wg limits m s uses k now true kept = kept_fewer wg limits m s (meta_changed (expired_at now) s (slot k)) (fewer-changed wg (expired_at now) (λ x. refl) (λ x. refl) s (slot k)) refl kept
+kept-stale wg limits m s uses k now false kept = kept_fewer wg limits m s (meta_changed (expired_at now) s (slot k)) (fewer-changed wg (expired_at now) (λ x. refl) (λ x. refl) s (slot k)) refl kept
 
 kept-stale_for : (wg : Weighing) (limits : Limits) (m : Tracked) (s : Store) (uses : Bool) (key : Option Key) (now : ℕ) → IsKept wg limits m s
     → IsKept wg limits (tracked_gone_for uses key (expire_outcome s (option_map slot key)) m) (purge.expired_at now s (option_map slot key))

@@ -3,12 +3,15 @@ pub mod Strays
 pub mod Sums
 pub mod SumsToStored
 pub mod Kept
+pub mod Modes
 pub mod Ended
 pub mod Own
 pub mod Only
 pub mod Room
 pub mod Pieces
 pub mod Renewed
+pub mod Owned
+pub mod Naming
 pub mod Fed
 pub mod Adding
 pub mod Growing

@@ -36,7 +36,7 @@ id-of-entry k (Some n) = refl
 
 -- there is nothing to set a meta for
 kept_unset : (wg : Weighing) (limits : Limits) (m : Tracked) (s t : Store) (x : Meta) (k : ℕ) → complete_body (get s.slots k) ≡ None → t ≡ meta_set x s k → IsKept wg limits m s → IsKept wg limits m t
-kept_unset wg limits m s t x k none set kept = kept_slots wg limits m s t (ap (λ (y : Store). y.slots) set ∙ slots-unset x s k none) kept
+kept_unset wg limits m s t x k none set kept = kept_slots wg limits m s t (ap (λ (y : Store). y.slots) set ∙ slots-unset x s k none) (ap (λ (y : Store). y.newest) set) kept
 
 module _ (wg : Weighing) (limits : Limits) (m : Tracked) (s : Store) (x : Meta) (k : Key) (a : Stored) (is : complete_body (get s.slots (slot k)) ≡ Some a) (kept : IsKept wg limits m s) where
   -- the body weighs what it did
@@ -50,13 +50,13 @@ module _ (wg : Weighing) (limits : Limits) (m : Tracked) (s : Store) (x : Meta) 
       ] refl (sym (body-set x s (slot k) q a is) ∙ complete)
 
   kept_set : (t : Store) → t ≡ meta_set x s (slot k) → body_weight wg a ≡ body_weight wg (given x a) → IsKept wg limits m t
-  kept_set t set same = subst (IsKept wg limits m) (sym set) (kept_fewer wg limits m s (meta_set x s (slot k)) (fewer-set same) kept)
+  kept_set t set same = subst (IsKept wg limits m) (sym set) (kept_fewer wg limits m s (meta_set x s (slot k)) (fewer-set same) refl kept)
 
   -- the entry is weighed anew
   kept_reweighed : (out : List CacheEntryKey) (n : ℕ) (t u : Store) (m' : Tracked) → t ≡ meta_set x s (slot k) → n ≡ body_weight wg (given x a) → IsFair limits (insert m (entry_at s k) n) out → PurgesAll true t out 0 u → m' ≡ without out (insert m (entry_at s k) n) → IsKept wg limits m' u
   kept_reweighed out n t u m' set weighs fair purges tracked =
       kept-anew wg limits m s (meta_set x s (slot k)) k (entry_at s k) (given x a) n (λ q. body-set x s (slot k) q a is) (entry-of-slot k (body_number s (slot k))) (id-of-entry k (body_number s (slot k)) ∙ ap number_of_body is) weighs
-      (λ q b ne there. kept.exact q b there) out u m' fair (purges-each t u out 0 refl purges ∙ ap (λ y. purged_each y out) set) tracked
+      (λ q b ne there. kept.exact q b there) out u m' fair (purges-each t u out 0 refl purges ∙ ap (λ y. purged_each y out) set) tracked kept.newest
 
   -- the body is removed
   fewer-lost : Fewer wg (purged s (slot k)).slots (purged (meta_set x s (slot k)) (slot k)).slots
@@ -74,7 +74,7 @@ module _ (wg : Weighing) (limits : Limits) (m : Tracked) (s : Store) (x : Meta) 
       let at : entry_slot e ≡ slot k = ap entry_slot own ∙ entry-of-slot k (body_number s (slot k)) in
       let gone : u ≡ purged (meta_set x s (slot k)) (slot k) = lost ∙ (λ i. purged (set i) (at i)) in
       subst (IsKept wg limits m') (sym gone) (subst (λ y. IsKept wg limits y (purged (meta_set x s (slot k)) (slot k))) (sym tracked)
-      (kept_fewer wg limits (remove m e) (purged s (slot k)) (purged (meta_set x s (slot k)) (slot k)) fewer-lost (kept_purged wg limits m s (slot k) e at kept)))
+      (kept_fewer wg limits (remove m e) (purged s (slot k)) (purged (meta_set x s (slot k)) (slot k)) fewer-lost refl (kept_purged wg limits m s (slot k) e at kept)))
 
 -- ---- what a body weighs, before and after
 

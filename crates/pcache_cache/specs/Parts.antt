@@ -65,6 +65,7 @@ pub record IsBounded (how : Weighing) (limits : Limits) (s : Store) : Type 0 whe
 pub record IsKept (how : Weighing) (limits : Limits) (m : Tracked) (s : Store) : Type 0 where
   pub exact : TracksExactly how s m
   pub bounded : IsBounded how limits s
+  pub newest : s.newest ≡ true  -- a look-up prefers the newest response
 
 -- a request's write, if it has one, is a write of this store and of the request's key
 abbrev pub is_own_write : Store → Option Key → Option ℕ → Bool

@@ -1,13 +1,15 @@
--- What it does to a cache that the meta of a complete body is set (own): the entry is admitted anew if it weighs something else then.
-use Rattle.std.specs.Prelude.{ℕ, ◌≡◌, ◌==◌, ◌⊎◌, not, Bool, true, false, Option, Some, None, Result, Ok, Err, List, IsTrue, option_map}
+-- What it does to a cache that the meta of a complete body is set (own): it is set only for the body of the write that the meta names,
+-- and the entry is admitted anew if it weighs something else then.
+use Rattle.std.specs.Prelude.{ℕ, ◌≡◌, ◌==◌, ◌⊎◌, nat_eq, not, Bool, true, false, Option, Some, None, Result, Ok, Err, List, IsTrue, option_map}
 use Rattle.std.specs.FinMap.{get, insert, remove}
+use Rattle.std.specs.Option.{option_eq}
 use Rattle.pcache_base.specs.Key.{Key, slot}
 use Rattle.pcache_base.specs.Totals.{share}
 use Rattle.pcache_base.specs.declared.error.ErrorType.{ErrorType}
 use Rattle.pcache_base.specs.declared.error.ErrorType.TheVariants.{OutOfMemory}
 use Rattle.pcache_evict.specs.Tracked.{Evicted, IsFair, Limits, Tracked, evicted_with, without}
 use Rattle.pcache_evict.specs.declared.eviction.entry_key.CacheEntryKey.{CacheEntryKey}
-use Rattle.pcache_meta.specs.Meta.{Meta}
+use Rattle.pcache_meta.specs.Meta.{Meta, in_place_of}
 use Rattle.pcache_request.specs.Finishing.{PurgesAll, TakesAll}
 use Rattle.pcache_request.specs.Renewals.{has_body, with_meta_of}
 use Rattle.pcache_request.specs.Requests.{entry_of}
@@ -76,3 +78,27 @@ IsNotSet true x (Some k) a b = (b ≡ a) ⊎ (b ≡ without_slot (entry_at a.sto
 abbrev pub Renews : Weighing → Limits → Meta → Option Key → Result Bool ErrorType → Stock → Stock → Type 0
 Renews how limits x key (Ok there) a b = (there ≡ has_body a.store key) × IsSet (reweighs how x key a.store) how limits x key a b
 Renews how limits x key (Err e) a b = (e ≡ OutOfMemory) × IsTrue (has_body a.store key) × IsNotSet (reweighs how x key a.store) x key a b
+
+-- a new meta names the write of the body that was found, whose meta is the old one
+abbrev pub named_as : Option Meta → Meta → Meta
+named_as None m = m
+named_as (Some old) m = in_place_of old m
+
+-- the number is there, and the other is the same
+abbrev pub is_same_number : Option ℕ → Option ℕ → Bool
+is_same_number None n = false
+is_same_number (Some w) n = option_eq nat_eq n (Some w)
+
+-- the complete body of a key is that of the write which a meta names
+abbrev pub is_its_body : Meta → Option Key → Store → Bool
+is_its_body x None s = false
+is_its_body x (Some k) s = is_same_number x.entry_id (body_number s (slot k))
+
+-- the meta of a key's complete body is set if it is for this body, with this result; if not, nothing changes
+abbrev pub RenewsIf : Bool → Weighing → Limits → Meta → Option Key → Result Bool ErrorType → Stock → Stock → Type 0
+RenewsIf true how limits x key result a b = Renews how limits x key result a b
+RenewsIf false how limits x key result a b = (result ≡ Ok false) × (b ≡ a)
+
+-- the meta is set for the body of the write that it names, if that is the complete body of the key
+abbrev pub RenewsOwn : Weighing → Limits → Meta → Option Key → Result Bool ErrorType → Stock → Stock → Type 0
+RenewsOwn how limits x key result a b = RenewsIf (is_its_body x key a.store) how limits x key result a b

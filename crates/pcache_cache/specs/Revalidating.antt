@@ -14,17 +14,18 @@ use Rattle.pcache_request.specs.Requests.{Request}
 use Rattle.pcache_request.specs.declared.cache.report.LockName.{LockName}
 use Rattle.pcache_request.specs.Locking as locking
 use Rattle.pcache_cache.specs.Parts.{Parts, locks_of}
-use Rattle.pcache_cache.specs.Renewing.{Renews, stock}
+use Rattle.pcache_cache.specs.Renewing.{RenewsOwn, named_as, stock}
 use Rattle.pcache_cache.specs.Room.{IfRoom, KeepsBodies, weight_with}
 use Rattle.pcache_cache.specs.Strays.{LeavesNoStray}
 
--- the stale body gets the meta of a response that says that it is still valid
+-- The stale body that the request found gets the meta of a response that says that it is still valid, if that body is still the complete
+-- one of its key: the meta names the body's write. Of another body nothing changes.
 pub record Revalidates (result : Result Bool ErrorType) (m : Meta) (r s : Request) (p q : Parts) : Type 0 where
-  pub goes_on : renewing.IsRenewed m r s (locks_of p) (locks_of q)
-  pub renews : Renews p.weighing p.limits (renewed_by m r.meta) r.key result (stock p) (stock q)
+  pub goes_on : renewing.IsRenewed (named_as r.meta m) r s (locks_of p) (locks_of q)
+  pub renews : RenewsOwn p.weighing p.limits (renewed_by (named_as r.meta m) r.meta) r.key result (stock p) (stock q)
   pub kind : IfErr result (λ e. e ≡ OutOfMemory)
   pub only : LeavesNoStray r.key p q
-  pub room : OnOk result (IfRoom r.key (weight_with p.weighing (renewed_by m r.meta) r.key p.store) p (KeepsBodies p.store q.store))
+  pub room : OnOk result (IfRoom r.key (weight_with p.weighing (renewed_by (named_as r.meta m) r.meta) r.key p.store) p (KeepsBodies p.store q.store))
   pub rest : q ≡ record p { store = q.store; past = q.past; tracked = q.tracked; evicted = q.evicted; locks = q.locks; deeds = q.deeds }
 
 -- the stale body is served with this head, and the response is not stored

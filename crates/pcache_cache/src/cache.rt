@@ -32,6 +32,9 @@ pub struct Totals {
 /// number is at most its watermark, and each key with a complete body has an entry of its own, tracked with exactly that body's
 /// weight: its length, or all that is kept for it ([`Weighing`]).
 ///
+/// Its store prefers the newest response (RFC 9111, 4): a look-up finds what was fetched last, in flight or complete, and the end
+/// of a write fails (`Superseded`) if a newer body of its key stands.
+///
 /// `K` is a mark, a type of the caller's that nothing else uses: a request of one cache cannot be used with the parts
 /// of another.
 #[derive(Drop)]
@@ -46,6 +49,7 @@ pub struct Cache<M: EvictionManager, K> {
 
 impl<M: EvictionManager, K> Model for Cache<M, K> {
     ghost use Rattle.pcache_lock.specs.PastLaws.{UnlocksNone};
+    ghost use Rattle.pcache_store.specs.OneResponse.{SetsNameTheirs};
     ghost use Rattle.pcache_cache.specs.Parts.{Parts, IsKept};
     ghost use Rattle.pcache_cache.specs.PartsCode.{parts_code};
 
@@ -57,11 +61,11 @@ impl<M: EvictionManager, K> Model for Cache<M, K> {
 
     // Facts of the store and of what is tracked, and of no events: a world's invariant speaks of
     // its history, which a server has no room for.
-    ghost invariant = { λ c. IsKept c.weighing (M.limits c.manager) (M.tracked c.manager) c.store.state × UnlocksNone c.lock.past };
+    ghost invariant = { λ c. IsKept c.weighing (M.limits c.manager) (M.tracked c.manager) c.store.state × UnlocksNone c.lock.past × SetsNameTheirs c.store.past };
 }
 
 impl<M: EvictionManager, K> Cache<M, K> {
-    ghost use Rattle.std.specs.Prelude.{[], ◌≡◌, ◌≤◌, ◌-◌, ◌^◌, ◌↔◌, IfSome, IsTrue, min};
+    ghost use Rattle.std.specs.Prelude.{[], ◌≡◌, ◌≤◌, ◌-◌, ◌^◌, ◌↔◌, IfSome, IsTrue, min, true};
     ghost use Rattle.std.specs.Duration.{as_nanos};
     ghost use Rattle.pcache_evict.specs.Tracked.{weight};
     ghost use Rattle.pcache_lock.specs.Locks.{no_locks};
@@ -75,7 +79,7 @@ impl<M: EvictionManager, K> Cache<M, K> {
     pub fn new(alloc: Global, seed: Seed, manager: M, age_timeout: Duration) -> Cache<M, K>
         ensures { result
             ≡ record {
-              store = record { slots = map.empty; writes = map.empty; next = 0 };
+              store = record { slots = map.empty; writes = map.empty; next = 0; newest = true };
               past = [];
               weighing = Bodies;
               tracked = M.tracked manager;
@@ -100,7 +104,7 @@ impl<M: EvictionManager, K> Cache<M, K> {
     ) -> Cache<M, K>
         ensures { result
             ≡ record {
-              store = record { slots = map.empty; writes = map.empty; next = 0 };
+              store = record { slots = map.empty; writes = map.empty; next = 0; newest = true };
               past = [];
               weighing = weighing;
               tracked = M.tracked manager;
@@ -112,7 +116,7 @@ impl<M: EvictionManager, K> Cache<M, K> {
     {
         Cache {
             alloc,
-            store: MemCache::new(alloc, seed),
+            store: MemCache::newest_first(alloc, seed),
             manager,
             lock: CacheLock::new(alloc, age_timeout),
             weighing,

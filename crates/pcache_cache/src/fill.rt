@@ -83,7 +83,8 @@ impl<M: EvictionManager, K> Cache<M, K> {
     /// `HttpCache::finish_replacing`: ends the write and stores the body, whose entry is admitted; what is evicted for it is purged.
     /// The entry of the body that stood under the key until then is taken out first, so that it neither counts nor evicts anything.
     /// The new one is admitted with what the cache says that it weighs. Where nothing is tracked beside what is stored, and the new
-    /// body has room beside those of the other keys, nothing is evicted (`EndsWrite.room`).
+    /// body has room beside those of the other keys, nothing is evicted (`EndsWrite.room`). If the write's key was removed since it
+    /// began, or a newer body of the key stands, the write is dropped (`WriteRemoved`, `Superseded`).
     /// Requires a phase in which a write may be made, and a write of this cache; ask `may_end`.
     pub fn finish_miss_handler(
         &mut self,

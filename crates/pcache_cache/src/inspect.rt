@@ -5,7 +5,8 @@ use pcache_evict::eviction::EvictionManager;
 impl<M: EvictionManager, K> Cache<M, K> {
     ghost use Rattle.std.specs.Prelude.{◌≡◌};
     ghost use Rattle.pcache_lock.specs.PastLaws.{AtMostOneWaits, GivesByPast, OneFetchAtATime};
-    ghost use Rattle.pcache_store.specs.PastLaws.{BodiesAreLast, BodiesGrow, Finds, Finishes, FoundIsOfItsWrite, NothingIsLost, PurgedIsGone, ReadsInOrder};
+    ghost use Rattle.pcache_store.specs.OneResponse.{MetasAreTheirs};
+    ghost use Rattle.pcache_store.specs.PastLaws.{BodiesAreLast, BodiesGetNewer, BodiesGrow, Finds, Finishes, FoundIsOfItsWrite, NewestStands, NothingIsLost, PurgedIsGone, ReadsInOrder};
     ghost use Rattle.pcache_cache.specs.Parts.{IsBounded, IsKept, TracksExactly};
     ghost use Rattle.pcache_cache.specs.Strays.{SumsToStored};
 
@@ -15,7 +16,8 @@ impl<M: EvictionManager, K> Cache<M, K> {
     ///
     /// - `finds`: a look-up finds a key exactly when a write of it, in flight or the one that was finished last, met no removal since
     ///   it began.
-    /// - `finishes`: the end of a write in flight can store its body exactly when the write met no removal since it began.
+    /// - `finishes`: the end of a write in flight can store its body exactly when the write met no removal since it began, and no
+    ///   newer body of its key stands (`newer`).
     /// - `purged`: after a purge of a key nothing whose write began before it is found under that key, and no such write can be
     ///   finished.
     /// - `kept`: a body that was finished is there, and its key is found, until its key is purged, its entry is removed, or a later
@@ -23,9 +25,14 @@ impl<M: EvictionManager, K> Cache<M, K> {
     /// - `bodies`: a complete body is that of the write of its key that was finished last, with its meta and each change of it
     ///   since.
     /// - `found`: what is found has the meta and the number of its write.
+    /// - `metas`: what is found, head and body, is of one response: the meta is that with which the body's write began, or the last one
+    ///   that was set for that very write, and expired if the body was expired since.
     /// - `reads`: a reader of a write is given all bytes of that write and of no other, in order and each once, and the end only
     ///   when it was given all and no more can come.
     /// - `grows`: what was written of a write stays as it is, and more bytes come after it.
+    /// - `newest`: what is found is of the newest write of its key that can be found: in flight or the one that was finished last,
+    ///   and without a removal since it began.
+    /// - `newer`: the end of a write replaced no newer body of its key. It fails (`Superseded`) where one stands.
     /// - `tracked`: each complete body has an entry of its own in the manager, with exactly its weight: its length, or all that is
     ///   kept for it.
     /// - `bounded`: the lengths of the complete bodies sum to at most the manager's limit, and so do their weights, and their number
@@ -46,8 +53,11 @@ impl<M: EvictionManager, K> Cache<M, K> {
         ensures kept { NothingIsLost self.now.store self.now.past }
         ensures bodies { BodiesAreLast self.now.store self.now.past }
         ensures found { FoundIsOfItsWrite self.now.store self.now.past }
+        ensures metas { MetasAreTheirs self.now.store self.now.past }
         ensures reads { ReadsInOrder self.now.store self.now.past }
         ensures grows { BodiesGrow self.now.store self.now.past }
+        ensures newest { NewestStands self.now.store self.now.past }
+        ensures newer { BodiesGetNewer self.now.past }
         ensures tracked { TracksExactly self.now.weighing self.now.store self.now.tracked }
         ensures bounded { IsBounded self.now.weighing self.now.limits self.now.store }
         ensures sums { SumsToStored self.now }

@@ -1,11 +1,12 @@
-//! The meta of a body is set, and its entry is admitted anew if it weighs something else then.
+//! The meta of a body is set, if it names the write of that body, and the entry is admitted anew if it weighs something else then.
 ghost use Rattle.std.specs.Prelude.{◌≡◌, IfErr, IfOk, IsTrue, List, OnErr, OnOk, Some};
 ghost use Rattle.pcache_base.specs.declared.error.ErrorType.TheVariants.{OutOfMemory};
 ghost use Rattle.pcache_evict.specs.declared.eviction.entry_key.CacheEntryKey as entry_key;
 ghost use Rattle.pcache_request.specs.Finishing.{entry_slot};
 ghost use Rattle.pcache_request.specs.Renewals.{has_body};
+ghost use Rattle.pcache_store.specs.OneResponse.{SetsNameTheirs};
 ghost use Rattle.pcache_cache.specs.Parts.{IsKept};
-ghost use Rattle.pcache_cache.specs.Renewing.{Readmits, Renews, entry_at, weight_at, without_slot};
+ghost use Rattle.pcache_cache.specs.Renewing.{Readmits, Renews, RenewsOwn, entry_at, is_its_body, weight_at, without_slot};
 
 use crate::weighing::{Weighing, weight_of};
 use pcache_base::error::Result;
@@ -146,10 +147,10 @@ fn set_of_body<M: EvictionManager>(
     Ok(true)
 }
 
-/// Sets the meta of a key's complete body, and returns whether there is one. If its entry weighs something else then, it is admitted
-/// anew, and what is evicted for it is purged; if memory is refused for that, the body is removed, and its entry too. What is tracked
-/// of the key is that body's entry, with its weight.
-pub(crate) fn set_meta<M: EvictionManager>(
+// Sets the meta of a key's complete body, and returns whether there is one. If its entry weighs something else then, it is admitted
+// anew, and what is evicted for it is purged; if memory is refused for that, the body is removed, and its entry too. What is tracked
+// of the key is that body's entry, with its weight.
+fn set_meta<M: EvictionManager>(
     alloc: Global,
     weighing: Weighing,
     store: &mut MemCache,
@@ -181,4 +182,50 @@ pub(crate) fn set_meta<M: EvictionManager>(
     let twice = entry_of_body(store, key)?;
     let before = weight_at(weighing, store, key);
     set_of_body(alloc, weighing, store, manager, key, meta, twice, before)
+}
+
+// Whether the complete body of a key is that of the write which a meta names.
+fn is_its_body(store: &MemCache, key: &CacheKey, meta: &CacheMeta) -> bool
+    ensures { result ≡ is_its_body meta.now (Some key.now) store.now.state }
+{
+    match meta.entry_id() {
+        Some(number) => store.body_number(key) == Some(number),
+        None => false,
+    }
+}
+
+/// Sets the meta of a key's complete body, if that is the body of the write which the meta names, and returns whether it is: of
+/// another response's body the meta says nothing. What becomes of the entry is what `set_meta` makes of it.
+pub(crate) fn set_own_meta<M: EvictionManager>(
+    alloc: Global,
+    weighing: Weighing,
+    store: &mut MemCache,
+    manager: &mut M,
+    key: &CacheKey,
+    meta: &CacheMeta,
+) -> Result<bool>
+    ensures renews { RenewsOwn weighing (M.limits manager.old) meta.now (Some key.now) result
+        (record {
+          store = store.old.state;
+          past = store.old.past;
+          tracked = M.tracked manager.old;
+          evicted = M.evicted manager.old;
+        }) (record {
+          store = store.new.state;
+          past = store.new.past;
+          tracked = M.tracked manager.new;
+          evicted = M.evicted manager.new;
+        }) }
+    ensures kept { IsKept weighing (M.limits manager.old) (M.tracked manager.old) store.old.state
+        → IsKept weighing (M.limits manager.new) (M.tracked manager.new) store.new.state }
+    ensures named { SetsNameTheirs store.old.past → SetsNameTheirs store.new.past }
+    ensures limits { M.limits manager.new ≡ M.limits manager.old }
+    ensures kind { IfErr result (λ e. e ≡ OutOfMemory) }
+{
+    // For the prover: a complete body is that of the write of its key that was finished last.
+    store.headline();
+    if !is_its_body(store, key, meta) {
+        return Ok(false);
+    }
+    set_meta(alloc, weighing, store, manager, key, meta)
 }

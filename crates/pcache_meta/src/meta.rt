@@ -36,7 +36,7 @@ impl Model for CacheMeta {
 }
 
 impl CacheMeta {
-    ghost use Rattle.pcache_meta.specs.Meta.{Meta, epoch_of, provenance_of, fresh_seconds, internal_changed, expired_at};
+    ghost use Rattle.pcache_meta.specs.Meta.{Meta, epoch_of, provenance_of, fresh_seconds, internal_changed, expired_at, with_entry_id};
     ghost use Rattle.pcache_meta.specs.Internal.{first_said};
     ghost use Rattle.std.specs.Borrow.{Lends, sem};
     ghost use Rattle.pcache_meta.specs.contracts.meta.CacheMeta.{the_row};
@@ -101,6 +101,13 @@ impl CacheMeta {
         ensures { result ≡ self.now.entry_id }
     {
         self.internal.entry_id
+    }
+
+    /// Sets the number of the write that stored the body, or that it is not known.
+    pub fn set_entry_id(&mut self, entry_id: Option<CacheEntryId>)
+        ensures { self.new ≡ with_entry_id entry_id self.old }
+    {
+        self.internal.entry_id = entry_id;
     }
 
     /// Sets when the body was fetched.

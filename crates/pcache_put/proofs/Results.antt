@@ -9,7 +9,7 @@ use Rattle.pcache_put.specs.Policies.{Judges, is_above}
 use Rattle.pcache_put.specs.Puts.{Outcome, Stores, Declines, Refuses, outcome, ComesTo, NoHead, BadHead, WithHead, IsResult}
 use Rattle.pcache_put.specs.State.{Declined}
 use Rattle.pcache_put.specs.Steps.{IsRefusal, StoresFilled}
-use Rattle.pcache_put.proofs.Words.{◌≡◌, ℕ, ◌-◌, ◌^◌, ◌≤◌, ◌⊎◌, inl, inr, Bool, true, false, Option, None, Some, List, [], ◌∷◌, ◌++◌, length, min, refl, ap, sym, subst, ◌∙◌, arith, length-append, nat_lt, if◌then◌else◌, nat_tests, ErrorType, OutOfMemory, InternalError, InvalidHttpHeader, ResponseTooLarge, IncompleteHttpBody, WriteRemoved, NumbersExhausted, Io, NoCacheReason, RespCacheable, Cacheable, Uncacheable, Meta, ResponseHeader, unreadable_is_none, Given, given_in_all, left_behind, Parsed, AtHead, AtBody, HasFailed, TakenIn, Response, IsResponse, IsUnreadable, declared_body, Counted, DeclaresBy, Piece, joined, Says, counted, is_over, Stage, InHead, HasDeclined, IsOver, Filled, BodyRead, BodyTaken, Overrun, Counts, IsWhyOver, TakenBy, limit_of}
+use Rattle.pcache_put.proofs.Words.{◌≡◌, ℕ, ◌-◌, ◌^◌, ◌≤◌, ◌⊎◌, inl, inr, Bool, true, false, Option, None, Some, List, [], ◌∷◌, ◌++◌, length, min, refl, ap, sym, subst, ◌∙◌, arith, length-append, nat_lt, if◌then◌else◌, nat_tests, ErrorType, OutOfMemory, InternalError, InvalidHttpHeader, ResponseTooLarge, IncompleteHttpBody, WriteRemoved, NumbersExhausted, Io, Superseded, NoCacheReason, RespCacheable, Cacheable, Uncacheable, Meta, ResponseHeader, unreadable_is_none, Given, given_in_all, left_behind, Parsed, AtHead, AtBody, HasFailed, TakenIn, Response, IsResponse, IsUnreadable, declared_body, Counted, DeclaresBy, Piece, joined, Says, counted, is_over, Stage, InHead, HasDeclined, IsOver, Filled, BodyRead, BodyTaken, Overrun, Counts, IsWhyOver, TakenBy, limit_of}
 use Rattle.pcache_put.proofs.Pieces.{ends_before, judged_more, unreadable_more}
 
 -- ---- one more piece
@@ -52,6 +52,7 @@ why_more says limit InternalError pieces p h = tt
 why_more says limit WriteRemoved pieces p h = tt
 why_more says limit NumbersExhausted pieces p h = tt
 why_more says limit Io pieces p h = tt
+why_more says limit Superseded pieces p h = tt
 
 -- once nothing is stored, and once a call failed
 pub taken_declined : (says : Says) (size : Option Counted) (parser : Parsed) (stage now : Stage) (reason : NoCacheReason) (pieces : List Piece) (p : Piece) (f : Option Filled) → stage ≡ HasDeclined reason → now ≡ HasDeclined reason → TakenBy says size parser stage pieces f → TakenBy says size parser now (pieces ++ p ∷ []) f
@@ -90,6 +91,7 @@ why_result says limit InternalError pieces h = tt
 why_result says limit WriteRemoved pieces h = tt
 why_result says limit NumbersExhausted pieces h = tt
 why_result says limit Io pieces h = tt
+why_result says limit Superseded pieces h = tt
 
 pub over_result : (says : Says) (size : Option Counted) (parser : Parsed) (stage : Stage) (kind : ErrorType) (pieces : List Piece) (f : Option Filled) → stage ≡ IsOver kind → TakenBy says size parser stage pieces f → IsRefusal (IsResult says (limit_of size) pieces) kind
 over_result says size parser stage kind pieces f is h = why_result says (limit_of size) kind pieces (subst (λ (x : Stage). TakenBy says size parser x pieces f) is h)

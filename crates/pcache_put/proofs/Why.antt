@@ -7,7 +7,7 @@ use Rattle.pcache_put.specs.Steps.{IfRefused}
 use Rattle.pcache_put.specs.declared.report.PieceEnd.{PieceEnd}
 use Rattle.pcache_store.specs.Refusals.{MayFailWrite}
 use Rattle.pcache_store.specs.Store.{Written, begun, is_told, new_write}
-use Rattle.pcache_put.proofs.Words.{◌≡◌, ℕ, ◌⊎◌, inl, inr, true, false, cond, Option, None, Some, List, refl, ap, sym, subst, ◌∙◌, arith, nat_tests, ErrorType, OutOfMemory, InternalError, InvalidHttpHeader, ResponseTooLarge, IncompleteHttpBody, WriteRemoved, NumbersExhausted, Io, Meta, Parsed, AtBody, HasFailed, Piece, Says, IsWhyOver, Overrun, InHead, IsBegunBefore, MayFailFill, MayFailPiece, Store}
+use Rattle.pcache_put.proofs.Words.{◌≡◌, ℕ, ◌⊎◌, inl, inr, true, false, cond, Option, None, Some, List, refl, ap, sym, subst, ◌∙◌, arith, nat_tests, ErrorType, OutOfMemory, InternalError, InvalidHttpHeader, ResponseTooLarge, IncompleteHttpBody, WriteRemoved, NumbersExhausted, Io, Superseded, Meta, Parsed, AtBody, HasFailed, Piece, Says, IsWhyOver, Overrun, InHead, IsBegunBefore, MayFailFill, MayFailPiece, Store}
 use Rattle.pcache_put.specs.declared.report.PieceEnd.TheVariants as piece
 
 -- adding bytes to a write failed
@@ -20,6 +20,7 @@ why_filling says limit s w IncompleteHttpBody pieces may over = absurd may
 why_filling says limit s w WriteRemoved pieces may over = absurd may
 why_filling says limit s w NumbersExhausted pieces may over = absurd may
 why_filling says limit s w Io pieces may over = absurd may
+why_filling says limit s w Superseded pieces may over = absurd may
 
 -- a piece of a body failed
 pub why_body : (says : Says) (limit : Option ℕ) (parser : Parsed) (left : Option ℕ) (e : ErrorType) (pieces : List Piece) → (e ≡ InvalidHttpHeader) ⊎ (e ≡ OutOfMemory) ⊎ (parser ≡ HasFailed e) → ¬ (e ≡ InvalidHttpHeader) → parser ≡ AtBody left → IsWhyOver says limit e pieces
@@ -51,6 +52,7 @@ why_begun s t k w meta IncompleteHttpBody is at may = absurd may
 why_begun s t k w meta WriteRemoved is at may = absurd may
 why_begun s t k w meta NumbersExhausted is at may = absurd may
 why_begun s t k w meta Io is at may = absurd may
+why_begun s t k w meta Superseded is at may = absurd may
 
 -- so the write began before its bytes were refused, and it did not if its beginning was
 pub began_filled : (s t : Store) (k w : ℕ) (meta : Meta) (e : ErrorType) → t ≡ begun s k meta → w ≡ s.next → MayFailFill t w e → IsBegunBefore InHead e (Some meta)
@@ -62,6 +64,7 @@ began_filled s t k w meta IncompleteHttpBody is at may = absurd may
 began_filled s t k w meta WriteRemoved is at may = absurd may
 began_filled s t k w meta NumbersExhausted is at may = absurd may
 began_filled s t k w meta Io is at may = absurd may
+began_filled s t k w meta Superseded is at may = absurd may
 
 pub not_begun : (s : Store) (e : ErrorType) → MayFailWrite s e → IsBegunBefore InHead e None
 not_begun s OutOfMemory may = tt
@@ -72,3 +75,4 @@ not_begun s InvalidHttpHeader may = absurd may
 not_begun s IncompleteHttpBody may = absurd may
 not_begun s WriteRemoved may = absurd may
 not_begun s Io may = absurd may
+not_begun s Superseded may = absurd may

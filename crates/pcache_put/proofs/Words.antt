@@ -1,7 +1,7 @@
 -- The names that several proofs of this crate cite, passed on from one place. Declares nothing.
 pub use Rattle.pcache_base.specs.Key.{Key}
 pub use Rattle.pcache_base.specs.declared.error.ErrorType.{ErrorType}
-pub use Rattle.pcache_base.specs.declared.error.ErrorType.TheVariants.{IncompleteHttpBody, InternalError, InvalidHttpHeader, Io, NumbersExhausted, OutOfMemory, ResponseTooLarge, WriteRemoved}
+pub use Rattle.pcache_base.specs.declared.error.ErrorType.TheVariants.{IncompleteHttpBody, InternalError, InvalidHttpHeader, Io, NumbersExhausted, OutOfMemory, ResponseTooLarge, Superseded, WriteRemoved}
 pub use Rattle.pcache_base.specs.declared.reason.NoCacheReason.{NoCacheReason}
 pub use Rattle.pcache_control.specs.Filters.{FreshBy}
 pub use Rattle.pcache_control.specs.declared.response.RespCacheable.{RespCacheable}

@@ -3,7 +3,7 @@ use Rattle.std.specs.Prelude.{◌≡◌, ℕ, ◌+◌, ◌-◌, ◌≤◌, ◌^�
 use Rattle.std.specs.FinMap.{get}
 use Rattle.pcache_base.specs.Key.{Key, slot}
 use Rattle.pcache_base.specs.declared.error.ErrorType.{ErrorType}
-use Rattle.pcache_base.specs.declared.error.ErrorType.TheVariants.{OutOfMemory, InternalError, InvalidHttpHeader, ResponseTooLarge, IncompleteHttpBody, NumbersExhausted, WriteRemoved, Io}
+use Rattle.pcache_base.specs.declared.error.ErrorType.TheVariants.{OutOfMemory, InternalError, InvalidHttpHeader, ResponseTooLarge, IncompleteHttpBody, NumbersExhausted, WriteRemoved, Io, Superseded}
 use Rattle.pcache_base.specs.declared.reason.NoCacheReason.{NoCacheReason}
 use Rattle.pcache_evict.specs.Tracked.{Tracked as Entries, Limits, Evicted}
 use Rattle.pcache_evict.specs.declared.eviction.entry_key.CacheEntryKey.{CacheEntryKey}
@@ -262,14 +262,15 @@ evicted_ended k kinds (InBody w id fresh_until) m before how = evicted_by true i
 abbrev pub tracked_before_put : Key → Option ℕ → PutEnd → Entries → Entries
 tracked_before_put k replaced how m = tracked_before true k replaced (write_end how) m
 
--- the result at the end is the outcome of the pieces, unless memory ran out, the write was removed, all numbers are
--- used or the caller made a mistake; a stored body is the one that the write was given
+-- the result at the end is the outcome of the pieces, unless memory ran out, the write was removed or superseded, all numbers
+-- are used or the caller made a mistake; a stored body is the one that the write was given
 abbrev pub IsRefusal : (Outcome → Type 0) → ErrorType → Type 0
 IsRefusal comes OutOfMemory = Unit {0}
 IsRefusal comes NumbersExhausted = Unit {0}
 IsRefusal comes WriteRemoved = Unit {0}
 IsRefusal comes InternalError = Unit {0}
 IsRefusal comes Io = Unit {0}
+IsRefusal comes Superseded = Unit {0}
 IsRefusal comes InvalidHttpHeader = comes (Refuses InvalidHttpHeader)
 IsRefusal comes ResponseTooLarge = comes (Refuses ResponseTooLarge)
 IsRefusal comes IncompleteHttpBody = comes (Refuses IncompleteHttpBody)

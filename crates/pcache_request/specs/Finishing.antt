@@ -11,7 +11,7 @@ use Rattle.pcache_evict.specs.Entry.{key_of}
 use Rattle.pcache_evict.specs.Tracked.{Tracked, Limits, IsFair, without, raised}
 use Rattle.pcache_lock.specs.declared.lock.status.LockStatus.{LockStatus}
 use Rattle.pcache_lock.specs.declared.lock.status.LockStatus.TheVariants.{Done, TransientError}
-use Rattle.pcache_store.specs.Store.{Store, Guarantees, is_untouched, finished, dropped, purged}
+use Rattle.pcache_store.specs.Store.{Store, Guarantees, is_superseded, is_untouched, finished, dropped, purged}
 use Rattle.pcache_store.specs.Refusals.{MayFailFinish}
 use Rattle.pcache_store.specs.declared.storage.MissFinishType.{MissFinishType}
 use Rattle.pcache_store.specs.declared.storage.MissFinishType.TheVariants.{Created, Appended}
@@ -54,6 +54,7 @@ Admits false limits kind e m out m' = (out ≡ []) × (m' ≡ m)
 -- evicted is purged; `Lets` says what happens to a held lock, given the status that a permit is released with
 pub record Stores (g : Guarantees) (used : Bool) (id : Option ℕ) (Lets : LockStatus → Type 0) (k : Key) (w : ℕ) (kind : MissFinishType) (limits : Limits) (size failed : ℕ) (out : List CacheEntryKey) (s s' : Store) (m m' : Tracked) : Type 0 where
   pub untouched : is_untouched s w ≡ true
+  pub newest : is_superseded s w ≡ false
   pub size_is : size ≡ size_reported kind
   pub admitted : Admits used limits kind (entry_of k id) m out m'
   pub purges : PurgesAll g.numbers (finished s w) out failed s'
@@ -71,6 +72,7 @@ pub record Drops (Lets : LockStatus → Type 0) (w : ℕ) (e : ErrorType) (s s' 
 pub record Withdraws (always_purges : Bool) (Lets : LockStatus → Type 0) (k : Key) (w : ℕ) (e : ErrorType) (s s' : Store) (m m' : Tracked) : Type 0 where
   pub why : e ≡ OutOfMemory
   pub untouched : is_untouched s w ≡ true
+  pub newest : is_superseded s w ≡ false
   pub purged : (s' ≡ purged (finished s w) (slot k)) ⊎ ((always_purges ≡ false) × (s' ≡ finished s w))
   pub tracked : m' ≡ m
   pub released : Lets Done

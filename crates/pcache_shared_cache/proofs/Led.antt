@@ -1,11 +1,12 @@
 -- Each call led from the state that it found to the one that it left: the limits and the age of permits stay, and of the two pasts
 -- nothing is forgotten.
-use Rattle.pcache_cache.proofs.Adding.{end_keeps, ends_request_keeps, found_keeps, handed_keeps, left_keeps, let_go_keeps, looked_keeps, published_keeps, renews_keeps, searched_keeps, settled_keeps, taken_keeps, varied_keeps, waited_keeps, writing_keeps, begun_keeps, written_keeps}
-use Rattle.pcache_cache.proofs.Growing.{GrewFrom, grew_if, kept_by_deeds}
+use Rattle.pcache_cache.proofs.Adding.{end_keeps, ends_request_keeps, found_keeps, handed_keeps, left_keeps, let_go_keeps, looked_keeps, published_keeps, searched_keeps, settled_keeps, taken_keeps, varied_keeps, waited_keeps, writing_keeps, begun_keeps, written_keeps}
+use Rattle.pcache_cache.proofs.Growing.{GrewFrom, grew_if, grown_by_note, kept_by_deeds}
+use Rattle.pcache_cache.proofs.Owned.{own_keeps}
 use Rattle.pcache_cache.specs.Filling.{EndsWrite}
 use Rattle.pcache_cache.specs.Growing.{Grew}
 use Rattle.pcache_cache.specs.Looking.{LetsGo}
-use Rattle.pcache_cache.specs.Renewing.{stock}
+use Rattle.pcache_cache.specs.Renewing.{named_as, stock}
 use Rattle.pcache_cache.specs.Parts.{Adds, tracked_at_end, written_past}
 use Rattle.pcache_cache.specs.Weighing.{entered}
 use Rattle.pcache_lock.specs.declared.lock.permit.WritePermit.{WritePermit}
@@ -20,7 +21,7 @@ use Rattle.pcache_request.specs.declared.cache.finish.FinishReport.{FinishReport
 use Rattle.pcache_request.specs.declared.cache.report.LockName.{LockName}
 use Rattle.pcache_request.specs.declared.cache.report.ReleasedLock.{ReleasedLock}
 use Rattle.pcache_store.specs.Notes.{expiry_noted}
-use Rattle.pcache_store.specs.Past.{Purged}
+use Rattle.pcache_store.specs.Past.{MetaSet, Purged}
 use Rattle.pcache_shared_cache.proofs.Words.{◌≡◌, ⊎_elim, inl, inr, ℕ, Bool, true, List, Option, None, Some, Result, Ok, Err, OnErr, OnOk, ap, option_map, refl, sym, subst, slot, ErrorType, dropped_keeps, grew_by, grew_not, grew_same, kept_by_notes, Disables, EndsRequest, BeginsWrite, Writes, Publishes, Releases, TakesPermit, Waits, EndsHit, LooksUp, TakesFound, Expires, Purges, Revalidates, ServesUncacheable, Varies, Parts, LockWaitOutcome, LockStatus, Done, Poll, NoCacheReason, Meta, published_by, table_handed, table_waited, Request, let_go_by, settled, table_found, dropped_past, searched_past, table_looked_for, table_varied, WriteEnd, HitStatus, leave_noted, noted, in_memory, Reader, MemHitHandler, Leads}
 use Rattle.pcache_request.specs.declared.cache.finish.WriteEnd.TheVariants as end
 use Rattle.pcache_shared_cache.proofs.Ages.{HasAgeOf, age_as, age_ended, age_found, age_handed, age_if, age_let_go, age_looked, age_published, age_varied, age_waited, settled_at}
@@ -38,7 +39,7 @@ purged {result} {r} {s} {p} {q} row = record {
   limits = ap (λ (x : Parts). x.limits) row.rest;
   weighing = ap (λ (x : Parts). x.weighing) row.rest;
   age = ap (λ (x : Parts). x.locks.age_timeout) row.rest;
-  past = grew_if result (purged_past r.key) p.past q.past (kept_by_notes p.past (option_map (λ k. Purged (slot k)) r.key)) row.takes.past (err_ap (λ (x : Parts). x.past) result q p row.same);
+  past = grew_if result (purged_past r.key) p.past q.past (grown_by_note p.past (option_map (λ k. Purged (slot k)) r.key)) row.takes.past (err_ap (λ (x : Parts). x.past) result q p row.same);
   deeds = grew_same p.deeds q.deeds (ap (λ (x : Parts). x.deeds) row.rest);
 }
 
@@ -47,7 +48,7 @@ expired {result} {now} {r} {s} {p} {q} row = record {
   limits = ap (λ (x : Parts). x.limits) row.rest;
   weighing = ap (λ (x : Parts). x.weighing) row.rest;
   age = ap (λ (x : Parts). x.locks.age_timeout) row.rest;
-  past = grew_if result (expired_past now r.key) p.past q.past (kept_by_notes p.past (expiry_noted now (option_map slot r.key))) row.takes.past (err_ap (λ (x : Parts). x.past) result q p row.same);
+  past = grew_if result (expired_past now r.key) p.past q.past (grown_by_note p.past (expiry_noted now (option_map slot r.key))) row.takes.past (err_ap (λ (x : Parts). x.past) result q p row.same);
   deeds = grew_same p.deeds q.deeds (ap (λ (x : Parts). x.deeds) row.rest);
 }
 
@@ -91,7 +92,7 @@ taken {result} {status} {m} {h} {now} {r} {s} {p} {q} row = record {
   limits = ap (λ (x : Parts). x.limits) row.rest;
   weighing = ap (λ (x : Parts). x.weighing) row.rest;
   age = age_if result p.locks (table_found status now r p.locks) q.locks row.takes.table (age_found status now r p.locks) row.takes.same_table;
-  past = grew_either result (taken_past status h r) (noted (leave_noted h)) p.past q.past (taken_keeps (kept_by_notes p.past) status h r) (kept_by_notes p.past (leave_noted h)) row.takes.past row.takes.left_past;
+  past = grew_either result (taken_past status h r) (noted (leave_noted h)) p.past q.past (taken_keeps (kept_by_notes p.past) status h r) (grown_by_note p.past (leave_noted h)) row.takes.past row.takes.left_past;
   deeds = grew_either result (found_deeds status now p.locks r) (λ x. x) p.deeds q.deeds (found_keeps (kept_by_deeds p.deeds) status now p.locks r) (λ x is. is) row.takes.deeds row.takes.same_deeds;
 }
 
@@ -100,7 +101,7 @@ let_go {h} {p} {q} row = record {
   limits = ap (λ (x : Parts). x.limits) row.rest;
   weighing = ap (λ (x : Parts). x.weighing) row.rest;
   age = ap (λ (x : Parts). x.locks.age_timeout) row.rest;
-  past = grew_by (noted (leave_noted h)) p.past q.past (kept_by_notes p.past (leave_noted h)) row.past;
+  past = grew_by (noted (leave_noted h)) p.past q.past (grown_by_note p.past (leave_noted h)) row.past;
   deeds = grew_same p.deeds q.deeds (ap (λ (x : Parts). x.deeds) row.rest);
 }
 
@@ -179,7 +180,7 @@ renewed_body {result} {m} {r} {s} {p} {q} row = record {
   limits = ap (λ (x : Parts). x.limits) row.rest;
   weighing = ap (λ (x : Parts). x.weighing) row.rest;
   age = settled_at Done r.held p.locks q.locks row.goes_on.settles.table;
-  past = renews_keeps (kept_by_notes p.past) p.weighing p.limits (renewed_by m r.meta) r.key result (stock p) (stock q) row.renews (grew_not p.past);
+  past = own_keeps (kept_by_notes p.past) p.weighing p.limits (renewed_by (named_as r.meta m) r.meta) r.key result (stock p) (stock q) (λ own. grown_by_note p.past (option_map (λ k. MetaSet (slot k) (renewed_by (named_as r.meta m) r.meta)) r.key) (Some p.past) (grew_not p.past)) row.renews (grew_not p.past);
   deeds = grew_by (settled_deeds Done r.held) p.deeds q.deeds (settled_keeps (kept_by_deeds p.deeds) Done r.held) row.goes_on.settles.deeds;
 }
 

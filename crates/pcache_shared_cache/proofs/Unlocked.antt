@@ -1,13 +1,13 @@
 -- What holds of a read with every store: it leaves the request with a reader, and its phase; if it fails, as it was, and for memory.
 use Rattle.std.specs.FinMap.{empty}
-use Rattle.std.specs.Prelude.{IfErr, OnErr}
+use Rattle.std.specs.Prelude.{IfErr, OnErr, true}
 use Rattle.pcache_base.specs.declared.error.ErrorType.TheVariants.{OutOfMemory}
 use Rattle.pcache_request.specs.Looking.{Reads}
 use Rattle.pcache_store.specs.Store.{reader_after}
 use Rattle.pcache_shared_cache.proofs.Words.{◌≡◌, ℕ, List, Option, None, Some, IsSome, option_map, Result, Ok, Err, ErrorType, ap, refl, subst, sym, Poll, Request, Reader, Store}
 
 with_nothing : Store
-with_nothing = record { slots = empty; writes = empty; next = 0 }
+with_nothing = record { slots = empty; writes = empty; next = 0; newest = true }
 
 pub keeps_all : (result : Result (Poll (Option (List ℕ))) ErrorType) (old new : Request) → ((s : Store) → Reads result old new s) → OnErr result (new ≡ old)
 keeps_all result old new reads = (reads with_nothing).same_request

@@ -1,5 +1,5 @@
 -- What a contract sees of a manager with its limits, and how a part with it begins (own).
-use Rattle.std.specs.Prelude.{ℕ, []}
+use Rattle.std.specs.Prelude.{ℕ, [], true}
 use Rattle.std.specs.FinMap.{empty}
 use Rattle.pcache_cache.specs.Parts.{Parts}
 use Rattle.pcache_cache.specs.declared.weighing.Weighing.TheVariants.{Entries}
@@ -57,7 +57,7 @@ listed p = managed_in (λ l. map_of l.entries) (λ l. l.evicted) p
 -- an empty part with this manager, whose permits are too old at this age, in nanoseconds
 abbrev pub opened : ℕ → Managed → Parts
 opened age_timeout m = record {
-  store = record { slots = empty; writes = empty; next = 0 };
+  store = record { slots = empty; writes = empty; next = 0; newest = true };
   past = [];
   weighing = Entries;
   tracked = m.tracked;

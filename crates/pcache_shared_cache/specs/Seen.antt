@@ -10,7 +10,8 @@ use Rattle.pcache_evict.specs.declared.eviction.policy.EvictionPolicy.TheVariant
 use Rattle.pcache_evict.specs.Tracked.{Limits, limits_of}
 use Rattle.pcache_lock.specs.PastLaws.{AtMostOneWaits, GivesByPast, OneFetchAtATime}
 use Rattle.pcache_shared_cache.specs.Managed.{no_entries, opened}
-use Rattle.pcache_store.specs.PastLaws.{BodiesAreLast, BodiesGrow, Finds, Finishes, FoundIsOfItsWrite, NothingIsLost, PurgedIsGone, ReadsInOrder}
+use Rattle.pcache_store.specs.OneResponse.{MetasAreTheirs}
+use Rattle.pcache_store.specs.PastLaws.{BodiesAreLast, BodiesGetNewer, BodiesGrow, Finds, Finishes, FoundIsOfItsWrite, NewestStands, NothingIsLost, PurgedIsGone, ReadsInOrder}
 
 -- a log, or what was seen of one, and the place of the part
 pub record Placed : Type 0 where
@@ -57,8 +58,11 @@ pub record IsSound (p : Parts) : Type 0 where
   pub kept : NothingIsLost p.store p.past
   pub bodies : BodiesAreLast p.store p.past
   pub found : FoundIsOfItsWrite p.store p.past
+  pub metas : MetasAreTheirs p.store p.past
   pub reads : ReadsInOrder p.store p.past
   pub grows : BodiesGrow p.store p.past
+  pub newest : NewestStands p.store p.past
+  pub newer : BodiesGetNewer p.past
   pub tracked : TracksExactly p.weighing p.store p.tracked
   pub bounded : IsBounded p.weighing p.limits p.store
   pub sums : SumsToStored p

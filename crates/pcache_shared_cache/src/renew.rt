@@ -21,10 +21,12 @@ impl<M: EvictionManager, K: Mark, const N: usize> SharedCache<M, K, N> {
     ghost use Rattle.pcache_request.specs.Requests.{MayWrite};
     ghost use Rattle.pcache_request.specs.Stale.{MayRevalidate, uncacheable};
     ghost use Rattle.pcache_request.specs.Variants.{released_by_variance, varied};
+    ghost use Rattle.pcache_cache.specs.Renewing.{named_as};
     ghost use Rattle.pcache_cache.specs.Revalidating.{Revalidates, ServesUncacheable, Varies};
     ghost use Rattle.pcache_shared_cache.specs.Seen.{Goes};
 
-    /// `Cache::revalidate_cache_meta`: takes the meta of a response that says that the stale body is still valid.
+    /// `Cache::revalidate_cache_meta`: takes the meta of a response that says that the stale body is still valid. It is set for the body
+    /// that the request found and for no other; the call returns whether it was set.
     /// Ask `may_revalidate` of the request.
     pub fn revalidate_cache_meta<R: Wait>(
         &self,
@@ -35,7 +37,8 @@ impl<M: EvictionManager, K: Mark, const N: usize> SharedCache<M, K, N> {
         requires { MayRevalidate request.old.cache }
         ensures goes { Goes self.now K.names request.old.place request.old.seen request.new.seen
             (Revalidates result meta request.old.cache request.new.cache) }
-        ensures request { request.new.cache ≡ renewed meta request.old.cache }
+        ensures request { request.new.cache
+            ≡ renewed (named_as request.old.cache.meta meta) request.old.cache }
         ensures place { request.new.place ≡ request.old.place }
         ensures kind { IfErr result (λ e. e ≡ OutOfMemory) }
     {

@@ -5,24 +5,42 @@ use Rattle.pcache_store.specs.declared.storage.PurgeTarget.{PurgeTarget}
 use Rattle.pcache_store.specs.declared.storage.PurgeTarget.TheVariants.{Active, Exact}
 use Rattle.pcache_store.specs.Store.{Part, followed, followed_by}
 use Rattle.pcache_store.specs.Purge.{entry_purged_in, expired_at, target_purged}
-use Rattle.pcache_store.specs.Notes.{added, joined_by, leave_noted, look_noted, removal_noted}
-use Rattle.pcache_store.proofs.Words.{◌≡◌, ℕ, true, List, [], ◌∷◌, Option, None, Some, refl, Meta, Store, Reader, Whole, left, Note, Leads, PastLeads, IsWhatPastSays, empty_from, expiry_noted, purge_noted}
+use Rattle.pcache_store.specs.Notes.{added, joined_by, look_noted, removal_noted}
+use Rattle.pcache_store.proofs.Words.{◌≡◌, ℕ, Bool, true, sym, subst, List, [], ◌∷◌, Option, None, Some, refl, Meta, Store, Reader, Whole, ap, ◌∙◌, get, finished_on, dropped_on, Note, Began, Wrote, Finished, Dropped, Purged, WritePurged, MetaSet, Expired, Joined, Left, Leads, PastLeads, IsWhatPastSays, empty_from, expiry_noted, purge_noted}
 
 -- what a call that adds this note, or none, makes of a store
 abbrev pub LeadsIf : Option Note → Store → Store → Type 0
 LeadsIf None s t = t ≡ s
 LeadsIf (Some note) s t = Leads note s t
 
-pub begins : (start : ℕ) → IsWhatPastSays (empty_from start) []
-begins start =
-    let is : PastLeads [] (empty_from start) (empty_from start) = refl in
+pub begins : (start : ℕ) (newest : Bool) → IsWhatPastSays (empty_from start newest) []
+begins start newest =
+    let is : PastLeads [] (empty_from start newest) (empty_from start newest) = refl in
     (start, is)
+
+-- no call changes whether a store prefers the newest response
+pub mode-kept : (note : Note) (s t : Store) → Leads note s t → t.newest ≡ s.newest
+mode-kept (Began k n m) s t h = ap (λ (u : Store). u.newest) h.1
+mode-kept (Wrote n bytes eof) s t h = ap (λ (u : Store). u.newest) h
+mode-kept (Finished n) s t h = ap (λ (u : Store). u.newest) h.2 ∙ elim (get s.writes n) as (λ o. (finished_on s n o).newest ≡ s.newest) [ None ↦ refl | Some w ↦ refl ]
+mode-kept (Dropped n) s t h = ap (λ (u : Store). u.newest) h ∙ elim (get s.writes n) as (λ o. (dropped_on s n o).newest ≡ s.newest) [ None ↦ refl | Some w ↦ refl ]
+mode-kept (Purged k) s t h = ap (λ (u : Store). u.newest) h
+mode-kept (WritePurged k n) s t h = ap (λ (u : Store). u.newest) h
+mode-kept (MetaSet k m) s t h = ap (λ (u : Store). u.newest) h
+mode-kept (Expired k now) s t h = ap (λ (u : Store). u.newest) h
+mode-kept (Joined n) s t h = ap (λ (u : Store). u.newest) h
+mode-kept (Left n) s t h = ap (λ (u : Store). u.newest) h
+
+-- nor do several
+pub mode-led : (past : List Note) (start : ℕ) (newest : Bool) (t : Store) → PastLeads past (empty_from start newest) t → t.newest ≡ newest
+mode-led [] start newest t h = ap (λ (u : Store). u.newest) h
+mode-led (note ∷ past) start newest t h = mode-kept note h.0 t h.1.1 ∙ mode-led past start newest h.0 h.1.0
 
 pub grows : (s t : Store) (past : List Note) (note : Option Note) → IsWhatPastSays s past → LeadsIf note s t → IsWhatPastSays t (added note past)
 grows s t past None is same = rw same is
 grows s t past (Some note) is leads =
-    let step : PastLeads (note ∷ past) (empty_from is.0) t = (s, (is.1, leads)) in
-    (is.0, step)
+    let step : PastLeads (note ∷ past) (empty_from is.0 s.newest) t = (s, (is.1, leads)) in
+    (is.0, subst (λ b. PastLeads (note ∷ past) (empty_from is.0 b) t) (sym (mode-kept note s t leads)) step)
 
 -- a look-up
 looks-by : (s : Store) (r : Reader) → LeadsIf (joined_by r) s (followed_by s r)

@@ -36,10 +36,10 @@ some-one vs ws n o w set here there = ap is_some set ∙ inner (n == w) refl
     inner true t = here t
     inner false t = there t
 
-pub state-none : (start : ℕ) → IsState [] (empty_from start)
-state-none start = record {
+pub state-none : (start : ℕ) (newest : Bool) → IsState [] (empty_from start newest)
+state-none start newest = record {
   fresh = λ w le. refl;
-  records = λ w r is. let e : get (empty_from start).writes w ≡ None = get-empty nat_cmp w in cc;
+  records = λ w r is. let e : get (empty_from start newest).writes w ≡ None = get-empty nat_cmp w in cc;
   untouched = λ k w. ap (is_untouched_in w) (get-empty nat_cmp k);
   flies = λ k w h. cc;
   last = λ k w h. cc;
@@ -53,7 +53,7 @@ module _ (past : List Note) (s : Store) (st : IsState past s) where
   here n w x is t = ap (λ q. write_of q past) (sym (eqb-true n w t)) ∙ st.records n x is
 
   -- an open write has a record in flight
-  flying : (k w : ℕ) (x : Written) → is_open k w past ≡ true → get s.writes w ≡ Some x → x.flying ≡ true
+  pub flying : (k w : ℕ) (x : Written) → is_open k w past ≡ true → get s.writes w ≡ Some x → x.flying ≡ true
   flying k w x h is =
       let o = opens-some k (is_removed k w past) (write_of w past) h in
       let e : Some (uncounted x) ≡ Some o.0 = sym (st.records w x is) ∙ o.1 in
@@ -288,7 +288,7 @@ module _ (past : List Note) (s : Store) (st : IsState past s) where
   open-here n x e h = sym (st.untouched x.slot n) ∙ h
 
   -- the last finished write of a key is another one than a write in flight
-  last-other : (n k w : ℕ) (x : Written) → get s.writes n ≡ Some x → x.flying ≡ true → last_finished k past ≡ Some w → (n == w) ≡ false
+  pub last-other : (n k w : ℕ) (x : Written) → get s.writes n ≡ Some x → x.flying ≡ true → last_finished k past ≡ Some w → (n == w) ≡ false
   last-other n k w x e fly is = inner (n == w) refl
     where
       inner : (b : Bool) → (n == w) ≡ b → b ≡ false
@@ -564,7 +564,7 @@ module _ (past : List Note) (s : Store) (st : IsState past s) where
 pub state-step : (note : Note) (past : List Note) (s t : Store) → Leads note s t → IsState past s → IsState (note ∷ past) t
 state-step (Began k n m) past s t h st = subst (λ q. IsState (Began k q m ∷ past) t) (sym h.0) (subst (IsState (Began k s.next m ∷ past)) (sym h.1) (began-state past s st k m))
 state-step (Wrote n bytes eof) past s t h st = subst (IsState (Wrote n bytes eof ∷ past)) (sym h) (state-wrote past s st n bytes eof)
-state-step (Finished n) past s t h st = subst (IsState (Finished n ∷ past)) (sym h.1) (state-finished past s st n h.0)
+state-step (Finished n) past s t h st = subst (IsState (Finished n ∷ past)) (sym h.2) (state-finished past s st n h.0)
 state-step (Dropped n) past s t h st = subst (IsState (Dropped n ∷ past)) (sym h) (state-dropped past s st n)
 state-step (Purged k) past s t h st = subst (IsState (Purged k ∷ past)) (sym h) (state-purged past s st k)
 state-step (WritePurged k n) past s t h st = subst (IsState (WritePurged k n ∷ past)) (sym h) (state-write_purged past s st k n)
@@ -573,9 +573,9 @@ state-step (Expired k now) past s t h st = subst (IsState (Expired k now ∷ pas
 state-step (Joined n) past s t h st = subst (IsState (Joined n ∷ past)) (sym h) (state-joined past s st n)
 state-step (Left n) past s t h st = subst (IsState (Left n ∷ past)) (sym h) (state-left past s st n)
 
-pub state-led : (past : List Note) (start : ℕ) (t : Store) → PastLeads past (empty_from start) t → IsState past t
-state-led [] start t h = subst (IsState []) (sym h) (state-none start)
-state-led (note ∷ past) start t h = state-step note past h.0 t h.1.1 (state-led past start h.0 h.1.0)
+pub state-led : (past : List Note) (start : ℕ) (newest : Bool) (t : Store) → PastLeads past (empty_from start newest) t → IsState past t
+state-led [] start newest t h = subst (IsState []) (sym h) (state-none start newest)
+state-led (note ∷ past) start newest t h = state-step note past h.0 t h.1.1 (state-led past start newest h.0 h.1.0)
 
 pub state-of : (s : Store) (past : List Note) → IsWhatPastSays s past → IsState past s
-state-of s past is = state-led past is.0 s is.1
+state-of s past is = state-led past is.0 s.newest s is.1

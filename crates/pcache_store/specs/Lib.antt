@@ -1,9 +1,11 @@
 pub mod Drafts
 pub mod Finishes
+pub mod Greatest
 pub mod Kept
 pub mod Noted
 pub mod Notes
 pub mod NotesCode
+pub mod OneResponse
 pub mod Past
 pub mod PastLaws
 pub mod PastSays

@@ -1,5 +1,5 @@
 -- What each call adds to a store's past (own): one note, or none if it did nothing to the store.
-use Rattle.std.specs.Prelude.{ℕ, Bool, Option, None, Some, List, ◌∷◌, ◌≡◌, cond}
+use Rattle.std.specs.Prelude.{ℕ, Bool, Option, None, Some, List, ◌∷◌, cond}
 use Rattle.std.specs.Option.{option_map}
 use Rattle.pcache_base.specs.CompactKey.{compact_slot}
 use Rattle.pcache_evict.specs.Entry.{id_of}

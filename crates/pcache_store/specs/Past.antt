@@ -1,8 +1,8 @@
 -- What happened to a store, and where it leads (own). Notes are listed newest first.
-use Rattle.std.specs.Prelude.{ℕ, ◌≡◌, Bool, true, Some, List, [], ◌∷◌}
+use Rattle.std.specs.Prelude.{ℕ, ◌≡◌, Bool, true, false, Some, List, [], ◌∷◌}
 use Rattle.std.specs.FinMap.{empty}
 use Rattle.pcache_meta.specs.Meta.{Meta}
-use Rattle.pcache_store.specs.Store.{Store, Part, begun, wrote, finished, is_untouched, dropped, purged, write_purged, meta_set, joined, left}
+use Rattle.pcache_store.specs.Store.{Store, Part, begun, wrote, finished, is_superseded, is_untouched, dropped, purged, write_purged, meta_set, joined, left}
 use Rattle.pcache_store.specs.Purge.{expired_at}
 
 -- a call that did something to a store
@@ -32,7 +32,7 @@ pub data Note : Type 0 where
 abbrev pub Leads : Note → Store → Store → Type 0
 Leads (Began k n m) s t = (n ≡ s.next) × (t ≡ begun s k m)
 Leads (Wrote n bytes eof) s t = t ≡ wrote s n bytes eof
-Leads (Finished n) s t = (is_untouched s n ≡ true) × (t ≡ finished s n)
+Leads (Finished n) s t = (is_untouched s n ≡ true) × (is_superseded s n ≡ false) × (t ≡ finished s n)
 Leads (Dropped n) s t = t ≡ dropped s n
 Leads (Purged k) s t = t ≡ purged s k
 Leads (WritePurged k n) s t = t ≡ write_purged s k n
@@ -41,9 +41,9 @@ Leads (Expired k now) s t = t ≡ expired_at now s (Some k)
 Leads (Joined n) s t = t ≡ joined s n
 Leads (Left n) s t = t ≡ left s (Part n 0)
 
--- an empty store whose next write has this number
-abbrev pub empty_from : ℕ → Store
-empty_from start = record { slots = empty; writes = empty; next = start }
+-- an empty store whose next write has this number, and which prefers the newest response or not
+abbrev pub empty_from : ℕ → Bool → Store
+empty_from start newest = record { slots = empty; writes = empty; next = start; newest = newest }
 
 -- a past leads from one store to another
 abbrev pub PastLeads : List Note → Store → Store → Type 0
@@ -52,4 +52,4 @@ PastLeads (note ∷ before) s t = (m : Store) × (PastLeads before s m × Leads 
 
 -- a store is what its past made of an empty one
 abbrev pub IsWhatPastSays : Store → List Note → Type 0
-IsWhatPastSays t past = (start : ℕ) × PastLeads past (empty_from start) t
+IsWhatPastSays t past = (start : ℕ) × PastLeads past (empty_from start t.newest) t

@@ -1,12 +1,12 @@
 -- Laws of every store that is what its past says (own).
-use Rattle.std.specs.Prelude.{ℕ, ◌≡◌, ◌≢◌, ◌≤◌, ◌⊎◌, ◌↔◌, ◌++◌, ◌∷◌, Bool, true, false, ◌&&◌, not, Some, None, is_some, List, length, take}
+use Rattle.std.specs.Prelude.{ℕ, ◌≡◌, ◌≢◌, ◌<◌, ◌≤◌, ◌⊎◌, ◌↔◌, ◌++◌, ◌∷◌, Bool, true, false, ◌&&◌, not, Some, None, is_some, List, length, take}
 use Rattle.std.specs.FinMap.{get}
 use Rattle.std.specs.Option.{option_map}
 use Rattle.std.specs.List.{list_any}
 use Rattle.pcache_base.specs.declared.poll.Poll.TheVariants.{Ready}
 use Rattle.pcache_meta.specs.Meta.{Meta}
 use Rattle.pcache_store.specs.Store.{Store, Stored, Reader, Whole, Part, find, is_untouched, complete_body, write_read, read_of}
-use Rattle.pcache_store.specs.Past.{Note, Purged}
+use Rattle.pcache_store.specs.Past.{Note, Finished, Purged}
 use Rattle.pcache_store.specs.PastSays.{option_any, write_of, is_of, in_flight, body_of, is_removed, is_open, last_finished, finishes, write_finished, complete}
 
 -- a write of the key, in flight or the one that was finished last, met no removal since it began
@@ -17,7 +17,7 @@ HasUntouched k past = (w : ℕ) × (is_of k w past ≡ true) × ((in_flight w pa
 abbrev pub Finds : Store → List Note → Type 0
 Finds s past = (k : ℕ) → (is_some (find s k) ≡ true) ↔ HasUntouched k past
 
--- a finish of a write in flight succeeds exactly when the write met no removal since it began
+-- a finish of a write in flight succeeds, unless the write is superseded, exactly when it met no removal since it began
 abbrev pub Finishes : Store → List Note → Type 0
 Finishes s past = (k w : ℕ) → is_of k w past ≡ true → in_flight w past ≡ true → (is_untouched s w ≡ true) ↔ (is_removed k w past ≡ false)
 
@@ -49,6 +49,21 @@ IsOfItsWrite k past m (Whole id body start stop done) =
 
 abbrev pub FoundIsOfItsWrite : Store → List Note → Type 0
 FoundIsOfItsWrite s past = (k : ℕ) (m : Meta) (r : Reader) → find s k ≡ Some (m, r) → IsOfItsWrite k past m r
+
+-- a write of the key that can be found: in flight or the one that was finished last, and it met no removal since it began
+abbrev pub CanBeFound : ℕ → ℕ → List Note → Type 0
+CanBeFound k w past = (is_open k w past ≡ true) ⊎ ((last_finished k past ≡ Some w) × (is_removed k w past ≡ false))
+
+-- where the newest response is preferred: what is found is of the newest write of the key that can be found
+abbrev pub NewestStands : Store → List Note → Type 0
+NewestStands s past =
+    (k w v : ℕ) (m : Meta) (r : Reader) → find s k ≡ Some (m, r) → write_read r ≡ Some w → CanBeFound k v past → v ≤ w
+
+-- where the newest response is preferred: a write that was finished replaced no complete body of a newer one
+abbrev pub BodiesGetNewer : List Note → Type 0
+BodiesGetNewer past =
+    (k v w : ℕ) (b : Stored) (later earlier : List Note) → past ≡ later ++ Finished w ∷ earlier → is_of k w earlier ≡ true
+    → complete k earlier ≡ Some b → b.meta.entry_id ≡ Some v → v < w
 
 -- whether more bytes of a write can come: it is in flight, and its end was not announced
 abbrev pub may_grow : ℕ → List Note → Bool

@@ -6,6 +6,7 @@ use Rattle.std.specs.FinMap.{FinMap, empty, get, insert, remove, contains_key, l
 use Rattle.pcache_meta.specs.Meta.{Meta, in_place_of, numbered}
 use Rattle.pcache_base.specs.declared.poll.Poll.{Poll}
 use Rattle.pcache_base.specs.declared.poll.Poll.TheVariants.{Ready, Pending}
+use Rattle.pcache_store.specs.Greatest.{greatest}
 use Rattle.pcache_table.specs.Numbers.{least}
 
 -- a complete body
@@ -32,6 +33,8 @@ pub record Store : Type 0 where
   pub slots : FinMap nat_cmp Slot
   pub writes : FinMap nat_cmp Written
   pub next : ℕ
+  -- whether a look-up prefers the newest response, and the end of a write replaces no newer body; no call changes it
+  pub newest : Bool
 
 -- what a storage promises of all its calls: whether a removal always succeeds, and whether an entry has a number, that of
 -- the write which fills it
@@ -45,7 +48,24 @@ pub data Reader : Type 0 where
   Whole : (id : Option ℕ) (body : List ℕ) (start stop : ℕ) (done : Bool) → Reader
   Part : (write place : ℕ) → Reader
 
--- a look-up: the earliest begun write of the key that is in flight and met no removal, or else the complete body
+-- the number of the write that stored a complete body, if there is one: its meta names it
+abbrev pub number_of_body : Option Stored → Option ℕ
+number_of_body None = None
+number_of_body (Some b) = b.meta.entry_id
+
+-- a write's number, if it is greater than that of a complete body's write
+abbrev pub later_than : Option ℕ → Option ℕ → Option ℕ
+later_than None n = n
+later_than (Some b) None = None
+later_than (Some b) (Some n) = cond (nat_lt b n) (Some n) None
+
+-- the write in flight that a look-up finds in a slot, if it finds one: of those that met no removal the one that began first;
+-- or, if the newest response is preferred, the one that began last, unless the complete body is of a later write
+abbrev pub first_in : Bool → Slot → Option ℕ
+first_in false x = least x.untouched
+first_in true x = later_than (number_of_body x.body) (greatest x.untouched)
+
+-- a look-up: that write, or else the complete body
 abbrev pub found_body : Option Stored → Option (Meta × Reader)
 found_body None = None
 found_body (Some b) = Some (b.meta, Whole b.meta.entry_id b.bytes 0 (length b.bytes) false)
@@ -61,13 +81,13 @@ found_first ws None b = found_body b
 found_first ws (Some n) b = found_part n (get ws n)
 
 -- what a look-up finds in a slot
-abbrev pub found_in : FinMap nat_cmp Written → Option Slot → Option (Meta × Reader)
-found_in ws None = None
-found_in ws (Some x) = found_first ws (least x.untouched) x.body
+abbrev pub found_in : Bool → FinMap nat_cmp Written → Option Slot → Option (Meta × Reader)
+found_in newest ws None = None
+found_in newest ws (Some x) = found_first ws (first_in newest x) x.body
 
 -- what a look-up of a key finds
 abbrev pub find : Store → ℕ → Option (Meta × Reader)
-find s k = found_in s.writes (get s.slots k)
+find s k = found_in s.newest s.writes (get s.slots k)
 
 -- the write with this number, if it is in flight and of the key
 abbrev pub found_flying : ℕ → ℕ → Option Written → Option (Meta × Reader)
@@ -143,7 +163,7 @@ new_write k m = record { slot = k; meta = m; bytes = []; told = false; flying = 
 
 -- a write begun: its meta has its number, whatever number the given meta had
 abbrev pub begun : Store → ℕ → Meta → Store
-begun s k m = record { slots = opened s.slots k s.next; writes = insert s.writes s.next (new_write k (numbered s.next m)); next = s.next + 1 }
+begun s k m = record s { slots = opened s.slots k s.next; writes = insert s.writes s.next (new_write k (numbered s.next m)); next = s.next + 1 }
 
 -- more bytes of a write
 abbrev pub wrote_on : FinMap nat_cmp Written → ℕ → List ℕ → Bool → Option Written → FinMap nat_cmp Written
@@ -229,11 +249,6 @@ written_size (Some w) = length w.bytes
 abbrev pub purged : Store → ℕ → Store
 purged s k = record s { slots = remove s.slots k }
 
--- the number of the write that stored a complete body, if there is one: its meta names it
-abbrev pub number_of_body : Option Stored → Option ℕ
-number_of_body None = None
-number_of_body (Some b) = b.meta.entry_id
-
 -- whether there is a complete body, and it is that of the write with this number
 abbrev pub has_body_of : ℕ → Option Stored → Bool
 has_body_of n b = option_eq nat_eq (number_of_body b) (Some n)
@@ -268,6 +283,24 @@ write_purged s k n = record s { slots = write_gone_on s.slots k n (get s.slots k
 abbrev pub complete_body : Option Slot → Option Stored
 complete_body None = None
 complete_body (Some x) = x.body
+
+-- whether there is a number, and it is greater
+abbrev pub is_later : ℕ → Option ℕ → Bool
+is_later n None = false
+is_later n (Some b) = nat_lt n b
+
+-- whether a slot's complete body is that of a later write
+abbrev pub has_later_body : ℕ → Option Slot → Bool
+has_later_body n x = is_later n (number_of_body (complete_body x))
+
+-- whether a write is superseded: the store prefers the newest response, and the write's key has a complete body of a later
+-- write
+abbrev pub is_superseded_on : Store → ℕ → Option Written → Bool
+is_superseded_on s n None = false
+is_superseded_on s n (Some w) = s.newest && has_later_body n (get s.slots w.slot)
+
+abbrev pub is_superseded : Store → ℕ → Bool
+is_superseded s n = is_superseded_on s n (get s.writes n)
 
 -- a slot whose complete body's meta is changed
 abbrev pub with_meta : (Meta → Meta) → Slot → Option Stored → Slot

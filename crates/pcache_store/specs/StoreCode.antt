@@ -33,8 +33,8 @@ slot_code =
 -- the whole store
 abbrev pub store_code : Coded Store
 store_code =
-    code_by (FinMap nat_cmp Slot × (FinMap nat_cmp Written × ℕ))
-    (coded× (code coded_ℕ slot_code) (coded× (code coded_ℕ written_code) coded_ℕ))
-    (λ s. (s.slots, (s.writes, s.next)))
-    (λ p. record { slots = p.0; writes = p.1.0; next = p.1.1 })
+    code_by (FinMap nat_cmp Slot × (FinMap nat_cmp Written × (ℕ × Bool)))
+    (coded× (code coded_ℕ slot_code) (coded× (code coded_ℕ written_code) (coded× coded_ℕ coded_bool)))
+    (λ s. (s.slots, (s.writes, (s.next, s.newest))))
+    (λ p. record { slots = p.0; writes = p.1.0; next = p.1.1.0; newest = p.1.1.1 })
     (λ _. refl)

@@ -16,6 +16,11 @@ abbrev pub lesser : ℕ → Option ℕ → ℕ
 lesser n None = n
 lesser n (Some x) = cond (nat_lt x n) x n
 
+-- the greater of a number and another, if there is another
+abbrev pub greater : ℕ → Option ℕ → ℕ
+greater n None = n
+greater n (Some x) = cond (nat_lt n x) x n
+
 -- whether it is the number that is kept apart
 abbrev pub is_one : Option ℕ → ℕ → Bool
 is_one None k = false

@@ -1,5 +1,5 @@
 //! A store in memory, which knows its own past.
-ghost use Rattle.std.specs.Prelude.{◌≡◌, ◌<◌, ℕ, [], IfErr, IfOk, IsOk, IsSome, None, OnErr, OnOk, Option, Some, option_copied, option_map, true};
+ghost use Rattle.std.specs.Prelude.{◌≡◌, ◌<◌, ℕ, [], IfErr, IfOk, IsOk, IsSome, None, OnErr, OnOk, Option, Some, option_copied, option_map, false, true};
 ghost use Rattle.std.specs.FinMap as map;
 ghost use Rattle.pcache_base.specs.Key.{slot};
 ghost use Rattle.pcache_table.specs.Sharding.{part_of};
@@ -10,7 +10,7 @@ ghost use Rattle.pcache_store.specs.Past.{Dropped, Finished, Joined, Wrote};
 ghost use Rattle.pcache_store.specs.Readers.{if_complete, in_memory, reader_of};
 ghost use Rattle.pcache_store.specs.Refusals.{MayFailFinish};
 ghost use Rattle.pcache_store.specs.Shards.{of_shard};
-ghost use Rattle.pcache_store.specs.Store.{Part, complete_body, dropped, find, finished, is_untouched, is_write_under, left, wrote};
+ghost use Rattle.pcache_store.specs.Store.{Part, complete_body, dropped, find, finished, is_superseded, is_untouched, is_write_under, left, wrote};
 ghost use Rattle.pcache_store.specs.Totals.{stored_bytes, slots};
 
 mod bare;
@@ -79,16 +79,31 @@ impl Model for MemCache {
 }
 
 impl MemCache {
-    ghost use Rattle.pcache_store.specs.PastLaws.{BodiesAreLast, BodiesGrow, Finds, Finishes, FoundIsOfItsWrite, NothingIsLost, PurgedIsGone, ReadsInOrder};
+    ghost use Rattle.pcache_store.specs.OneResponse.{MetasAreTheirs, SetsNameTheirs};
+    ghost use Rattle.pcache_store.specs.PastLaws.{BodiesAreLast, BodiesGetNewer, BodiesGrow, Finds, Finishes, FoundIsOfItsWrite, NewestStands, NothingIsLost, PurgedIsGone, ReadsInOrder};
 
-    /// An empty store. Its tables hash under the seed, on which no result depends.
+    /// An empty store, in which a look-up finds the earliest begun write in flight, or else the complete body, and the write
+    /// that ends last replaces the body. Its tables hash under the seed, on which no result depends.
     pub fn new(alloc: Global, seed: Seed) -> MemCache
         ensures state { result.state
-            ≡ record { slots = map.empty; writes = map.empty; next = 0 } }
+            ≡ record { slots = map.empty; writes = map.empty; next = 0; newest = false } }
         ensures past { result.past ≡ [] }
     {
         MemCache {
-            bare: BareStore::new(alloc, seed),
+            bare: BareStore::new(alloc, seed, false),
+            past: Past::new(),
+        }
+    }
+
+    /// An empty store that prefers the newest response (RFC 9111, 4): a look-up finds the write in flight that began last,
+    /// unless the complete body is of a later one, and the end of a write fails (`Superseded`) if a newer body of the key stands.
+    pub fn newest_first(alloc: Global, seed: Seed) -> MemCache
+        ensures state { result.state
+            ≡ record { slots = map.empty; writes = map.empty; next = 0; newest = true } }
+        ensures past { result.past ≡ [] }
+    {
+        MemCache {
+            bare: BareStore::new(alloc, seed, true),
             past: Past::new(),
         }
     }
@@ -96,7 +111,7 @@ impl MemCache {
     /// An empty store whose next write has this number, so that the last numbers can be tried.
     pub fn starting_at(alloc: Global, seed: Seed, next: u64) -> MemCache
         ensures state { result.state
-            ≡ record { slots = map.empty; writes = map.empty; next = next } }
+            ≡ record { slots = map.empty; writes = map.empty; next = next; newest = false } }
         ensures past { result.past ≡ [] }
     {
         MemCache {
@@ -111,7 +126,7 @@ impl MemCache {
     /// - `finds`: a look-up finds a key exactly when a write of it, in flight or the one that was
     ///   finished last, met no removal since it began.
     /// - `finishes`: the finish of a write in flight succeeds exactly when the write met no removal
-    ///   since it began.
+    ///   since it began, and is not superseded (`newer`).
     /// - `purged`: after a purge of a key nothing whose write began before it is found under that key,
     ///   and no such write can be finished.
     /// - `kept`: a body that was finished is there, and its key is found, until its key is purged, its
@@ -122,6 +137,13 @@ impl MemCache {
     /// - `reads`: a reader of a write is given all bytes of that write and of no other, in order and each
     ///   once, and the end only when it was given all and no more can come.
     /// - `grows`: what was written of a write stays as it is, and more bytes come after it.
+    /// - `metas`: if each meta that was set names the write whose body it is for, what is found has the meta with which its own
+    ///   write began, or the last one that was set for that very write, and expired if the body was expired since.
+    ///
+    /// And of a store that prefers the newest response:
+    ///
+    /// - `newest`: no write that can be found under the key, in flight or complete, is newer than what is found.
+    /// - `newer`: the end of a write replaced no newer body of its key.
     pub fn headline(&self)
         ensures finds { Finds self.now.state self.now.past }
         ensures finishes { Finishes self.now.state self.now.past }
@@ -131,6 +153,11 @@ impl MemCache {
         ensures found { FoundIsOfItsWrite self.now.state self.now.past }
         ensures reads { ReadsInOrder self.now.state self.now.past }
         ensures grows { BodiesGrow self.now.state self.now.past }
+        ensures metas { SetsNameTheirs self.now.past
+            → MetasAreTheirs self.now.state self.now.past }
+        ensures newest { self.now.state.newest ≡ true
+            → NewestStands self.now.state self.now.past }
+        ensures newer { self.now.state.newest ≡ true → BodiesGetNewer self.now.past }
     {
         let _ = &self.past;
     }
@@ -277,6 +304,7 @@ impl MemCache {
         ensures past { OnOk result (self.new.past
             ≡ added (Some (Finished number)) self.old.past) }
         ensures untouched { OnOk result (is_untouched self.old.state number ≡ true) }
+        ensures newest { OnOk result (is_superseded self.old.state number ≡ false) }
         ensures kind { IfErr result (λ e. MayFailFinish self.old.state number e) }
         ensures err { OnErr result (self.new.state ≡ dropped self.old.state number) }
         ensures drop_past { OnErr result (self.new.past

@@ -16,7 +16,7 @@ ghost use Rattle.pcache_store.specs.declared.storage.MissFinishType.{MissFinishT
 ghost use Rattle.pcache_store.specs.declared.storage.PurgeOutcome.TheVariants.{Expired};
 ghost use Rattle.pcache_store.specs.Purge.{target_key, removed_entry, IsNumberOf, entry_given, entry_read, target_purged, target_outcome, slot_expired, expired_at, expire_outcome};
 ghost use Rattle.pcache_store.specs.Refusals.{MayFailWrite, MayFailFinish};
-ghost use Rattle.pcache_store.specs.Store.{Store, Reader, Guarantees, find, find_write, followed, left, begun, wrote, dropped, finished, is_untouched, complete_body, meta_set, is_told, gives_piece, read_of, reader_after, sought, can_seek, counts_access, reader_weight, is_whole, body_length};
+ghost use Rattle.pcache_store.specs.Store.{Store, Reader, Guarantees, find, find_write, followed, left, begun, wrote, dropped, finished, is_superseded, is_untouched, complete_body, meta_set, is_told, gives_piece, read_of, reader_after, sought, can_seek, counts_access, reader_weight, is_whole, body_length};
 ghost use Rattle.pcache_store.specs.Tag.{named_by};
 
 use bytes::Bytes;
@@ -145,8 +145,9 @@ pub trait Storage: StoreMeaning + Sized {
     type Miss: HandleMiss<Self>;
 
     /// A reader of what is stored for a key, and its meta: the earliest begun write in flight that
-    /// met no removal, or else the complete body. Fails only when memory runs out, and only if there
-    /// is something to read.
+    /// met no removal, or else the complete body. If the store prefers the newest response, the write
+    /// in flight that began last, unless the complete body is of a later one. Fails only when memory
+    /// runs out, and only if there is something to read.
     fn lookup(&mut self, alloc: Global, key: &CacheKey) -> Result<Option<(CacheMeta, Self::Hit)>>
         ensures found { IfOk result (λ r. option_map (λ p. (p.0, Self.Hit.reader p.1)) r
             ≡ find (Self.state self.old) (slot key.now)) }
@@ -378,11 +379,13 @@ pub trait HandleMiss<S: StoreMeaning> {
         ensures { result ≡ is_told (map.get (S.state store.now).writes (write self.now)) };
 
     /// Ends the write: its body replaces an older one. Fails when memory runs out, and exactly if
-    /// the key was removed since the write began; the write is dropped then.
+    /// the key was removed since the write began, or the store prefers the newest response and the
+    /// complete body of the key is of a later write; the write is dropped then.
     fn finish(self, store: &mut S) -> Result<MissFinishType>
         ensures answer { IfOk result (λ f. f ≡ S.finishes store.old (write self)) }
         ensures ok { OnOk result (S.state store.new ≡ finished (S.state store.old) (write self)) }
         ensures untouched { OnOk result (is_untouched (S.state store.old) (write self) ≡ true) }
+        ensures newest { OnOk result (is_superseded (S.state store.old) (write self) ≡ false) }
         ensures kind { IfErr result (λ e. MayFailFinish (S.state store.old) (write self) e) }
         ensures err { OnErr result (S.state store.new ≡ dropped (S.state store.old) (write self)) }
         ensures past { OnOk result (S.past store.new

@@ -11,7 +11,7 @@ use Rattle.pcache_history.specs.Facts.{Says}
 use Rattle.pcache_history.specs.Rules.{IsFilesRefusal}
 use Rattle.pcache_world.specs.FilesCalls.{HasNoFiles, IsLoaded, save_reply}
 use Rattle.pcache_history.proofs.LoadsLaw.{answers-files, late-load, loads-silent, loads-start}
-use Rattle.pcache_world.proofs.Words.{◌≡◌, ℕ, ◌==◌, Bool, true, false, ◌&&◌, cond, if◌then◌else◌, Option, None, Some, IsSome, is_none, List, [], ◌∷◌, ◌++◌, reverse, Result, Ok, Err, IfErr, OnOk, ◌⊎◌, refl, ap, sym, subst, ◌∙◌, inl, inr, both_ways, reverse-append, nat_cmp, FinMap, get, ErrorType, IncompleteHttpBody, Io, NumbersExhausted, OutOfMemory, WriteRemoved, Tracked, Limits, CacheEntryKey, Locks, Store, Call, Reply, Entry, Event, Deed, deeds_of, tracked, Facts, request_in, IsEarly, files_in, is_load, only_loads, Ongoing, request_of, events_of, IsLegal, started, WasAtStage, filled_of, pieces_of, IsCopy, IsFilesReply, Replies, AnswersFiles, HasCause, HasSaved, facts_in, PutsSound, TakenIn, AreOpen, IsSound, untold}
+use Rattle.pcache_world.proofs.Words.{◌≡◌, ℕ, ◌==◌, Bool, true, false, ◌&&◌, cond, if◌then◌else◌, Option, None, Some, IsSome, is_none, List, [], ◌∷◌, ◌++◌, reverse, Result, Ok, Err, IfErr, OnOk, ◌⊎◌, refl, ap, sym, subst, ◌∙◌, inl, inr, both_ways, reverse-append, nat_cmp, FinMap, get, ErrorType, IncompleteHttpBody, Io, NumbersExhausted, Superseded, OutOfMemory, WriteRemoved, Tracked, Limits, CacheEntryKey, Locks, Store, Call, Reply, Entry, Event, Deed, deeds_of, tracked, Facts, request_in, IsEarly, files_in, is_load, only_loads, Ongoing, request_of, events_of, IsLegal, started, WasAtStage, filled_of, pieces_of, IsCopy, IsFilesReply, Replies, AnswersFiles, HasCause, HasSaved, facts_in, PutsSound, TakenIn, AreOpen, IsSound, untold}
 use Rattle.pcache_history.specs.declared.call.Act.TheVariants as C
 use Rattle.pcache_history.specs.declared.call.FilesAct.TheVariants as F
 use Rattle.pcache_history.specs.declared.call.Reply.TheVariants as R
@@ -210,6 +210,7 @@ has-cause U F IncompleteHttpBody u f = tt
 has-cause U F WriteRemoved u f = tt
 has-cause U F NumbersExhausted u f = tt
 has-cause U F Io u f = u refl
+has-cause U F Superseded u f = tt
 
 pub save-answers : (saved : Result (Unit {0}) ErrorType) (reply : Reply) → reply ≡ save_reply saved → IfErr saved (λ e. (e ≡ OutOfMemory) ⊎ (e ≡ InternalError) ⊎ (e ≡ Io)) → IsFilesReply F.Save reply
 save-answers saved reply is kinds = subst (IsFilesReply F.Save) (sym is) (of saved kinds)

@@ -12,6 +12,7 @@ pub mod Looking
 pub mod MovedState
 pub mod MovesOf
 pub mod Noted
+pub mod Oldest
 pub mod OfParts
 pub mod Opened
 pub mod PutClosed

@@ -7,7 +7,9 @@ use Rattle.pcache_request.specs.Phases.{is_treated_as_miss}
 use Rattle.pcache_request.specs.Requests.{Request, tracked_found, tracked_found_at, store_writing}
 use Rattle.pcache_request.specs.Renewals.{with_meta_of}
 use Rattle.pcache_store.specs.Store.{Reader, end_or, is_forward, find, begun}
+use Rattle.pcache_history.specs.Facts.{Facts}
 use Rattle.pcache_history.specs.Ongoing.{sought_in}
+use Rattle.pcache_history.specs.Rules.{Finishes}
 use Rattle.pcache_world.specs.Moved.{Did}
 use Rattle.pcache_world.specs.Step.{permit_in, store_ended}
 use Rattle.pcache_history.proofs.Exact.{names_only, entry_names}
@@ -16,7 +18,9 @@ use Rattle.pcache_request.specs.declared.phase.CachePhase.TheVariants as phase
 use Rattle.pcache_request.specs.WriteEnds as write_ends
 use Rattle.pcache_request.specs.declared.cache.finish.WriteEnd.TheVariants as end
 use Rattle.pcache_store.specs.Store as store
+use Rattle.pcache_history.specs.declared.call.Reply.TheVariants as R
 use Rattle.pcache_history.specs.declared.entry.Event.TheVariants as E
+use Rattle.pcache_world.proofs.Oldest.{dropped_ends}
 use Rattle.pcache_world.proofs.StateAnswers.{found-kept}
 use Rattle.pcache_world.proofs.StateCalls.{begun-joins}
 use Rattle.pcache_world.proofs.StateWrites.{part_of, read_in, get-set, get-unset}
@@ -432,6 +436,15 @@ module _ (d : Option Decision) (x y : Request) (p : Option (Meta × Reader)) (s 
       dropped-as : (kind : ErrorType) → u ≡ dropped s w → m' ≡ m → (kind ≡ WriteRemoved → is_untouched s w ≡ false) → Moves limits before s m (refused_end w kind ∷ each E.Release o) after u m'
       dropped-as WriteRemoved to same gone = by (E.Finish w false) (has, gone refl) (record { count = reads; write = made; owed = refl; store = to; tracked = same }) refl
       dropped-as kind to same gone = by (E.Dropped w) has (record { count = reads; write = made; owed = refl; store = to; tracked = same }) refl
+
+  -- and the reply to an end that failed
+  pub finish-refused : (how : WriteEnd) (e kind : ErrorType) (noted : Event) (events : List Event) (f : Facts) → how ≡ end.Dropped e → noted ≡ refused_end w kind → kind ≡ e → write_ends.Ends in_memory x x.key x.write (finishes_of (created s) x.write) limits how s u m m' t t'
+      → f.untouched ≡ is_untouched s w → s.newest ≡ false → events ≡ old ++ noted ∷ each E.Release o → o ≡ permit_of x.held → Finishes f x x.write (R.Refused kind) events
+  finish-refused how e kind noted events f so which kind-is h at oldest is permit =
+      let a = ended-as (end.Dropped e) (subst (λ (z : WriteEnd). write_ends.Ends in_memory x x.key x.write (finishes_of (created s) x.write) limits z s u m m' t t') so h) in
+      let why = subst (λ (z : ErrorType). (z ≡ OutOfMemory) ⊎ MayFailFinish s w z) (sym kind-is) a.why in
+      let are = is ∙ ap (λ es. es ++ noted ∷ each E.Release o) none ∙ ap (λ z. z ∷ each E.Release o) which ∙ ap (λ l. refused_end w kind ∷ each E.Release l) permit in
+      subst (λ (q : Option ℕ). Finishes f x q (R.Refused kind) events) (sym has) (k, key, dropped_ends f x k s w kind events at oldest why are)
 
 -- ---- other calls
 

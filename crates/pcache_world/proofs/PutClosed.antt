@@ -17,6 +17,7 @@ use Rattle.pcache_request.specs.declared.cache.finish.WriteEnd.TheVariants as wr
 use Rattle.pcache_history.specs.declared.call.Reply.TheVariants as R
 use Rattle.pcache_history.specs.declared.entry.Event.TheVariants as E
 use Rattle.pcache_world.proofs.LockSteps.{quiet-refused}
+use Rattle.pcache_world.proofs.Oldest.{dropped_ends}
 use Rattle.pcache_world.proofs.MovesOf.{does, finish-dropped, finish-stored, finish-withdrawn, stop, with_pair}
 use Rattle.pcache_world.proofs.PutFed.{none-some, not-failed}
 
@@ -59,9 +60,9 @@ module _ (p : Taking) (s u : Store) (limits : Limits) (m m' : Tracked) (w : ℕ)
 
   lets : (how : WriteEnd) → EndsBody in_memory true id HoldsNoLock p.key w (created s w) limits how s u m m' → EndsIn in_memory x p.key w (created s w) limits how s u m m' nowhere nowhere
   lets writes.Nothing h = h
-  lets (writes.Stored f) h = record { untouched = h.untouched; size_is = h.size_is; admitted = h.admitted; purges = h.purges; sure = h.sure; released = refl }
+  lets (writes.Stored f) h = record { untouched = h.untouched; newest = h.newest; size_is = h.size_is; admitted = h.admitted; purges = h.purges; sure = h.sure; released = refl }
   lets (writes.Dropped e) h = record { why = h.why; dropped = h.dropped; tracked = h.tracked; released = refl }
-  lets (writes.Withdrawn e) h = record { why = h.why; untouched = h.untouched; purged = h.purged; tracked = h.tracked; released = refl }
+  lets (writes.Withdrawn e) h = record { why = h.why; untouched = h.untouched; newest = h.newest; purged = h.purged; tracked = h.tracked; released = refl }
 
   -- of a put in place of the request
   of-put : (events : List Event) → Moves limits (Some (with_pair None None x)) s m events (Some (with_pair None None y)) u m' → Moves limits (Some (ongoing_put p)) s m events None u m'
@@ -105,21 +106,14 @@ module _ (p : Taking) (s u : Store) (limits : Limits) (m m' : Tracked) (w : ℕ)
   abbrev pub facts : Locks → Facts
   facts t = facts_in s t x
 
-  dropped-answers : (t : Locks) (e : ErrorType) (events : List Event) → (e ≡ OutOfMemory) ⊎ MayFailFinish s w e → events ≡ refused_end w e ∷ [] → EndsFilling (facts t) x p.key w (R.Refused e) events
-  dropped-answers t error.WriteRemoved events (inl same) is = absurd (cc)
-  dropped-answers t error.WriteRemoved events (inr gone) is = inr (inr (inl (gone, is, refl)))
-  dropped-answers t error.OutOfMemory events why is = inr (inr (inr (is, refl)))
-  dropped-answers t e events (inl same) is = inr (inr (inr (is, ap R.Refused same)))
-  dropped-answers t e events (inr no-way) is = absurd no-way
-
-  body-answers : (t : Locks) (how : PutEnd) (entry : Option CacheEntryKey) (events : List Event) → entry ≡ entry_reported p.key (InBody w id until) how → EndsBody in_memory true id HoldsNoLock p.key w (created s w) limits (write_end how) s u m m' → events ≡ end_noted w (slot p.key) how entry
+  body-answers : (t : Locks) → s.newest ≡ false → (how : PutEnd) (entry : Option CacheEntryKey) (events : List Event) → entry ≡ entry_reported p.key (InBody w id until) how → EndsBody in_memory true id HoldsNoLock p.key w (created s w) limits (write_end how) s u m m' → events ≡ end_noted w (slot p.key) how entry
       → EndsFilling (facts t) x p.key w (end_reply how) events
-  body-answers t (end.NotCached reason) entry events told h is = absurd h
-  body-answers t (end.Refused e) entry events told h is = absurd h
-  body-answers t (end.Stored f) entry events told h is =
+  body-answers t oldest (end.NotCached reason) entry events told h is = absurd h
+  body-answers t oldest (end.Refused e) entry events told h is = absurd h
+  body-answers t oldest (end.Stored f) entry events told h is =
       inl (f.evicted.items, h.untouched, is ∙ noted-entry f entry told ∙ ap (λ n. E.Finish w true ∷ E.Admit (entry_of p.key (Some w)) n f.evicted.items ∷ []) h.size_is, ap (λ n. R.Stored n (length f.evicted.items)) h.size_is)
-  body-answers t (end.Withdrawn e) entry events told h is = inr (inl (h.untouched, is, ap R.Refused h.why))
-  body-answers t (end.Dropped e) entry events told h is = dropped-answers t e events h.why is
+  body-answers t oldest (end.Withdrawn e) entry events told h is = inr (inl (h.untouched, is, ap R.Refused h.why))
+  body-answers t oldest (end.Dropped e) entry events told h is = dropped_ends (facts t) x p.key s w e events refl oldest h.why is
 
 -- ---- by the stage of the put
 
@@ -203,8 +197,8 @@ module _ (p : Taking) (s u : Store) (limits : Limits) (m m' : Tracked) (how : Pu
               | inr h ↦ body-moves p s u limits m m' v id until is (ap entry_in (sym is) ∙ mine ∙ ap Some same) how entry events (subst (λ (z : Stage). IsOfWorld (filling p.key (write_in z) (entry_in z))) is world) (told ∙ ap (λ (z : Stage). entry_reported p.key z how) is) h events-are
             ]
 
-    pub written-answers : (t : Locks) (w : ℕ) (events : List Event) → write_in p.stage ≡ Some w → entry_in p.stage ≡ Some w → events ≡ end_noted w (slot p.key) how entry → Closes (facts_in s t (ongoing_put p).request) (Some p) (end_reply how) events
-    written-answers t w events has mine noted = by p.stage refl
+    pub written-answers : (t : Locks) (w : ℕ) (events : List Event) → s.newest ≡ false → write_in p.stage ≡ Some w → entry_in p.stage ≡ Some w → events ≡ end_noted w (slot p.key) how entry → Closes (facts_in s t (ongoing_put p).request) (Some p) (end_reply how) events
+    written-answers t w events oldest has mine noted = by p.stage refl
       where
         by : (stage : Stage) → p.stage ≡ stage → Closes (facts_in s t (ongoing_put p).request) (Some p) (end_reply how) events
         by InHead is = absurd (let no : ◌≡◌ {A = Option ℕ} None (Some w) = ap write_in (sym is) ∙ has in cc)
@@ -216,7 +210,7 @@ module _ (p : Taking) (s u : Store) (limits : Limits) (m m' : Tracked) (how : Pu
             let events-are = noted ∙ ap (λ n. end_noted n (slot p.key) how entry) same in
             subst (λ (z : Stage). ClosesAt (facts_in s t (filling p.key (write_in z) (entry_in z))) p.key z (end_reply how) events) (sym is) (elim (subst EndsAt is ends) [
               | inl h ↦ let e = early-is v id until entry events (subst (λ (z : Stage). TakenBy says size p.parser z pieces f) is taken) h events-are in inl (e.0, e.1)
-              | inr h ↦ inr (body-answers p s u limits m m' v id until is (ap entry_in (sym is) ∙ mine ∙ ap Some same) t how entry events (told ∙ ap (λ (z : Stage). entry_reported p.key z how) is) h events-are)
+              | inr h ↦ inr (body-answers p s u limits m m' v id until is (ap entry_in (sym is) ∙ mine ∙ ap Some same) t oldest how entry events (told ∙ ap (λ (z : Stage). entry_reported p.key z how) is) h events-are)
             ])
 
   -- only a lack of memory has a body withdrawn
@@ -249,9 +243,9 @@ ended-still how stage s u is to = to ∙ ap (λ z. dropped_by (write_in z) s) is
     by (end.Withdrawn e) = refl
 
 module _ (p : Taking) (s u : Store) (limits : Limits) (m m' : Tracked) (how : PutEnd) (entry : Option CacheEntryKey) (told : entry ≡ entry_reported p.key p.stage how) (ends : EndsPut in_memory p.key p.parser (created s) limits p.stage how s u m m') where
-  pub written-answers-as : (says : Says) (pieces : List Piece) (f : Option Filled) (taken : TakenBy says p.size p.parser p.stage pieces f) (t : Locks) (w j : ℕ) (reply : Reply) (events : List Event) → write_in p.stage ≡ Some w → entry_in p.stage ≡ Some w → j ≡ slot p.key → reply ≡ end_reply how → events ≡ end_noted w j how entry → Closes (facts_in s t (ongoing_put p).request) (Some p) reply events
-  written-answers-as says pieces f taken t w j reply events has mine at is noted =
-      subst (λ z. Closes (facts_in s t (ongoing_put p).request) (Some p) z events) (sym is) (written-answers p s u limits m m' how entry told ends says p.size pieces f taken t w events has mine (noted ∙ ap (λ k. end_noted w k how entry) at))
+  pub written-answers-as : (says : Says) (pieces : List Piece) (f : Option Filled) (taken : TakenBy says p.size p.parser p.stage pieces f) (t : Locks) (w j : ℕ) (reply : Reply) (events : List Event) → s.newest ≡ false → write_in p.stage ≡ Some w → entry_in p.stage ≡ Some w → j ≡ slot p.key → reply ≡ end_reply how → events ≡ end_noted w j how entry → Closes (facts_in s t (ongoing_put p).request) (Some p) reply events
+  written-answers-as says pieces f taken t w j reply events oldest has mine at is noted =
+      subst (λ z. Closes (facts_in s t (ongoing_put p).request) (Some p) z events) (sym is) (written-answers p s u limits m m' how entry told ends says p.size pieces f taken t w events oldest has mine (noted ∙ ap (λ k. end_noted w k how entry) at))
 
   pub written-moves-as : (says : Says) (pieces : List Piece) (f : Option Filled) (taken : TakenBy says p.size p.parser p.stage pieces f) (v : Store) (stage : Stage) (w j : ℕ) (events : List Event) → IsOfWorld (ongoing_put p).request → write_in p.stage ≡ Some w → entry_in p.stage ≡ Some w → j ≡ slot p.key → events ≡ end_noted w j how entry → stage ≡ stage_ended how → v ≡ dropped_by (write_in stage) u
       → Moves limits (Some (ongoing_put p)) s m events None v m'

@@ -184,7 +184,7 @@ module _ (limits : Limits) (start m : Tracked) (s : Store) (t : Locks) (says : S
   ended-in (Some x) is = ended-put x is x.put refl
 
   has-some-at : HasSome says s (get all n)
-  has-some-at = (pieces_of n h, filled_of n h, puts.taken n, ended-in (get all n) refl)
+  has-some-at = (pieces_of n h, filled_of n h, puts.taken n, ended-in (get all n) refl, k.state.newest)
 
 pub has-some : (limits : Limits) (start m : Tracked) (s : Store) (t : Locks) (says : Says) (all : List (ℕ × Ongoing)) (h : List Entry) (n : ℕ) → IsSound limits start m s t (from_entries {R = nat_cmp} all) h → PutsSound says (from_entries {R = nat_cmp} all) h → HasSome says s (lookup (is_at (nat_cmp n)) all)
 has-some limits start m s t says all h n k puts = subst (HasSome says s) (sym (lookup-get all n)) (has-some-at limits start m s t says (from_entries {R = nat_cmp} all) h k puts n)

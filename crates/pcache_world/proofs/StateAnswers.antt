@@ -8,7 +8,7 @@ use Rattle.std.specs.FinMap.{entries, get-entries, entries_sorted, len-entries}
 use Rattle.std.specs.FinMap.Entries.{is_sorted, below_all}
 use Rattle.pcache_base.specs.declared.poll.Poll.TheVariants.{Ready}
 use Rattle.pcache_table.specs.Numbers.{first_key, least}
-use Rattle.pcache_store.specs.Store.{Stored, Written, Reader, found_body, found_part, found_first, found_in, find, is_untouched_on, read_part, offset_after}
+use Rattle.pcache_store.specs.Store.{Stored, Written, Reader, found_body, found_part, first_in, found_first, found_in, find, is_untouched_on, read_part, offset_after}
 use Rattle.pcache_history.specs.History.{Finds, reads}
 use Rattle.pcache_world.proofs.Words.{◌≡◌, ℕ, ◌+◌, ◌-◌, ◌<◌, ◌≤◌, ◌==◌, Bool, true, false, not, cond, ◌&&◌, if◌then◌else◌, Option, None, Some, is_some, is_none, List, [], ◌∷◌, length, drop, refl, ap, sym, subst, ◌∙◌, arith, inl, inr, nat_lt, IsSome, nat_cmp, nat_cmp_total, FinMap, get, contains_key, len, and_parts, Meta, Pending, Store, Slot, Whole, Part, found_flying, find_write, followed, is_untouched_in, is_idle, is_untouched, read_of, reader_after, Answer, Event, begin_of, in_flight, is_of, is_open, is_removed, complete, pair_of, read_past, HasAny, follows, IsState, cmp_same, same-number}
 use Rattle.std.specs.FinMap as map
@@ -79,12 +79,12 @@ answer-first ws None None = (A.Nothing, refl)
 answer-first ws None (Some b) = (A.Complete b.meta b.bytes, refl)
 answer-first ws (Some w) b = answer-part w (get ws w)
 
-answer-in : (ws : FinMap nat_cmp Written) (o : Option Slot) → (a : Answer) × (pair_of a ≡ found_in ws o)
-answer-in ws None = (A.Nothing, refl)
-answer-in ws (Some x) = answer-first ws (least x.untouched) x.body
+answer-in : (newest : Bool) (ws : FinMap nat_cmp Written) (o : Option Slot) → (a : Answer) × (pair_of a ≡ found_in newest ws o)
+answer-in newest ws None = (A.Nothing, refl)
+answer-in newest ws (Some x) = answer-first ws (first_in newest x) x.body
 
 pub found-answer : (s : Store) (k : ℕ) → (a : Answer) × (pair_of a ≡ find s k)
-found-answer s k = answer-in s.writes (get s.slots k)
+found-answer s k = answer-in s.newest s.writes (get s.slots k)
 
 -- a write that a look-up gives has a record
 kept-part : (ws : FinMap nat_cmp Written) (w v : ℕ) (o : Option Written) → get ws w ≡ o → part_of (found_part w o) ≡ Some v → is_some (get ws v) ≡ true
@@ -96,12 +96,12 @@ kept-first ws None None v h = absurd (cc)
 kept-first ws None (Some b) v h = absurd (cc)
 kept-first ws (Some w) b v h = kept-part ws w v (get ws w) refl h
 
-kept-in : (ws : FinMap nat_cmp Written) (o : Option Slot) (v : ℕ) → part_of (found_in ws o) ≡ Some v → is_some (get ws v) ≡ true
-kept-in ws None v h = absurd (cc)
-kept-in ws (Some x) v h = kept-first ws (least x.untouched) x.body v h
+kept-in : (newest : Bool) (ws : FinMap nat_cmp Written) (o : Option Slot) (v : ℕ) → part_of (found_in newest ws o) ≡ Some v → is_some (get ws v) ≡ true
+kept-in newest ws None v h = absurd (cc)
+kept-in newest ws (Some x) v h = kept-first ws (first_in newest x) x.body v h
 
 pub found-kept : (s : Store) (k w : ℕ) → part_of (find s k) ≡ Some w → is_some (get s.writes w) ≡ true
-found-kept s k w h = kept-in s.writes (get s.slots k) w h
+found-kept s k w h = kept-in s.newest s.writes (get s.slots k) w h
 
 -- ---- a look-up
 
@@ -162,14 +162,14 @@ module _ (es : List Event) (n : ℕ → ℕ) (s : Store) (st : IsState es n s) (
         let busy : (is_none x.body && true) ≡ false = ap (λ m. is_none x.body && (m == 0)) (sym empty) ∙ st.filled k x there in
         inr (subst (λ o. IsSome o) (sym complete-is) (elim x.body as (λ o. (is_none o && true) ≡ false → IsSome o) [ None ↦ λ e. absurd (cc) | Some b ↦ λ _. refl ] busy))
 
-  finds-in : (o : Option Slot) → get s.slots k ≡ o → (a : Answer) → pair_of a ≡ found_in s.writes o → Finds es k a
+  finds-in : (o : Option Slot) → get s.slots k ≡ o → (a : Answer) → pair_of a ≡ found_in false s.writes o → Finds es k a
   finds-in None e A.Nothing h = finds-nothing e
   finds-in None e (A.Complete m body) h = absurd (cc)
   finds-in None e (A.Streaming m w) h = absurd (cc)
   finds-in (Some x) e a h = finds-first x e (least x.untouched) refl a h
 
   pub finds-is : (a : Answer) → pair_of a ≡ find s k → Finds es k a
-  finds-is a h = finds-in (get s.slots k) refl a h
+  finds-is a h = finds-in (get s.slots k) refl a (h ∙ ap (λ b. found_in b s.writes (get s.slots k)) st.newest)
 
   pub any-is : HasAny es k (is_some (get s.slots k))
   any-is = elim (get s.slots k) as (λ o. get s.slots k ≡ o → HasAny es k (is_some o)) [

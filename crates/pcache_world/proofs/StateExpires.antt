@@ -77,6 +77,7 @@ state-expire es n s k t tidy st = record {
   bodies = λ q. changed-bodies es n s k (expired_at t) st q ∙ sym (complete-expire es k t tidy q);
   filled = still-filled es n s k (expired_at t) st;
   known = st.known;
+  newest = st.newest;
 }
 
 pub state-renew : (es : List Event) (n : ℕ → ℕ) (s : Store) (k : ℕ) (m : Meta) → IsTidy es → IsState es n s → IsState (Renew k m ∷ es) n (meta_set m s k)
@@ -87,4 +88,5 @@ state-renew es n s k m tidy st = record {
   bodies = λ q. changed-bodies es n s k (λ old. in_place_of old m) st q ∙ sym (complete-renew es k m tidy q);
   filled = still-filled es n s k (λ old. in_place_of old m) st;
   known = st.known;
+  newest = st.newest;
 }

@@ -19,6 +19,7 @@ record IsPurged (p : ℕ → ℕ → Bool) (es : List Event) (n : ℕ → ℕ) (
   bodies : (k : ℕ) → complete_body (get s.slots k) ≡ (if option_any (p k) (last_finished k es) then None else complete k es)
   filled : (k : ℕ) (x : Slot) → get s.slots k ≡ Some x → is_idle x ≡ false
   known : (w : ℕ) → 0 < n w → is_some (begin_of w es) ≡ true
+  newest : s.newest ≡ false
 
 both : {A : Type 0} (a b : Bool) (z x : A) → cond b z (if a then z else x) ≡ (if (a || b) then z else x)
 both true true z x = refl
@@ -38,6 +39,7 @@ purged-none es n s st = record {
   bodies = λ k. st.bodies k ∙ sym (whole false (last_finished k es) (λ w. unless_removed (is_removed w es) (begin_of w es) (meta_kept w es) (body_of w es)));
   filled = st.filled;
   known = st.known;
+  newest = st.newest;
 }
 
 -- a test with the same results
@@ -62,6 +64,7 @@ purged-more p es n s j st =
         | false ↦ λ e. st.filled k x (sym e ∙ is)
       ] (get-unset s.slots j k);
       known = st.known;
+      newest = st.newest;
     }
   where
     inside : (w : ℕ) (b : Bool) (o : Option Slot) → is_untouched_in w (cond b None o) ≡ cond b false (is_untouched_in w o)
@@ -127,6 +130,7 @@ purged-one p es n s j m st =
       bodies = λ k. ap complete_body (set k) ∙ under k;
       filled = filled-at s.slots (write_gone_on s.slots j m (get s.slots j)) j (lost_of m (get s.slots j)) set (lost-filled m (get s.slots j)) st.filled;
       known = st.known;
+      newest = st.newest;
     }
   where
     inside : (k w : ℕ) → is_untouched_in w (cond (j == k) (lost_of m (get s.slots j)) (get s.slots k)) ≡ (if p k w || (j == k && m == w) then false else is_open k w es)
@@ -167,6 +171,7 @@ state-purge es n s k tidy st =
       bodies = λ q. p.bodies q ∙ whole (k == q) (last_finished q es) (λ w. unless_removed (is_removed w es) (begin_of w es) (meta_kept w es) (body_of w es)) ∙ sym (complete-purge es k tidy q);
       filled = p.filled;
       known = p.known;
+      newest = p.newest;
     }
 
 -- what goes with one entry
@@ -198,4 +203,5 @@ state-admit es n s t e weight out tidy h st =
       bodies = λ q. p.bodies q ∙ sym (complete-admit es e weight out tidy q);
       filled = p.filled;
       known = p.known;
+      newest = p.newest;
     }

@@ -160,12 +160,13 @@ state-dropped es n s w fly st =
       bodies = λ k. bodies-at s.slots (shut s.slots b.0 w) b.0 (cut_of w (get s.slots b.0)) set (cut-body w (get s.slots b.0)) k ∙ st.bodies k;
       filled = filled-at s.slots (shut s.slots b.0 w) b.0 (cut_of w (get s.slots b.0)) set (cut-filled w (get s.slots b.0)) st.filled;
       known = st.known;
+      newest = st.newest;
     })
 
 pub state-refused : (es : List Event) (n : ℕ → ℕ) (s : Store) (w : ℕ) → in_flight w es ≡ true → IsState es n s → IsState (Finish w false ∷ es) n (dropped s w)
 state-refused es n s w fly st =
     let d = state-dropped es n s w fly st in
-    record { next = d.next; writes = d.writes; untouched = d.untouched; bodies = d.bodies; filled = d.filled; known = d.known }
+    record { next = d.next; writes = d.writes; untouched = d.untouched; bodies = d.bodies; filled = d.filled; known = d.known; newest = d.newest }
 
 -- the slot of a write that stands exists
 standing-slot : (o : Option Slot) (w : ℕ) → is_untouched_in w o ≡ true → (x : Slot) × (o ≡ Some x)
@@ -186,7 +187,7 @@ state-finished es n s w tidy fly kept st =
     let set = get-set s.slots b.0 y in
     let ys : FinMap nat_cmp Slot = insert s.slots b.0 y in
     subst (λ o. IsState (Finish w true ∷ es) n (finished_on s w o)) (sym (record-flying es n s st w b fly f.1))
-    (subst (λ o. IsState (Finish w true ∷ es) n (record { slots = stored_on s.slots b.0 w c o; writes = closed s.writes w (kept_as true (n w) (ev.body_of w es) (is_told w es) b); next = s.next })) (sym g.1) (record {
+    (subst (λ o. IsState (Finish w true ∷ es) n (record { slots = stored_on s.slots b.0 w c o; writes = closed s.writes w (kept_as true (n w) (ev.body_of w es) (is_told w es) b); next = s.next; newest = s.newest })) (sym g.1) (record {
       next = st.next;
       writes = finished-writes es n s st w b f.1;
       untouched = λ k q. ended-untouched es n s st w b f.1 ys (Some y) set (λ q. gone-key x.untouched w q ∙ ap (λ o. cond (w == q) false (is_untouched_in q o)) (sym g.1)) k q ∙ finish-open es w k q;
@@ -195,6 +196,7 @@ state-finished es n s w tidy fly kept st =
           ∙ ap (λ o. if b.0 == k then Some c else o) (st.bodies k) ∙ sym (complete-finish es w b.0 b.1 tidy fly f.1 kept k);
       filled = filled-at s.slots ys b.0 (Some y) set (λ z e. let same : y ≡ z = cc in ap is_idle (sym same)) st.filled;
       known = st.known;
+      newest = st.newest;
     }))
 
 -- ---- the begin of a write
@@ -272,4 +274,5 @@ module _ (es : List Event) (n : ℕ → ℕ) (s : Store) (k : ℕ) (m : Meta) (t
         bodies = λ j. bodies-at s.slots (opened s.slots k s.next) k (Some y) set (new-body (get s.slots k)) j ∙ st.bodies j ∙ sym (ap (λ x. complete j (Begin x k m ∷ es)) st.next ∙ complete-begin es k m tidy j);
         filled = filled-at s.slots (opened s.slots k s.next) k (Some y) set (λ z e. let same : y ≡ z = cc in ap is_idle (sym same) ∙ busy-key y s.next has) st.filled;
         known = λ q lt. elim (s.next == q) as (λ b. is_some (if b then Some (k, numbered s.next m) else begin_of q es) ≡ true) [ true ↦ refl | false ↦ st.known q lt ];
+        newest = st.newest;
       }

@@ -127,6 +127,7 @@ module _ (es : List Event) (n m : ℕ → ℕ) (s : Store) (w : ℕ) (there : is
       | true ↦ λ t. subst (λ x. is_some (begin_of x es) ≡ true) (eqb-true w q t) (record-begun es n s st w there)
       | false ↦ λ f. let e = as_many q f in st.known q (omega arith)
     ] refl;
+    newest = st.newest;
   }
 
 -- one reader less
@@ -153,6 +154,7 @@ module _ (es : List Event) (n m : ℕ → ℕ) (s : Store) (w place : ℕ) (coun
     bodies = st.bodies;
     filled = st.filled;
     known = λ q lt. st.known q (let e = count q in omega arith);
+    newest = st.newest;
   }
 
 pub state-left_by : (es : List Event) (n m : ℕ → ℕ) (s : Store) (reader : Option Reader) → ((q : ℕ) → n q ≡ m q + follows q reader) → IsState es n s → IsState es m (left_by reader s)

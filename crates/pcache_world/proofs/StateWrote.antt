@@ -24,4 +24,5 @@ module _ (es : List Event) (n : ℕ → ℕ) (s : Store) (w : ℕ) (bytes : List
         bodies = λ k. st.bodies k ∙ sym (complete-wrote es w bytes eof tidy fly k);
         filled = st.filled;
         known = st.known;
+        newest = st.newest;
       })

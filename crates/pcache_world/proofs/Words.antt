@@ -3,7 +3,7 @@ pub use Rattle.pcache_base.proofs.Totals.{total-empty, total-insert, total-remov
 pub use Rattle.pcache_base.specs.Key.{Key, slot}
 pub use Rattle.pcache_base.specs.Totals.{share, total}
 pub use Rattle.pcache_base.specs.declared.error.ErrorType.{ErrorType}
-pub use Rattle.pcache_base.specs.declared.error.ErrorType.TheVariants.{IncompleteHttpBody, Io, NumbersExhausted, OutOfMemory, WriteRemoved}
+pub use Rattle.pcache_base.specs.declared.error.ErrorType.TheVariants.{IncompleteHttpBody, Io, NumbersExhausted, OutOfMemory, Superseded, WriteRemoved}
 pub use Rattle.pcache_base.specs.declared.fills.UnusableFill.{UnusableFill}
 pub use Rattle.pcache_base.specs.declared.poll.Poll.{Poll}
 pub use Rattle.pcache_base.specs.declared.poll.Poll.TheVariants.{Pending}

@@ -18,15 +18,15 @@ use Rattle.pcache_world.proofs.Turned.{entries-after, lookup-get, made, named-wo
 use Rattle.pcache_world.proofs.Waiting.{locked-none}
 
 -- with an empty history, no requests and an empty store a world is sound, whatever the manager holds
-sound-empty : (limits : Limits) (start : Tracked) (s : Store) (t : Locks) (age : ℕ) → s ≡ record { slots = empty; writes = empty; next = 0 } → t ≡ no_locks age → IsSound limits start start s t empty []
+sound-empty : (limits : Limits) (start : Tracked) (s : Store) (t : Locks) (age : ℕ) → s ≡ record { slots = empty; writes = empty; next = 0; newest = false } → t ≡ no_locks age → IsSound limits start start s t empty []
 sound-empty limits start s t age is unlocked =
     sound-of limits start start s t empty [] tt refl
-    (state-same [] (λ _. 0) (readers empty) s (λ w. sym (readers-none w)) (state-none s (ap (λ (t : Store). t.slots) is) (ap (λ (t : Store). t.writes) is) (ap (λ (t : Store). t.next) is)))
+    (state-same [] (λ _. 0) (readers empty) s (λ w. sym (readers-none w)) (state-none s (ap (λ (t : Store). t.slots) is) (ap (λ (t : Store). t.writes) is) (ap (λ (t : Store). t.next) is) (ap (λ (t : Store). t.newest) is)))
     open-none (locked-none age t unlocked)
     (subst (IsTable [] (read_locks empty)) (sym unlocked) (subst (λ f. IsTable [] f (no_locks age)) (λ i l. sym (locks-none l) i) (table-none age)))
     (λ r x is. let no : ◌≡◌ {A = Option Ongoing} None (Some x) = sym (get-empty nat_cmp r) ∙ is in absurd (cc))
 
-pub sound-new : (limits : Limits) (start : Tracked) (s : Store) (t : Locks) (age : ℕ) (all : List (ℕ × Ongoing)) (h : List Entry) → s ≡ record { slots = empty; writes = empty; next = 0 } → t ≡ no_locks age → all ≡ [] → h ≡ []
+pub sound-new : (limits : Limits) (start : Tracked) (s : Store) (t : Locks) (age : ℕ) (all : List (ℕ × Ongoing)) (h : List Entry) → s ≡ record { slots = empty; writes = empty; next = 0; newest = false } → t ≡ no_locks age → all ≡ [] → h ≡ []
     → IsSound limits start start s t (from_entries {R = nat_cmp} all) (reverse h)
 sound-new limits start s t age all h is unlocked none new =
     subst (λ (es : List (ℕ × Ongoing)). IsSound limits start start s t (from_entries {R = nat_cmp} es) (reverse h)) (sym none)

@@ -77,4 +77,4 @@ facts_of p x = facts_in p.store p.locks x
 
 -- the facts for a call that asks for none
 abbrev pub no_facts : Facts
-no_facts = facts_in (record { slots = map.empty; writes = map.empty; next = 0 }) (no_locks 0) new_request
+no_facts = facts_in (record { slots = map.empty; writes = map.empty; next = 0; newest = false }) (no_locks 0) new_request

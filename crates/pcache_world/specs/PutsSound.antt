@@ -1,5 +1,5 @@
 -- For the prover: the stage of a put after its pieces, as the code keeps it (own).
-use Rattle.std.specs.Prelude.{◌≡◌, ℕ, true, Option, None, Some, List}
+use Rattle.std.specs.Prelude.{◌≡◌, ℕ, true, false, Option, None, Some, List}
 use Rattle.std.specs.Ordering.{nat_cmp}
 use Rattle.std.specs.FinMap as map
 use Rattle.pcache_put.specs.Puts.{Piece, Says}
@@ -47,9 +47,10 @@ abbrev pub EndedIn : Store → Option Ongoing → List Piece → Type 0
 EndedIn s None pieces = Unit {0}
 EndedIn s (Some x) pieces = HasEnded s x x.put pieces
 
--- a put that has taken in some pieces, and whose end was announced only with the whole body
+-- a put that has taken in some pieces, and whose end was announced only with the whole body; and a look-up in the store finds the
+-- write that began first
 abbrev pub HasSome : Says → Store → Option Ongoing → Type 0
-HasSome says s q = (pieces : List Piece) × (f : Option Filled) × TakenIn says q pieces f × EndedIn s q pieces
+HasSome says s q = (pieces : List Piece) × (f : Option Filled) × TakenIn says q pieces f × EndedIn s q pieces × (s.newest ≡ false)
 
 -- the invariant of a world's puts
 pub record PutsSound (says : Says) (all : map.FinMap nat_cmp Ongoing) (h : List Entry) : Type 0 where

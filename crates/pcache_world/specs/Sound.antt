@@ -58,6 +58,8 @@ pub record IsState (es : List Event) (n : ℕ → ℕ) (s : Store) : Type 0 wher
   pub filled : (k : ℕ) (x : Slot) → map.get s.slots k ≡ Some x → is_idle x ≡ false
   -- only a write that was begun is read
   pub known : (w : ℕ) → 0 < n w → is_some (begin_of w es) ≡ true
+  -- a look-up finds the write that began first
+  pub newest : s.newest ≡ false
 
 -- each open request is as the entries that name it leave it, except for what its read lock was told
 abbrev pub AreOpen : List Entry → map.FinMap nat_cmp Ongoing → Type 0

@@ -1,8 +1,8 @@
 //! A line of the input: a request, and what the origin would answer to it.
 use http::{Method, StatusCode};
 use http_header::{HeaderMap, HeaderName, HeaderValue};
-use pcache::header::{HttpVersion, RequestHeader, ResponseHeader};
-use pcache::moment::Moment;
+use pingora_cache::header::{HttpVersion, RequestHeader, ResponseHeader};
+use pingora_cache::moment::Moment;
 use std::alloc::Global;
 
 /// A request, and what the origin would answer.

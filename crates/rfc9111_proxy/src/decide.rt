@@ -1,13 +1,17 @@
-//! What RFC 9111 says of a request: nothing but the two calls of `pcache::decisions`.
+//! What RFC 9111 says of a request: nothing but the two calls of `pingora_cache::decisions`.
 use crate::asked::Asked;
-use pcache::CacheMeta;
-use pcache::decisions::requests::{Decision, Served, decide_request};
-use pcache::decisions::responses::{Outcome, Stale, Validating, after_failure, decide_response};
-use pcache::decisions::stored::{StoredResponse, of_meta};
-use pcache::error::Result;
-use pcache::header::ResponseHeader;
+use crate::kept::original_of;
 use pcache_http::rules::Rules;
 use pcache_validation::updating::StoredBody;
+use pingora_cache::CacheMeta;
+use pingora_cache::decisions::requests::{Decision, Served, decide_request};
+use pingora_cache::decisions::responses::{
+    Outcome, Stale, Validating, after_failure, decide_response,
+};
+use pingora_cache::decisions::stored::StoredResponse;
+use pingora_cache::error::Result;
+use pingora_cache::header::ResponseHeader;
+use std::alloc::Global;
 
 /// What is to be done for a request.
 #[derive(Drop)]
@@ -24,11 +28,17 @@ pub enum Step {
     NoAnswer,
 }
 
-/// What is to be done with this meta stored. The cache finds what is stored by the request's key, with its
-/// variance if it has one: so what it finds was stored for a request with the same fields.
-pub fn with_stored(asked: &Asked, meta: &CacheMeta) -> Result<Step> {
+/// What is to be done with this meta stored. A response with a Vary may have been stored for a request with other fields, and then
+/// answers this one not: its meta says which fields that request had.
+pub fn with_stored(alloc: Global, asked: &Asked, meta: &CacheMeta) -> Result<Step> {
+    let original = original_of(alloc, meta.response_header())?;
     let stored = Validating {
-        stored: of_meta(meta, &asked.head.headers, meta.updated()),
+        stored: StoredResponse {
+            head: &original.head,
+            original: &original.asked,
+            requested: meta.updated(),
+            received: meta.updated(),
+        },
         alone: true,
         body: StoredBody::AsReceived,
     };

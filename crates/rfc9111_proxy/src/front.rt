@@ -1,13 +1,15 @@
 //! The cache of the proxy, and requests of it.
 ghost use Rattle.std.specs.Prelude.{◌≡◌, IfOk, true};
-ghost use Rattle.pcache.specs.Words.{CacheKey};
+ghost use Rattle.pingora_cache.specs.Words.{CacheKey};
 
-use pcache::decisions::responses::Kept;
-use pcache::error::Result;
-use pcache::eviction::simple_lru::Manager;
-use pcache::moment::Moment;
-use pcache::seed::Seed;
-use pcache::{Cache, CacheMeta, CacheRequest};
+use crate::kept::with_asked;
+use http_header::HeaderMap;
+use pingora_cache::decisions::responses::Kept;
+use pingora_cache::error::Result;
+use pingora_cache::eviction::simple_lru::Manager;
+use pingora_cache::moment::Moment;
+use pingora_cache::seed::Seed;
+use pingora_cache::{Cache, CacheMeta, CacheRequest};
 use std::alloc::Global;
 use std::time::Duration;
 
@@ -42,15 +44,18 @@ pub fn request_for(alloc: Global, target: &[u8]) -> Result<Request>
     let mut request = CacheRequest::new(alloc);
     request
         .cache
-        .set_cache_key(pcache::CacheKey::new(primary, String::new(alloc)));
+        .set_cache_key(pingora_cache::CacheKey::new(primary, String::new(alloc)));
     Ok(request)
 }
 
-/// The meta of what is stored from this moment on.
-pub fn meta_of(kept: Kept, now: Moment) -> CacheMeta {
+/// The meta of what is stored from this moment on, for a request with these fields.
+pub fn meta_of(alloc: Global, kept: Kept, asked: &HeaderMap, now: Moment) -> Result<CacheMeta> {
     let fresh = Duration::from_secs(u64::from(kept.lifetime.seconds()));
     let fresh_until = now
         .checked_add(fresh)
         .unwrap_or(Moment::from_secs(FOREVER_SECS));
-    CacheMeta::new(fresh_until, now, 0, 0, kept.head)
+    let mut head = kept.head;
+    let headers = with_asked(alloc, &head.headers, asked)?;
+    head.headers = headers;
+    Ok(CacheMeta::new(fresh_until, now, 0, 0, head))
 }

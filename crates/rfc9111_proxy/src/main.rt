@@ -9,11 +9,12 @@
 mod asked;
 mod decide;
 mod front;
+mod kept;
 mod serve;
 
 use anyhow::Result;
 use front::ProxyCache;
-use pcache::seed::Seed;
+use pingora_cache::seed::Seed;
 use std::random::RandomSource;
 
 // All bodies together have at most so many bytes.

@@ -1,18 +1,17 @@
 //! The way of a request: what was decided of it is done to the cache.
 ghost use Rattle.std.specs.Prelude.{◌≡◌, true};
-ghost use Rattle.pcache.specs.Words.{CacheKey, MayMiss};
+ghost use Rattle.pingora_cache.specs.Words.{CacheKey, MayMiss};
 
 use crate::asked::Asked;
 use crate::decide::{Step, with_stored, without_stored};
 use crate::front::{ProxyCache, Request, meta_of, request_for};
 use bytes::Bytes;
 use http::Method;
-use pcache::HitStatus;
-use pcache::decisions::requests::{Answer, Reuse, Served};
-use pcache::decisions::responses::{Freshened, Kept, Outcome};
-use pcache::error::Result;
-use pcache::moment::Moment;
 use pcache_http::storing::{NotStoredFor, Storing};
+use pingora_cache::HitStatus;
+use pingora_cache::decisions::requests::{Answer, Reuse, Served};
+use pingora_cache::decisions::responses::{Freshened, Kept, Outcome};
+use pingora_cache::error::Result;
 
 /// What the proxy did.
 #[derive(Clone, Copy, Debug)]
@@ -57,7 +56,7 @@ fn pass_through(cache: &mut ProxyCache, request: &mut Request, asked: &Asked) ->
     requires uses { request.old.cache.uses.eviction ≡ true }
 {
     let step = without_stored(asked)?;
-    done(cache, request, asked.now, step)
+    done(cache, request, asked, step)
 }
 
 fn look_up(cache: &mut ProxyCache, request: &mut Request, asked: &Asked) -> Result<Told>
@@ -66,16 +65,16 @@ fn look_up(cache: &mut ProxyCache, request: &mut Request, asked: &Asked) -> Resu
 {
     let Some((meta, hit)) = cache.cache_lookup_without_policy(request, asked.now)? else {
         let step = without_stored(asked)?;
-        return done(cache, request, asked.now, step);
+        return done(cache, request, asked, step);
     };
-    match with_stored(asked, &meta) {
+    match with_stored(cache.alloc(), asked, &meta) {
         Ok(Step::Serve(served)) => {
             cache.cache_found(request, meta, hit, HitStatus::Fresh, asked.now)?;
             Ok(from_cache(served))
         }
         Ok(step) => {
             cache.cache_found(request, meta, hit, HitStatus::Expired, asked.now)?;
-            done(cache, request, asked.now, step)
+            done(cache, request, asked, step)
         }
         Err(refused) => {
             cache.let_go(hit);
@@ -89,14 +88,14 @@ fn from_cache(served: Served) -> Told {
     Told::FromCache(served.reuse, served.age, served.answer)
 }
 
-fn done(cache: &mut ProxyCache, request: &mut Request, now: Moment, step: Step) -> Result<Told>
+fn done(cache: &mut ProxyCache, request: &mut Request, asked: &Asked, step: Step) -> Result<Told>
     requires phase { MayMiss request.old.cache.phase }
     requires uses { request.old.cache.uses.eviction ≡ true }
 {
     match step {
         Step::Serve(served) => Ok(from_cache(served)),
         Step::OnlyIfCached504 => Ok(Told::OnlyIfCached504),
-        Step::Answered(outcome) => by_outcome(cache, request, now, outcome),
+        Step::Answered(outcome) => by_outcome(cache, request, asked, outcome),
         Step::Stale(stale) => Ok(Told::InPlaceOfAnError(stale.age)),
         Step::NoAnswer => Ok(Told::NoAnswer),
     }
@@ -105,16 +104,16 @@ fn done(cache: &mut ProxyCache, request: &mut Request, now: Moment, step: Step) 
 fn by_outcome(
     cache: &mut ProxyCache,
     request: &mut Request,
-    now: Moment,
+    asked: &Asked,
     outcome: Outcome,
 ) -> Result<Told>
     requires phase { MayMiss request.old.cache.phase }
     requires uses { request.old.cache.uses.eviction ≡ true }
 {
     match outcome {
-        Outcome::Store(kept) => store(cache, request, kept, now),
-        Outcome::Freshen(freshened) => freshen(cache, request, freshened, now),
-        Outcome::Update(kept) => update(cache, request, kept, now),
+        Outcome::Store(kept) => store(cache, request, kept, asked),
+        Outcome::Freshen(freshened) => freshen(cache, request, freshened, asked),
+        Outcome::Update(kept) => update(cache, request, kept, asked),
         Outcome::FetchAgain => Ok(Told::AsksAgain),
         Outcome::ServeStale(stale) => Ok(Told::InPlaceOfAnError(stale.age)),
         Outcome::MarkStale | Outcome::Invalidate => remove(cache, request),
@@ -123,7 +122,7 @@ fn by_outcome(
 }
 
 // The body would come from the origin in pieces.
-fn store(cache: &mut ProxyCache, request: &mut Request, kept: Kept, now: Moment) -> Result<Told>
+fn store(cache: &mut ProxyCache, request: &mut Request, kept: Kept, asked: &Asked) -> Result<Told>
     requires phase { MayMiss request.old.cache.phase }
     requires uses { request.old.cache.uses.eviction ≡ true }
 {
@@ -131,8 +130,9 @@ fn store(cache: &mut ProxyCache, request: &mut Request, kept: Kept, now: Moment)
         return Ok(Told::Waits);
     }
     let seconds = kept.lifetime.seconds();
+    let meta = meta_of(cache.alloc(), kept, &asked.head.headers, asked.now)?;
     request.cache.cache_miss();
-    request.cache.set_cache_meta(meta_of(kept, now));
+    request.cache.set_cache_meta(meta);
     cache.set_miss_handler(request)?;
     cache.write_body(request, Bytes::from_static(b"a page"), true)?;
     cache.finish_miss_handler(request)?;
@@ -144,18 +144,24 @@ fn freshen(
     cache: &mut ProxyCache,
     request: &mut Request,
     freshened: Freshened,
-    now: Moment,
+    asked: &Asked,
 ) -> Result<Told> {
     match freshened.storing {
-        Storing::Stored => update(cache, request, freshened.kept, now),
+        Storing::Stored => update(cache, request, freshened.kept, asked),
         Storing::NotStored(reason) => Ok(Told::PassedOn(reason)),
     }
 }
 
-fn update(cache: &mut ProxyCache, request: &mut Request, kept: Kept, now: Moment) -> Result<Told> {
+fn update(
+    cache: &mut ProxyCache,
+    request: &mut Request,
+    kept: Kept,
+    asked: &Asked,
+) -> Result<Told> {
     let seconds = kept.lifetime.seconds();
+    let meta = meta_of(cache.alloc(), kept, &asked.head.headers, asked.now)?;
     if request.cache.may_revalidate() {
-        cache.revalidate_cache_meta(request, meta_of(kept, now))?;
+        cache.revalidate_cache_meta(request, meta)?;
     }
     Ok(Told::Updated(seconds))
 }

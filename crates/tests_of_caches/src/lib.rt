@@ -18,12 +18,15 @@ mod loaded;
 mod locks;
 #[cfg(test)]
 mod managers;
+mod newest;
 #[cfg(test)]
 mod puts;
 #[cfg(test)]
 mod refills;
 #[cfg(test)]
 mod requests;
+#[cfg(test)]
+mod responses;
 #[cfg(test)]
 mod room;
 #[cfg(test)]

@@ -228,8 +228,8 @@ const ROWS: &str = "
     limit 10: store 0 4, store 1 4, store 0 8 -> 0, 0, 0, 8 in 1, 8 of 1 tracked, 4 of 1 went
     # a body that has no room by itself goes, and the one that it replaced has gone
     limit 4: store 0 4, store 0 5 -> 0, 0, 0 in 0, 0 of 0 tracked, 5 of 1 went
-    # the write that began first ends last
-    limit 10: race 0 4 -> +, 4 in 1, 4 of 1 tracked, 0 of 0 went
+    # the write that began first does not replace what began after it
+    limit 10: race 0 4 -> -, 2 in 1, 2 of 1 tracked, 0 of 0 went
     limit 10: store 0 4, remove 0, store 0 4 -> 0, +, 0, 4 in 1, 4 of 1 tracked, 0 of 0 went
     # a hit that is taken after its body was purged adds nothing
     limit 10: store 0 4, late 0 -> 0, +, 0 in 0, 0 of 0 tracked, 0 of 0 went";

@@ -3,7 +3,7 @@
 use crate::calls::{begins, end, finishes, misses, opens, read, takes, writes};
 use crate::requests::{OfTest, Request};
 use crate::wholes::{fill, find, purge, renew};
-use crate::{heads, locks, puts, refills};
+use crate::{heads, locks, puts, refills, responses};
 use pcache_base::moment::Moment;
 use pcache_cache::{Cache, CacheRequest, Weighing};
 use pcache_evict::eviction::EvictionManager;
@@ -106,6 +106,10 @@ fn tell_of_request<M: EvictionManager>(
         "limit-head" | "head" | "disable" => {
             let (cache, request) = room.at(of);
             heads::tell(cache, request, call, told);
+        }
+        "stale" | "renew" | "version" => {
+            let (cache, request) = room.at(of);
+            responses::tell(cache, request, call, told);
         }
         _ => {
             let (cache, request) = room.at(of);

@@ -15,8 +15,8 @@ use std::io::ErrorKind;
 use std::process::Abort;
 use std::test::Fail;
 
-// Runs the calls of a row, in which a reply follows each call that has one, and compares the
-// replies, the status and the error output.
+// Runs the calls of a row, in which a reply follows each call that has one, its lines joined by `; `, and compares
+// the replies, the status and the error output.
 fn check<R: Abort + Files>(
     rt: &R,
     alloc: Global,
@@ -35,8 +35,10 @@ fn check<R: Abort + Files>(
         match line.split_once(" -> ") {
             Some((call, reply)) => {
                 script.push_str(call)?;
-                replies.push_str(reply)?;
-                replies.push_str("\n")?;
+                for told in reply.split("; ") {
+                    replies.push_str(told)?;
+                    replies.push_str("\n")?;
+                }
             }
             None => script.push_str(line)?,
         }
@@ -69,6 +71,32 @@ fn first_run(rt: HostRuntime) -> Result<(), Fail> {
         write 1 hi -> ok\n\
         finish 1 -> stored 2 evicted 0\n";
     check(&rt, rt.alloc(), &["4"], row, 0, "")
+}
+
+#[test]
+fn torment_tells_all_of_each_call(rt: HostRuntime) -> Result<(), Fail> {
+    let row =
+        "open 1 -> ok; noted ok; stored 0 slots 0 weight 0 items 0 evicted 0 size 0; entries 1\n\
+        key 1 aa 1 -> ok; noted ok; stored 0 slots 0 weight 0 items 0 evicted 0 size 0; entries 2\n\
+        look 1 -> none write; noted none write; look ac10f2aef117729f8dad056b3059eb7e nothing; \
+        ask ac10f2aef117729f8dad056b3059eb7e 0 true; \
+        stored 0 slots 0 weight 0 items 0 evicted 0 size 0; entries 3\n\
+        miss 1 -> ok; noted ok; stored 0 slots 0 weight 0 items 0 evicted 0 size 0; entries 4\n\
+        meta 1 60 -> ok; noted ok; stored 0 slots 0 weight 0 items 0 evicted 0 size 0; entries 5\n\
+        begin 1 -> ok; noted ok; begin 0 ac10f2aef117729f8dad056b3059eb7e 60000000000,0,0,0,0,none; \
+        release 0; stored 0 slots 0 weight 0 items 0 evicted 0 size 0; entries 6\n\
+        write 1 hi -> ok; noted ok; wrote 0 hi false; \
+        stored 0 slots 0 weight 0 items 0 evicted 0 size 0; entries 7\n\
+        finish 1 -> stored 2 evicted 0; noted stored 2 evicted 0; finish 0 true; \
+        admit ac10f2aef117729f8dad056b3059eb7e/1/0 2; \
+        stored 2 slots 1 weight 2 items 1 evicted 0 size 0; entries 8\n";
+    let alloc = rt.alloc();
+    check(&rt, alloc, &["torment", "simple", "4"], row, 0, "")?;
+    check(&rt, alloc, &["torment", "shards", "4", "9"], row, 0, "")?;
+    let end = "bad arguments\n";
+    check(&rt, alloc, &["torment", "4"], "", 1, end)?;
+    check(&rt, alloc, &["torment", "other", "4"], "", 1, end)?;
+    check(&rt, alloc, &["torment"], "", 1, end)
 }
 
 #[test]

@@ -4,7 +4,7 @@ ghost use Rattle.pcache_request.specs.declared.phase.CachePhase.TheVariants.{Cac
 
 use crate::seats::{Lists, Request, begins, key_of, lists_of, request_for, writes};
 use bytes::Bytes;
-use pcache_base::error::Result;
+use pcache_base::error::{ErrorType, Result};
 use pcache_base::moment::Moment;
 use pcache_base::poll::Poll;
 use pcache_control::RespCacheable;
@@ -148,7 +148,11 @@ fn goes_well<R: Wait>(rt: &R, cache: &Lists, worker: usize) -> bool {
         1 => pushes(rt, cache, "HTTP/1.1 200 OK\r\n|\r\nyy|yy"),
         _ => is_served(rt, cache),
     };
-    matches!(went, Ok(true))
+    match went {
+        Ok(went) => went,
+        // What began later has ended, and stands.
+        Err(refused) => matches!(refused.etype(), ErrorType::Superseded),
+    }
 }
 
 fn work<R: Wait>(rt: &R, cache: &Lists, worker: usize) -> u32 {

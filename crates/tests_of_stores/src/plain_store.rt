@@ -8,7 +8,7 @@ ghost use Rattle.pcache_meta.specs.Meta.{Meta};
 ghost use Rattle.pcache_store.specs.Finishes.{created};
 ghost use Rattle.pcache_store.specs.Purge.{target_key};
 ghost use Rattle.pcache_store.specs.Refusals.{MayFailFinish};
-ghost use Rattle.pcache_store.specs.Store.{Reader, Whole, Part, found_part, joined, left, wrote, dropped, finished, is_untouched, is_untouched_in, sought};
+ghost use Rattle.pcache_store.specs.Store.{Reader, Whole, Part, found_part, joined, left, wrote, dropped, finished, is_superseded, is_untouched, is_untouched_in, sought};
 ghost use Rattle.pcache_store.specs.Tag.{named_by, number_of_tag};
 
 mod numbered;
@@ -52,7 +52,7 @@ impl Model for PlainStore {
 
     ghost coded = { store_code };
 
-    ghost view = { λ a. record { slots = a.slots; writes = a.writes.writes; next = a.writes.next } };
+    ghost view = { λ a. record { slots = a.slots; writes = a.writes.writes; next = a.writes.next; newest = false } };
 }
 
 /// A reader of a complete body, which gives a range of it in one piece.
@@ -219,7 +219,8 @@ fn number_named_by(tag: Option<&[u8]>) -> Option<u128>
 impl PlainStore {
     /// A store with nothing in it.
     pub fn new(alloc: Global) -> PlainStore
-        ensures { result ≡ record { slots = map.empty; writes = map.empty; next = 0 } }
+        ensures { result
+            ≡ record { slots = map.empty; writes = map.empty; next = 0; newest = false } }
     {
         PlainStore {
             alloc,
@@ -273,6 +274,7 @@ impl PlainStore {
         ensures answer { IfOk result (λ f. f ≡ created self.old number) }
         ensures ok { OnOk result (self.new ≡ finished self.old number) }
         ensures untouched { OnOk result (is_untouched self.old number ≡ true) }
+        ensures newest { OnOk result (is_superseded self.old number ≡ false) }
         ensures kind { IfErr result (λ e. MayFailFinish self.old number e) }
         ensures err { OnErr result (self.new ≡ dropped self.old number) }
     {

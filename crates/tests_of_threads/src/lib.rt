@@ -2,7 +2,7 @@
 //! Tests of worlds that threads share. What a test waits for is counted, so that each ends by itself.
 //! Expected replies are hand-computed from the definitions.
 //!
-//! `surface` has no test: it names every public item once, of all that `pingora_cache` hands on. It stands here since these tests
+//! `surface` has no test: it names every public item once, of what `pingora_cache` hands on, of worlds and of tables in shards. It stands here since these tests
 //! are over the most crates.
 
 #[cfg(test)]

@@ -49,7 +49,7 @@ pub mod filters {
 
 /// Tables in shards.
 pub mod hashtable {
-    pub use pingora_cache::hashtable::{
+    pub use pcache_table::hashtable::{
         ConcurrentHashTable, ConcurrentLruCache, LruLock, LruShard, LruShards, Shard, ShardLock,
         Shards, Table, WriteGuard,
     };
@@ -141,20 +141,18 @@ pub mod own {
 
 /// Worlds and their histories.
 pub mod world {
-    pub use pingora_cache::world::call::{Act, Call, LockKind, Reply, RequestAct};
-    pub use pingora_cache::world::entry::{Answer, Entries, Entry, Event, Events};
-    pub use pingora_cache::world::laws::{
+    pub use pcache_world::world::call::{Act, Call, LockKind, Reply, RequestAct};
+    pub use pcache_world::world::entry::{Answer, Entries, Entry, Event, Events};
+    pub use pcache_world::world::laws::{
         finds_exactly, finishes_exactly, found_is_numbered, hands_on_exactly, hits_read_the_last,
         is_wrong_exactly, looks_are_true, puts_are_written, reads_a_beginning, reads_are_true,
         settles_at_once, stored_is_within_limits,
     };
-    pub use pingora_cache::world::policy::{BySelf, PutPolicy};
-    pub use pingora_cache::world::{Totals, World};
+    pub use pcache_world::world::policy::{BySelf, PutPolicy};
+    pub use pcache_world::world::{Totals, World};
 }
 
 /// Worlds that threads share.
 pub mod shared_world {
-    pub use pingora_cache::shared_world::{
-        Gate, Opening, Receipt, Share, SharedWorld, run_workers,
-    };
+    pub use pcache_shared_world::{Gate, Opening, Receipt, Share, SharedWorld, run_workers};
 }

@@ -59,6 +59,7 @@ fn is_named(alloc: Global, e: &Error) -> bool {
 
 fn kinds_have_names() -> bool {
     ErrorType::Io.as_str() == "Io"
+        && ErrorType::Superseded.as_str() == "Superseded"
         && NoCacheReason::OriginNotCache.as_str() == "OriginNotCache"
         && NoCacheReason::Custom("mine").as_str() == "mine"
 }

@@ -6,7 +6,7 @@ ghost use Rattle.pcache_base.specs.CompactKey.{compact_of};
 ghost use Rattle.pcache_evict.specs.Tracked.{evicted_with};
 ghost use Rattle.pcache_store.specs.Purge.{entry_purged};
 ghost use Rattle.pcache_store.specs.Refusals.{MayFailFinish};
-ghost use Rattle.pcache_store.specs.Store.{dropped, finished, is_untouched};
+ghost use Rattle.pcache_store.specs.Store.{dropped, finished, is_superseded, is_untouched};
 ghost use Rattle.pcache_request.specs.Finishing.{PurgesAll, Admits, TakesAll, size_reported, with_entry};
 ghost use Rattle.pcache_request.specs.Replacing.{tracked_before, weighed, without_entry};
 ghost use Rattle.pcache_request.specs.Reports.{entry_stored};
@@ -170,6 +170,8 @@ fn finish_writer<S: Storage>(
         ≡ noted (Some (Finished (S.Miss.write writer))) (S.past storage.old)) }
     ensures untouched { OnOk result (is_untouched (S.state storage.old) (S.Miss.write writer)
         ≡ true) }
+    ensures newest { OnOk result (is_superseded (S.state storage.old) (S.Miss.write writer)
+        ≡ false) }
     ensures err { OnErr result (S.state storage.new
         ≡ dropped (S.state storage.old) (S.Miss.write writer)) }
     ensures drop_past { OnErr result (S.past storage.new

@@ -1,7 +1,7 @@
 //! The data of a store in memory, and its calls; it keeps no past.
 ghost use Rattle.std.specs.Prelude.{◌≡◌, ◌<◌, ◌^◌, ℕ, Option, Some, None, IsOk, IsSome, IfOk, IfErr, OnOk, OnErr, option_map, option_copied, is_some, false, true};
 ghost use Rattle.std.specs.FinMap as map;
-ghost use Rattle.pcache_base.specs.declared.error.ErrorType.TheVariants.{WriteRemoved};
+ghost use Rattle.pcache_base.specs.declared.error.ErrorType.TheVariants.{Superseded, WriteRemoved};
 ghost use Rattle.pcache_base.specs.Key.{slot};
 ghost use Rattle.pcache_table.specs.Sharding.{part_of};
 ghost use Rattle.pcache_store.specs.declared.storage.PurgeOutcome.TheVariants.{Expired};
@@ -11,7 +11,7 @@ ghost use Rattle.pcache_store.specs.Purge.{expire_outcome, expired_at, slot_expi
 ghost use Rattle.pcache_store.specs.Refusals.{MayFailFinish, MayFailWrite};
 ghost use Rattle.pcache_store.specs.Readers.{if_complete, reader_of, slot_named};
 ghost use Rattle.pcache_store.specs.Shards.{of_shard};
-ghost use Rattle.pcache_store.specs.Store.{begun, complete_body, dropped, find, find_write, finished, followed, found_part, is_untouched, is_write_under, joined, left_on, meta_set, wrote};
+ghost use Rattle.pcache_store.specs.Store.{begun, complete_body, dropped, find, find_write, finished, followed, found_part, is_superseded, is_untouched, is_write_under, joined, left_on, meta_set, wrote};
 ghost use Rattle.pcache_store.specs.Tag.{named_by};
 ghost use Rattle.pcache_store.specs.Totals.{stored_bytes, slots};
 
@@ -43,6 +43,7 @@ pub(super) struct BareStore {
     alloc: Global,
     slots: Slots,
     drafts: Drafts,
+    newest: bool,
 }
 
 impl Model for BareStore {
@@ -53,29 +54,33 @@ impl Model for BareStore {
 
     ghost coded = { store_code };
 
-    ghost view = { λ a. record { slots = a.slots; writes = a.drafts.writes; next = a.drafts.next } };
+    ghost view = { λ a. record { slots = a.slots; writes = a.drafts.writes; next = a.drafts.next; newest = a.newest } };
 }
 
 impl BareStore {
-    /// An empty store. Its tables hash under the seed, on which no result depends.
-    pub fn new(alloc: Global, seed: Seed) -> BareStore
-        ensures { result ≡ record { slots = map.empty; writes = map.empty; next = 0 } }
+    /// An empty store, which prefers the newest response or not. Its tables hash under the seed, on which no result depends.
+    pub fn new(alloc: Global, seed: Seed, newest: bool) -> BareStore
+        ensures { result
+            ≡ record { slots = map.empty; writes = map.empty; next = 0; newest = newest } }
     {
         BareStore {
             alloc,
             slots: Slots::new(alloc, seed),
             drafts: Drafts::new(alloc, seed),
+            newest,
         }
     }
 
     /// An empty store whose next write has this number, so that the last numbers can be tried.
     pub fn starting_at(alloc: Global, seed: Seed, next: u64) -> BareStore
-        ensures { result ≡ record { slots = map.empty; writes = map.empty; next = next } }
+        ensures { result
+            ≡ record { slots = map.empty; writes = map.empty; next = next; newest = false } }
     {
         BareStore {
             alloc,
             slots: Slots::new(alloc, seed),
             drafts: Drafts::starting_at(alloc, seed, next),
+            newest: false,
         }
     }
 
@@ -170,7 +175,7 @@ impl BareStore {
         let Some(there) = self.slots.get(slot) else {
             return Ok(None);
         };
-        if let Some(number) = there.least() {
+        if let Some(number) = there.first(self.newest) {
             return self.spelled_of(slot, number);
         }
         let Some(body) = there.body() else {
@@ -187,7 +192,7 @@ impl BareStore {
         let Some(there) = self.slots.get(key.slot()) else {
             return Ok(None);
         };
-        if there.least().is_some() {
+        if there.first(self.newest).is_some() {
             return Ok(None);
         }
         let Some(body) = there.body() else {
@@ -279,6 +284,7 @@ impl BareStore {
         ensures answer { IfOk result (λ f. f ≡ created self.old number) }
         ensures ok { OnOk result (self.new ≡ finished self.old number) }
         ensures untouched { OnOk result (is_untouched self.old number ≡ true) }
+        ensures newest { OnOk result (is_superseded self.old number ≡ false) }
         ensures kind { IfErr result (λ e. MayFailFinish self.old number e) }
         ensures err { OnErr result (self.new ≡ dropped self.old number) }
     {
@@ -290,6 +296,10 @@ impl BareStore {
             // So its readers are cut off, and are not told that the body is whole.
             self.drop_write(slot, number);
             return Err(Error::new(ErrorType::WriteRemoved));
+        }
+        if self.newest && self.slots.has_later_body(slot, number) {
+            self.drop_write(slot, number);
+            return Err(Error::new(ErrorType::Superseded));
         }
         let alloc = self.alloc;
         match self.drafts.end(alloc, slot, number) {
@@ -381,7 +391,7 @@ impl BareStore {
         let Some(held) = self.slots.get(slot) else {
             return Ok(None);
         };
-        if let Some(number) = held.least() {
+        if let Some(number) = held.first(self.newest) {
             return self.follow(alloc, slot, number);
         }
         let Some(body) = held.body() else {

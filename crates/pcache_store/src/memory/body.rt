@@ -2,9 +2,8 @@
 ghost use Rattle.std.specs.Prelude.{◌≡◌, ◌<◌, ◌^◌, ℕ, Option, Some, None, List, IfOk, OnOk, OnErr, length, option_map, is_some, is_none, true};
 ghost use Rattle.std.specs.FinMap as map;
 ghost use Rattle.pcache_meta.specs.Meta as meta_of;
-ghost use Rattle.pcache_table.specs.Numbers.{least};
 ghost use Rattle.pcache_store.specs.Kept.{head_size};
-ghost use Rattle.pcache_store.specs.Store.{opened_in, found_body, is_idle, with_meta, has_write, number_of_body, body_with, slot_without};
+ghost use Rattle.pcache_store.specs.Store.{opened_in, first_in, found_body, is_idle, is_later, later_than, with_meta, has_write, number_of_body, body_with, slot_without};
 
 use crate::memory::found::FoundBody;
 use crate::memory::untouched::Untouched;
@@ -105,6 +104,33 @@ pub(crate) fn head_len(meta: &SpelledMeta) -> usize
     header.len()
 }
 
+// A write's number, if it is greater than that of a complete body's write.
+fn later_than(body: Option<CacheEntryId>, number: Option<u64>) -> Option<u64>
+    ensures { result ≡ later_than body number }
+{
+    let Some(body) = body else {
+        return number;
+    };
+    let Some(number) = number else {
+        return None;
+    };
+    if body.get() < number {
+        Some(number)
+    } else {
+        None
+    }
+}
+
+// Whether there is a number, and it is greater.
+pub(crate) fn is_later(number: u64, other: Option<CacheEntryId>) -> bool
+    ensures { result ≡ is_later number other }
+{
+    match other {
+        Some(other) => number < other.get(),
+        None => false,
+    }
+}
+
 /// The slot of a key: its complete body, and the numbers of its writes in flight that met no
 /// removal.
 #[derive(Drop)]
@@ -140,10 +166,15 @@ impl KeySlot {
         self.body.as_ref()
     }
 
-    pub(crate) fn least(&self) -> Option<u64>
-        ensures { result ≡ least self.now.untouched }
+    // The write in flight that a look-up finds, if it finds one; it may prefer the newest response.
+    pub(crate) fn first(&self, newest: bool) -> Option<u64>
+        ensures { result ≡ first_in newest self.now }
     {
-        self.untouched.least()
+        if newest {
+            later_than(self.entry_id(), self.untouched.greatest())
+        } else {
+            self.untouched.least()
+        }
     }
 
     pub(crate) fn is_untouched(&self, number: u64) -> bool

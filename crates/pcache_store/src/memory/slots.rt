@@ -4,10 +4,10 @@ ghost use Rattle.std.specs.FinMap as map;
 ghost use Rattle.pcache_meta.specs.Meta as meta_of;
 ghost use Rattle.pcache_base.specs.Totals.{total, share};
 ghost use Rattle.pcache_table.specs.Sharding.{part_of};
-ghost use Rattle.pcache_store.specs.Store.{Stored, opened, shut_on, stored_on, complete_body, meta_changed_on, is_untouched_in, has_write, has_body_of, write_gone_on, number_of_body};
+ghost use Rattle.pcache_store.specs.Store.{Stored, opened, shut_on, stored_on, complete_body, meta_changed_on, is_untouched_in, has_write, has_body_of, has_later_body, write_gone_on, number_of_body};
 ghost use Rattle.pcache_store.specs.Totals.{body_count, body_size, body_len, one};
 
-use crate::memory::body::{Body, KeySlot};
+use crate::memory::body::{Body, KeySlot, is_later};
 use crate::memory::slot_table::SlotTable;
 use pcache_base::entry_id::CacheEntryId;
 use pcache_base::error::Result;
@@ -163,6 +163,16 @@ impl Slots {
     {
         match self.body(key) {
             Some(body) => body.entry_id() == Some(id),
+            None => false,
+        }
+    }
+
+    // Whether the complete body is that of a later write than this one.
+    pub(crate) fn has_later_body(&self, key: u128, number: u64) -> bool
+        ensures { result ≡ has_later_body number (map.get self.now key) }
+    {
+        match self.body(key) {
+            Some(body) => is_later(number, body.entry_id()),
             None => false,
         }
     }

@@ -2,7 +2,8 @@
 ghost use Rattle.std.specs.Prelude.{◌≡◌, ◌==◌, OnErr, OnOk};
 ghost use Rattle.std.specs.FinMap as map;
 ghost use Rattle.pcache_table.specs.Numbers.{least};
-ghost use Rattle.pcache_store.specs.Untouched.{is_one, lesser, numbers_in};
+ghost use Rattle.pcache_store.specs.Greatest.{greatest};
+ghost use Rattle.pcache_store.specs.Untouched.{greater, is_one, lesser, numbers_in};
 
 use std::alloc::{AllocError, Global};
 use std::collections::BTreeMap;
@@ -40,6 +41,16 @@ fn lesser(number: u64, other: Option<u64>) -> u64
     }
 }
 
+// The greater of a number and another, if there is another.
+fn greater(number: u64, other: Option<u64>) -> u64
+    ensures { result ≡ greater number other }
+{
+    match other {
+        Some(other) if number < other => other,
+        _ => number,
+    }
+}
+
 // Whether there are no numbers.
 fn none_in(numbers: &BTreeMap<u64, ()>) -> bool
     ensures { result ≡ (map.len (numbers_in numbers.now.entries) == 0) }
@@ -52,6 +63,16 @@ fn least_of(numbers: &BTreeMap<u64, ()>) -> Option<u64>
     ensures { result ≡ least (numbers_in numbers.now.entries) }
 {
     match numbers.iter().next() {
+        Some((number, _nothing)) => Some(*number),
+        None => None,
+    }
+}
+
+// The greatest of the numbers.
+fn greatest_of(numbers: &BTreeMap<u64, ()>) -> Option<u64>
+    ensures { result ≡ greatest (numbers_in numbers.now.entries) }
+{
+    match numbers.last_key_value() {
         Some((number, _nothing)) => Some(*number),
         None => None,
     }
@@ -105,6 +126,17 @@ impl Untouched {
         let other = least_of(&self.more);
         match self.one {
             Some(one) => Some(lesser(one, other)),
+            None => other,
+        }
+    }
+
+    #[tactic(auto, using(crate::proofs::Greatest::greatest_with))]
+    pub(crate) fn greatest(&self) -> Option<u64>
+        ensures { result ≡ greatest self.now }
+    {
+        let other = greatest_of(&self.more);
+        match self.one {
+            Some(one) => Some(greater(one, other)),
             None => other,
         }
     }

@@ -1,5 +1,5 @@
 //! Calls that fill a key.
-ghost use Rattle.std.specs.Prelude.{◌≡◌, ◌+◌, ◌≤◌, ◌∷◌, ◌++◌, true, IfOk, Some, [], length, vec_len};
+ghost use Rattle.std.specs.Prelude.{◌≡◌, ◌+◌, ◌≤◌, ◌∷◌, ◌++◌, false, true, IfOk, Some, [], length, vec_len};
 ghost use Rattle.std.specs.Vec.{vec_capacity};
 ghost use Rattle.pcache_lock.specs.declared.lock.status.LockStatus.TheVariants.{Done};
 ghost use Rattle.pcache_history.specs.Events.{evicted_by};
@@ -198,8 +198,8 @@ pub(crate) fn finish<M: EvictionManager>(
 ) -> Reply
     requires none { events.old.items ≡ [] }
     requires room { 3 ≤ vec_capacity events.old }
-    ensures answers { AnswersOf parts.old (acts.Request asks.Finish) request.old result
-        events.new.items }
+    ensures answers { parts.old.store.newest ≡ false
+        → AnswersOf parts.old (acts.Request asks.Finish) request.old result events.new.items }
     ensures moves { IsOfWorld request.old.request
         → MovesParts (Some request.old) parts.old events.new.items (Some request.new) parts.new }
     ensures keeps { KeepsKey (Some request.old) (Some request.new) }
@@ -233,8 +233,9 @@ fn finish_write<M: EvictionManager>(
     requires may { IsFilling cache.old.phase }
     requires none { events.old.items ≡ [] }
     requires room { 3 ≤ vec_capacity events.old }
-    ensures answers { Finishes (facts_in store.old.state lock.old.table cache.old) cache.old
-        cache.old.write result events.new.items }
+    ensures answers { store.old.state.newest ≡ false
+        → Finishes (facts_in store.old.state lock.old.table cache.old) cache.old cache.old.write
+        result events.new.items }
     ensures other { IsOther result }
     ensures moves { MovesBeside (M.limits manager.old) cache.old store.old.state
         (M.tracked manager.old) events.new.items cache.new store.new.state

@@ -1,5 +1,5 @@
 //! What one call does over the parts of a world.
-ghost use Rattle.std.specs.Prelude.{◌≡◌, ◌≤◌, ◌++◌, [], Some, None, IfSome, IsSome, ℕ};
+ghost use Rattle.std.specs.Prelude.{◌≡◌, ◌≤◌, ◌++◌, [], Some, None, IfSome, IsSome, ℕ, false};
 ghost use Rattle.std.specs.Vec.{vec_capacity};
 ghost use Rattle.pcache_lock.specs.declared.lock.status.LockStatus.TheVariants.{Done};
 ghost use Rattle.pcache_history.specs.Deeds.{deeds_by, held_in};
@@ -198,8 +198,8 @@ fn turn<M: EvictionManager>(
     requires spare { spare.old ≡ spare_of (acts.Request act.now) }
     requires none { events.old.items ≡ [] }
     requires room { 3 ≤ vec_capacity events.old }
-    ensures answers { AnswersOf parts.old (acts.Request act.now) request.old result
-        events.new.items }
+    ensures answers { parts.old.store.newest ≡ false
+        → AnswersOf parts.old (acts.Request act.now) request.old result events.new.items }
     ensures moves { IsOfWorld request.old.request
         → MovesParts (Some request.old) parts.old events.new.items (Some request.new) parts.new }
     ensures keeps { KeepsKey (Some request.old) (Some request.new) }

@@ -1,3 +1,4 @@
+use Rattle.pcache_cache.proofs.Naming.{names_ended}
 use Rattle.pcache_cache.proofs.Words.{ap, subst, sym, ◌∙◌, Some, refl, rules, ending_weight, IsKept, MayEnd, Parts, HasRoom, beside}
 use Rattle.pcache_cache.proofs.Ended.{kept_finished, same-number}
 use Rattle.pcache_cache.proofs.Unlocking.{if_ended}
@@ -13,6 +14,7 @@ invariant_of-self g c =
           (kept_finished c.self.inside.weighing (g.M.EvictionManager.limits c.self.inside.manager) c.args.request.now.cache c.replaced_by.result c.ending_weight.result c.self.inside.store.state c.finish_replacing.new.storage.state (tracked c.self.inside.manager) (tracked c.finish_replacing.new.eviction) c.self.inside.lock.table c.finish_replacing.new.lock.table c.finish_replacing.result
           (subst (λ (p : Parts). MayEnd p.store c.args.request.now.cache) (sym c.self.view_is) c.requires.own) (sym c.writer-writer.ensures.entry ∙ same-number _ c.writer-writer.result ∙ c.writer-writer.ensures.write) (c.ending_weight.ensures ∙ ap (ending_weight c.self.inside.weighing c.self.inside.store.state) c.writer-writer.ensures.write) (each_end c.finish_replacing.result (λ how is. is.ends) c.finish_replacing.ensures.ended) c.self.invariant.0),
       if_ended c.finish_replacing.result c.args.request.now.cache.write c.args.request.now.cache.held (Some c.self.inside.lock.past) (Some c.finish_replacing.new.lock.past) (each_end c.finish_replacing.result (λ how is. is.deeds) c.finish_replacing.ensures.ended) c.self.invariant.1,
+      names_ended c.finish_replacing.result c.args.request.now.cache.key c.args.request.now.cache.write (Some c.self.inside.store.past) (Some c.finish_replacing.new.storage.past) (each_end c.finish_replacing.result (λ how is. is.past) c.finish_replacing.ensures.ended) c.self.invariant.2,
     )
 
 pub returns : goal.returns

@@ -1,3 +1,4 @@
+use Rattle.pcache_cache.proofs.Naming.{names_put_ended}
 use Rattle.pcache_cache.proofs.Words.{ap, ◌≡◌, true, Some, rules, subst, sym, ◌∙◌, slot, write_in, body_number, IsKept, Parts, is_own_write, HasRoom, beside}
 use Rattle.pcache_cache.proofs.Ended.{same-number}
 use Rattle.pcache_cache.proofs.Fed.{kept_put_ended}
@@ -15,6 +16,7 @@ invariant_of-self g c =
           (sym c.writer-writer.ensures.entry ∙ same-number _ c.writer-writer.result ∙ c.writer-writer.ensures.write)
           (subst (λ (p : Parts). is_own_write p.store (Some put.key) (write_in put.stage) ≡ true) (sym c.self.view_is) c.requires.own) c.put_weight.ensures (each_put_end c.finish_replacing.result (λ how is. is.0) c.finish_replacing.ensures.ended) c.self.invariant.0),
       c.self.invariant.1,
+      names_put_ended c.finish_replacing.result put.key put.stage (Some c.self.inside.store.past) (Some c.finish_replacing.new.storage.past) (each_put_end c.finish_replacing.result (λ how is. is.1) c.finish_replacing.ensures.ended) c.self.invariant.2,
     )
 
 pub returns : goal.returns

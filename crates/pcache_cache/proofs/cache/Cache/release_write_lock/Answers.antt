@@ -7,6 +7,7 @@ pub invariant_of-self : goal.invariant_of-self
 invariant_of-self g c = (
   c.self.invariant.0,
   once_done (settled_deeds (status_for (λ text. GiveUp) c.args.reason) c.args.request.now.cache.held) (Some c.self.inside.lock.past) (Some c.release_write_lock.new.lock.past) (settled_keeps none_kept (status_for (λ text. GiveUp) c.args.reason) c.args.request.now.cache.held) c.release_write_lock.ensures.releases.settles.deeds c.self.invariant.1,
+  c.self.invariant.2,
 )
 
 pub returns : goal.returns

@@ -1,3 +1,4 @@
+use Rattle.pcache_cache.proofs.Naming.{names_begun}
 use Rattle.pcache_cache.proofs.Kept.{kept_beginning}
 use Rattle.pcache_cache.proofs.Own.{beginning_own}
 use Rattle.pcache_cache.proofs.Unlocking.{if_begun}
@@ -12,6 +13,7 @@ invariant_of-self g c =
     let new = call.new in (
       kept_beginning inside.weighing (g.M.EvictionManager.limits inside.manager) (g.M.EvictionManager.tracked inside.manager) inside.store.state new.storage.state (Some inside.store.past) (Some new.storage.past) inside.lock.table new.lock.table (Some inside.lock.past) (Some new.lock.past) r new.self call.result call.ensures.begins.store call.ensures.begins.err c.self.invariant.0,
       if_begun call.result inside.store.state new.storage.state (Some inside.store.past) (Some new.storage.past) inside.lock.table new.lock.table (Some inside.lock.past) (Some new.lock.past) r new.self call.ensures.begins.deeds call.ensures.begins.err c.self.invariant.1,
+      names_begun call.result inside.store.state new.storage.state (Some inside.store.past) (Some new.storage.past) inside.lock.table new.lock.table (Some inside.lock.past) (Some new.lock.past) r new.self call.ensures.begins.past call.ensures.begins.err c.self.invariant.2,
     )
 
 pub returns : goal.returns

@@ -1,3 +1,8 @@
+use Rattle.pcache_store.specs.Past.{Purged}
+use Rattle.pcache_request.specs.StorePasts.{purged_past}
+use Rattle.pcache_cache.proofs.Words.{Some, option_map, slot}
+use Rattle.pcache_cache.proofs.Adding.{no_set_purged}
+use Rattle.pcache_cache.proofs.Naming.{names_if, names_kept}
 use Rattle.pcache_cache.proofs.Words.{subst, sym, rules, IsKept}
 use Rattle.pcache_cache.proofs.Kept.{kept_removed}
 use Rattle.pcache_cache.proofs.Only.{only_removed}
@@ -10,6 +15,7 @@ invariant_of-self g c =
       subst (λ l. IsKept c.self.inside.weighing l (g.M.EvictionManager.tracked c.spawn_async_purge.new.eviction) c.spawn_async_purge.new.storage.state) (sym c.spawn_async_purge.ensures.purges.limits)
           (kept_removed c.self.inside.weighing limits tracked (g.M.EvictionManager.tracked c.spawn_async_purge.new.eviction) c.self.inside.store.state c.spawn_async_purge.new.storage.state c.args.request.now.cache.uses.eviction c.args.request.now.cache.key c.spawn_async_purge.result c.spawn_async_purge.ensures.purges.store c.spawn_async_purge.ensures.purges.tracked c.spawn_async_purge.ensures.purges.same_store c.spawn_async_purge.ensures.purges.same_tracked c.self.invariant.0),
       c.self.invariant.1,
+      names_if c.spawn_async_purge.result (purged_past c.args.request.now.cache.key) (Some c.self.inside.store.past) (Some c.spawn_async_purge.new.storage.past) (λ x is. names_kept (option_map (λ k. Purged (slot k)) c.args.request.now.cache.key) x (no_set_purged c.args.request.now.cache.key) is) c.spawn_async_purge.ensures.purges.past c.spawn_async_purge.ensures.purges.same_past c.self.invariant.2,
     )
 
 pub returns : goal.returns

@@ -7,4 +7,5 @@ pub invariant_of-self : goal.invariant_of-self
 invariant_of-self g c = (
   c.self.invariant.0,
   once_done (varied_deeds c.args.variance c.args.request.now.cache) (Some c.self.inside.lock.past) (Some c.update_variance.new.lock.past) (varied_keeps none_kept c.args.variance c.args.request.now.cache) c.update_variance.ensures.varies.deeds c.self.invariant.1,
+  c.self.invariant.2,
 )

@@ -1,4 +1,5 @@
-use Rattle.pcache_store.proofs.PastLaws.{bodies-are-last, bodies-grow, finds-exactly, finishes-exactly, found-is-of-its-write, nothing-is-lost, purged-is-gone, reads-in-order}
+use Rattle.pcache_store.proofs.OneResponse.{metas-are-theirs}
+use Rattle.pcache_store.proofs.PastLaws.{bodies-are-last, bodies-get-newer, bodies-grow, finds-exactly, finishes-exactly, found-is-of-its-write, newest-stands, nothing-is-lost, purged-is-gone, reads-in-order}
 use Rattle.pcache_store.proofs.PastStates.{state-of}
 use Rattle.pcache_store.proofs.memory.MemCache.headline.Goals as goal
 
@@ -43,3 +44,15 @@ returns-clause-reads c =
 
 pub returns-clause-grows : goal.returns-clause-grows
 returns-clause-grows c = rw (← c.self.view_is) (bodies-grow c.self.inside.bare c.self.inside.past.notes c.self.invariant)
+
+pub returns-clause-metas : goal.returns-clause-metas
+returns-clause-metas c = rw (← c.self.view_is) (metas-are-theirs c.self.inside.bare c.self.inside.past.notes c.self.invariant)
+
+pub returns-clause-newest : goal.returns-clause-newest
+returns-clause-newest c =
+    let s = c.self.inside.bare in
+    let past = c.self.inside.past.notes in
+    rw (← c.self.view_is) (newest-stands s past (state-of s past c.self.invariant))
+
+pub returns-clause-newer : goal.returns-clause-newer
+returns-clause-newer c = rw (← c.self.view_is) (bodies-get-newer c.self.inside.bare c.self.inside.past.notes c.self.invariant)

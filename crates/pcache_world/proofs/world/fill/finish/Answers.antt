@@ -1,17 +1,17 @@
 use Rattle.std.proofs.Common.{option_map}
 use Rattle.pcache_world.specs.LockMoves.{status_finished}
-use Rattle.pcache_world.proofs.Words.{rules, inl, Some, sym, subst, IsFilling, reader_of, deeds_by, IsOfWorld, Ongoing, MovesLocks, Moves, open_with, State, Answers, AnswersOf}
+use Rattle.pcache_world.proofs.Words.{rules, inl, Some, ap, ◌∙◌, sym, subst, IsFilling, reader_of, deeds_by, IsOfWorld, Ongoing, MovesLocks, Moves, open_with, State, Answers, AnswersOf}
 use Rattle.pcache_history.specs.declared.call.Act.TheVariants as C
 use Rattle.pcache_history.specs.declared.call.RequestAct.TheVariants as Q
 use Rattle.pcache_world.proofs.OfParts.{evicts-over, locks-over, moves-over}
 use Rattle.pcache_world.proofs.world.fill.finish.Goals as goal
 
 pub returns-clause-answers : goal.returns-clause-answers
-returns-clause-answers g c =
+returns-clause-answers g c oldest =
     let may : IsFilling c.request.inside.cache.phase = search rules in
     subst (λ (p : State). AnswersOf p (C.Request Q.Finish) c.args.request.now c.finish_write.result c.finish_write.new.events.items) c.parts.view_is
     (subst (λ (x : Ongoing). Answers c.parts.inside.store.state c.parts.inside.lock.table (C.Request Q.Finish) x c.finish_write.result c.finish_write.new.events.items) c.request.view_is
-    (inl (may, c.finish_write.ensures.other, c.finish_write.ensures.answers)))
+    (inl (may, c.finish_write.ensures.other, c.finish_write.ensures.answers (ap (λ (p : State). p.store.newest) c.parts.view_is ∙ oldest))))
 
 pub returns-clause-moves : goal.returns-clause-moves
 returns-clause-moves g c world =

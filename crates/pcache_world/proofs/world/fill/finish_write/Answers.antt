@@ -1,8 +1,9 @@
 use Rattle.pcache_request.specs.WriteEnds.{status_after}
 use Rattle.pcache_request.specs.Requests.{Request}
+use Rattle.pcache_world.specs.PartFacts.{facts_in, untouched_for}
 use Rattle.pcache_world.proofs.Words.{◌≡◌, ◌++◌, ◌∷◌, true, None, refl, ap, sym, ◌∙◌, cond, is_some, each, Admit, Finish, Purge, Release, settled}
 use Rattle.pcache_world.proofs.Evicting.{finish-drops, finish-stores, finish-withdraws, idle-evicts}
-use Rattle.pcache_world.proofs.MovesOf.{finish-size, finish-stored, finish-withdrawn, finish-dropped, end-locks}
+use Rattle.pcache_world.proofs.MovesOf.{finish-refused, finish-size, finish-stored, finish-withdrawn, finish-dropped, end-locks}
 use Rattle.pcache_world.proofs.Noted.{stored-entry, released-permit}
 use Rattle.pcache_world.proofs.LockSteps.{refused-locks, stored-locks}
 use Rattle.pcache_world.proofs.world.fill.finish_write.Goals as goal
@@ -30,6 +31,15 @@ returns-in-Withdrawn-clause-moves g c p d world =
     finish-withdrawn d c.args.cache.now c.end_write-end.new.self p c.args.store.now.state c.end_write-end.new.storage.state c.in-Some-key.key.now c.in-Some.write _ (g.M.EvictionManager.tracked c.args.manager.now) (g.M.EvictionManager.tracked c.end_write-end.new.eviction) _ _ c.permit_in-permit.result c.args.events.now.items
     (sym c.in-Some-key.ensures.value) (sym c.write_number.ensures.write ∙ c.in-Some.is) c.requires.none c.end_write-end.ensures.request
     _ _ c.slot-slot.result c.note_with_release-in-Withdrawn.new.events.items c.push_reserved.new.self.items c.in-Withdrawn.is c.slot-slot.ensures c.end_write-end.ensures.ends.ends c.note_with_release-in-Withdrawn.ensures.events c.push_reserved.ensures.items
+
+pub returns-in-Dropped-clause-answers : goal.returns-in-Dropped-clause-answers
+returns-in-Dropped-clause-answers g c oldest =
+    let x = c.args.cache.now in
+    let has = sym c.write_number.ensures.write ∙ c.in-Some.is in
+    let permit = released-permit x c.in-Some.write c.end_write-end.result.released c.permit_in-permit.result has c.end_write-end.ensures.released c.permit_in-permit.ensures in
+    finish-refused None x c.end_write-end.new.self None c.args.store.now.state c.end_write-end.new.storage.state c.in-Some-key.key.now c.in-Some.write _ (g.M.EvictionManager.tracked c.args.manager.now) (g.M.EvictionManager.tracked c.end_write-end.new.eviction) _ _ c.permit_in-permit.result c.args.events.now.items
+    (sym c.in-Some-key.ensures.value) has c.requires.none c.end_write-end.ensures.request
+    _ _ c.etype-kind.result c.end_refused.result c.note_with_release.new.events.items (facts_in c.args.store.now.state c.args.lock.now.table x) c.in-Dropped.is c.end_refused.ensures c.etype-kind.ensures c.end_write-end.ensures.ends.ends (ap (untouched_for c.args.store.now.state) has) oldest c.note_with_release.ensures.events permit
 
 pub returns-in-Some-entry-clause-locks : goal.returns-in-Some-entry-clause-locks
 returns-in-Some-entry-clause-locks g c n =

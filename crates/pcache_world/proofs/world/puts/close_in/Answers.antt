@@ -6,7 +6,7 @@ use Rattle.pcache_world.proofs.world.puts.close_in.Goals as goal
 pub returns-in-Some-clause-answers : goal.returns-in-Some-clause-answers
 returns-in-Some-clause-answers g c t some =
     written-answers-as (taking c.args.ctx) c.args.store.now.state c.end_put-end.new.storage.state (g.M.EvictionManager.limits c.args.manager.now) (g.M.EvictionManager.tracked c.args.manager.now) (g.M.EvictionManager.tracked c.end_put-end.new.eviction) c.end_put-end.result.end c.end_put-end.result.entry c.end_put-end.ensures.entry c.end_put-end.ensures.ends
-    g.P.PutPolicy.says some.0 some.1 some.2 t c.in-Some.write c.slot-slot.result c.end_written.result c.end_written.new.events.items (sym c.write_of-write.ensures.write ∙ c.in-Some.is) (sym c.write_of-write.ensures.entry ∙ c.in-Some.is) (c.slot-slot.ensures ∙ ap slot c.key.ensures) c.end_written.ensures.reply c.end_written.ensures.noted
+    g.P.PutPolicy.says some.0 some.1 some.2 t c.in-Some.write c.slot-slot.result c.end_written.result c.end_written.new.events.items some.4 (sym c.write_of-write.ensures.write ∙ c.in-Some.is) (sym c.write_of-write.ensures.entry ∙ c.in-Some.is) (c.slot-slot.ensures ∙ ap slot c.key.ensures) c.end_written.ensures.reply c.end_written.ensures.noted
 
 pub returns-in-Some-clause-moves : goal.returns-in-Some-clause-moves
 returns-in-Some-clause-moves g c world some =

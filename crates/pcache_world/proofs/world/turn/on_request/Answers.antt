@@ -14,7 +14,7 @@ returns-in_default-clause-puts g c = puts-wrong _ (Request c.args.act.now) _ _ _
 
 pub returns-in-Request-clause-turn : goal.returns-in-Request-clause-turn
 returns-in-Request-clause-turn g c world some =
-    turn-of _ _ (Request c.args.act.now) _ _ c.in-Request.request c.turn-reply.new.request _ _ _ _ _ _ c.turn-reply.result c.turn-reply.new.events.items (search rules) (search rules) (inl (c.is_plain.ensures, c.turn-reply.ensures.answers))
+    turn-of _ _ (Request c.args.act.now) _ _ c.in-Request.request c.turn-reply.new.request _ _ _ _ _ _ c.turn-reply.result c.turn-reply.new.events.items (search rules) (search rules) (inl (c.is_plain.ensures, c.turn-reply.ensures.answers some.4))
     c.turn-reply.ensures.moves c.turn-reply.ensures.keeps (row-kept (Request c.args.act.now) _ _ _ _ c.turn-reply.ensures.row) (c.turn-reply.ensures.locks _) world
 
 pub returns-in-Request-clause-puts : goal.returns-in-Request-clause-puts

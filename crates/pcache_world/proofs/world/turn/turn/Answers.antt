@@ -18,7 +18,7 @@ pub returns-in-Look-clause-locks : goal.returns-in-Look-clause-locks
 returns-in-Look-clause-locks g c r = arm-locks-over c.args.request.now c.look.new.request c.look.result c.look.new.events.items c.in-Look.is c.parts-in-Look.view_is (c.look.ensures.locks r)
 
 pub returns-in-Look-clause-answers : goal.returns-in-Look-clause-answers
-returns-in-Look-clause-answers g c = answers-over c.args.request.now c.look.result c.look.new.events.items c.in-Look.is c.parts-in-Look.view_is c.look.ensures.answers
+returns-in-Look-clause-answers g c oldest = answers-over c.args.request.now c.look.result c.look.new.events.items c.in-Look.is c.parts-in-Look.view_is c.look.ensures.answers
 
 pub returns-in-Miss-clause-moves : goal.returns-in-Miss-clause-moves
 returns-in-Miss-clause-moves g c world = moves-over _ (Some c.miss.new.request) _ c.parts-in-Miss.view_is (moves_quietly _ _ (Some c.miss.new.request) _ c.miss.new.store.state _ _ c.requires.none c.miss.ensures.moves)
@@ -30,19 +30,19 @@ pub returns-in-Begin-clause-locks : goal.returns-in-Begin-clause-locks
 returns-in-Begin-clause-locks g c r = arm-locks-over c.args.request.now c.begin.new.request c.begin.result c.begin.new.events.items c.in-Begin.is c.parts-in-Begin.view_is (c.begin.ensures.locks r)
 
 pub returns-in-Begin-clause-answers : goal.returns-in-Begin-clause-answers
-returns-in-Begin-clause-answers g c = answers-over c.args.request.now c.begin.result c.begin.new.events.items c.in-Begin.is c.parts-in-Begin.view_is c.begin.ensures.answers
+returns-in-Begin-clause-answers g c oldest = answers-over c.args.request.now c.begin.result c.begin.new.events.items c.in-Begin.is c.parts-in-Begin.view_is c.begin.ensures.answers
 
 pub returns-in-Write-clause-moves : goal.returns-in-Write-clause-moves
 returns-in-Write-clause-moves g c world = moves-over _ (Some c.write.new.request) _ c.parts-in-Write.view_is (c.write.ensures.moves _ _)
 
 pub returns-in-Write-clause-answers : goal.returns-in-Write-clause-answers
-returns-in-Write-clause-answers g c = answers-over c.args.request.now c.write.result c.write.new.events.items c.in-Write.is c.parts-in-Write.view_is c.write.ensures.answers
+returns-in-Write-clause-answers g c oldest = answers-over c.args.request.now c.write.result c.write.new.events.items c.in-Write.is c.parts-in-Write.view_is c.write.ensures.answers
 
 pub returns-in-Read-clause-moves : goal.returns-in-Read-clause-moves
 returns-in-Read-clause-moves g c world = moves-over _ (Some c.read.new.request) _ c.parts-in-Read.view_is (c.read.ensures.moves _ _)
 
 pub returns-in-Read-clause-answers : goal.returns-in-Read-clause-answers
-returns-in-Read-clause-answers g c = answers-over c.args.request.now c.read.result c.read.new.events.items c.in-Read.is c.parts-in-Read.view_is c.read.ensures.answers
+returns-in-Read-clause-answers g c oldest = answers-over c.args.request.now c.read.result c.read.new.events.items c.in-Read.is c.parts-in-Read.view_is c.read.ensures.answers
 
 pub returns-in-Done-clause-moves : goal.returns-in-Done-clause-moves
 returns-in-Done-clause-moves g c world = moves-over _ (Some c.done.new.request) _ c.parts-in-Done.view_is (moves_quietly _ _ (Some c.done.new.request) _ c.done.new.store.state _ _ c.requires.none c.done.ensures.moves)
@@ -78,10 +78,10 @@ pub returns-in-Revalidate-clause-locks : goal.returns-in-Revalidate-clause-locks
 returns-in-Revalidate-clause-locks g c r = arm-locks-over c.args.request.now c.revalidate.new.request c.revalidate.result c.revalidate.new.events.items c.in-Revalidate.is c.parts-in-Revalidate.view_is (c.revalidate.ensures.locks r)
 
 pub returns-in-Revalidate-clause-answers : goal.returns-in-Revalidate-clause-answers
-returns-in-Revalidate-clause-answers g c = answers-over c.args.request.now c.revalidate.result c.revalidate.new.events.items c.in-Revalidate.is c.parts-in-Revalidate.view_is c.revalidate.ensures.answers
+returns-in-Revalidate-clause-answers g c oldest = answers-over c.args.request.now c.revalidate.result c.revalidate.new.events.items c.in-Revalidate.is c.parts-in-Revalidate.view_is c.revalidate.ensures.answers
 
 pub returns-in-Expire-clause-answers : goal.returns-in-Expire-clause-answers
-returns-in-Expire-clause-answers g c = subst (λ (act : RequestAct). AnswersOf c.args.parts.now (Request act) c.args.request.now c.expire.result c.expire.new.events.items) (sym c.in-Expire.is) c.expire.ensures.answers
+returns-in-Expire-clause-answers g c oldest = subst (λ (act : RequestAct). AnswersOf c.args.parts.now (Request act) c.args.request.now c.expire.result c.expire.new.events.items) (sym c.in-Expire.is) c.expire.ensures.answers
 
 pub returns-in-Variance-clause-answers : goal.returns-in-Variance-clause-answers
-returns-in-Variance-clause-answers g c = subst (λ (act : RequestAct). AnswersOf c.args.parts.now (Request act) c.args.request.now c.variance.result c.variance.new.events.items) (sym c.in-Variance.is) c.variance.ensures.answers
+returns-in-Variance-clause-answers g c oldest = subst (λ (act : RequestAct). AnswersOf c.args.parts.now (Request act) c.args.request.now c.variance.result c.variance.new.events.items) (sym c.in-Variance.is) c.variance.ensures.answers
