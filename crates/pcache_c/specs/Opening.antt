@@ -3,6 +3,7 @@ use Rattle.std.specs.Prelude.{◌≡◌, ◌⊎◌, ℕ, [], Option, None, Some,
 use Rattle.std.specs.FinMap.{empty}
 use Rattle.pcache_base.specs.Key.{Key}
 use Rattle.pcache_cache.specs.Ending as ending
+use Rattle.pcache_cache.specs.Fetching.{no_purges}
 use Rattle.pcache_cache.specs.Parts.{Parts}
 use Rattle.pcache_cache.specs.declared.weighing.Weighing.{Weighing}
 use Rattle.pcache_evict.specs.Tracked.{Evicted, Limits, Tracked}
@@ -30,11 +31,13 @@ new_cache how tracked limits evicted age = record {
   evicted = evicted;
   locks = no_locks age;
   deeds = [];
+  purges = no_purges;
 }
 
 -- a request of a key before its look-up
 pub record IsNew (key : Key) (o : Open) : Type 0 where
   pub request : o.request.cache ≡ with_key key (enabled_with (record { eviction = true; predictor = false; lock = true }) new_request)
+  pub fetch : o.request.fetch ≡ None
   pub found : o.found ≡ None
   pub piece : o.piece ≡ []
 

@@ -8,6 +8,7 @@ use Rattle.pcache_base.specs.declared.poll.Poll.{Poll}
 use Rattle.pcache_base.specs.declared.poll.Poll.TheVariants.{Pending, Ready}
 use Rattle.pcache_base.specs.declared.reason.NoCacheReason.{NoCacheReason}
 use Rattle.pcache_cache.specs.Ending as ending
+use Rattle.pcache_cache.specs.Fetching.{fetch_begun}
 use Rattle.pcache_cache.specs.Filling as filling
 use Rattle.pcache_cache.specs.Locking as locking
 use Rattle.pcache_cache.specs.Looking as looking
@@ -50,7 +51,7 @@ SaysHeld c d o p out code = IsUnchanged c d o p × (code ≡ ok) × (out ≡ hel
 
 -- of the request, all but the cache's own part of it is as it was
 abbrev pub KeepsFound : Open → Open → Type 0
-KeepsFound o p = (p.found ≡ o.found) × (p.piece ≡ o.piece) × (p.next_byte ≡ o.next_byte)
+KeepsFound o p = (p.found ≡ o.found) × (p.piece ≡ o.piece) × (p.next_byte ≡ o.next_byte) × (p.request.fetch ≡ o.request.fetch)
 
 -- the pair that a look-up found
 abbrev pub pair_found : Open → Option (Meta × Reader)
@@ -64,14 +65,22 @@ MayLook o = (o.found ≡ None) × MayLookUp o.request.cache.phase
 pub record Looked (now : ℕ) (c d : Parts) (o p : Open) (found : ℕ) : Type 0 where
   pub says : found ≡ from_bool (is_some p.found)
   pub takes : looking.LooksUp (Ok p.found) now o.request.cache p.request.cache c d
+  pub fetch : p.request.fetch ≡ fetch_begun o.request.cache.key c.purges
   pub rest : (p.piece ≡ o.piece) × (p.next_byte ≡ o.next_byte)
 
 pub record RefusesLook (now : ℕ) (c d : Parts) (o p : Open) (e : ErrorType) : Type 0 where
   pub takes : looking.LooksUp (Err e) now o.request.cache p.request.cache c d
-  pub rest : KeepsFound o p
+  pub fetch : p.request.fetch ≡ fetch_begun o.request.cache.key c.purges
+  pub rest : (p.found ≡ o.found) × (p.piece ≡ o.piece) × (p.next_byte ≡ o.next_byte)
 
 abbrev pub Looks : ℕ → Parts → Parts → Open → Open → ℕ → ℕ → Type 0
 Looks now c d o p found code = Outcome (MayLook o) (Looked now c d o p found) ⊥ (RefusesLook now c d o p) (IsUnchanged c d o p) code
+
+-- the request's fetch begins, which is noted
+
+abbrev pub BeginsFetch : Parts → Parts → Open → Open → ℕ → Type 0
+BeginsFetch c d o p code = (code ≡ ok) × (d ≡ c) × (p.request.fetch ≡ fetch_begun o.request.cache.key c.purges) × (p.request.cache ≡ o.request.cache)
+    × (p.found ≡ o.found) × (p.piece ≡ o.piece) × (p.next_byte ≡ o.next_byte)
 
 -- what a look-up found is taken; of what was read before, nothing is handed over any more
 
@@ -79,11 +88,13 @@ pub record TakesPair (status : HitStatus) (now : ℕ) (m : Meta) (h : Reader) (c
   pub takes : looking.TakesFound (Ok tt) status m h now o.request.cache p.request.cache c d
   pub none : p.found ≡ None
   pub piece : p.piece ≡ []
+  pub fetch : p.request.fetch ≡ o.request.fetch
 
 pub record RefusesPair (status : HitStatus) (now : ℕ) (m : Meta) (h : Reader) (c d : Parts) (o p : Open) (e : ErrorType) : Type 0 where
   pub takes : looking.TakesFound (Err e) status m h now o.request.cache p.request.cache c d
   pub none : p.found ≡ None
   pub piece : (p.piece ≡ o.piece) × (p.next_byte ≡ o.next_byte)
+  pub fetch : p.request.fetch ≡ o.request.fetch
 
 -- what follows of a pair that is there
 abbrev pub OnPair : Option (Meta × Reader) → (Meta → Reader → Type 0) → Type 0
@@ -113,6 +124,7 @@ pub record LooksFor (variance : List ℕ) (m : Meta) (h : Reader) (c d : Parts) 
   pub stays : same_variance m.variance (Some variance) ≡ true → d ≡ c
   pub goes : same_variance m.variance (Some variance) ≡ false → looking.LetsGo h c d
   pub rest : (p.piece ≡ o.piece) × (p.next_byte ≡ o.next_byte)
+  pub fetch : p.request.fetch ≡ o.request.fetch
 
 abbrev pub LooksForVariant : List ℕ → Parts → Parts → Open → Open → ℕ → ℕ → Type 0
 LooksForVariant variance c d o p same code = Outcome (MayLookUp o.request.cache.phase) (OnPair (pair_found o) (λ m h. LooksFor variance m h c d o p same))
@@ -189,13 +201,14 @@ Varies variance c d o p code = Outcome (MayWrite o.request.cache) (Varied varian
 -- the write begins, and the request reads it
 
 pub record Begun (c d : Parts) (o p : Open) : Type 0 where
-  pub takes : filling.BeginsWrite (Ok tt) o.request.cache p.request.cache c d
+  pub takes : filling.BeginsWrite o.request.fetch (Ok tt) o.request.cache p.request.cache c d
   pub found : p.found ≡ o.found
   pub piece : p.piece ≡ []
+  pub fetch : p.request.fetch ≡ o.request.fetch
 
 -- it did not begin, or began and there was no memory for a reader of it
 pub record NotBegun (c d : Parts) (o p : Open) (e : ErrorType) : Type 0 where
-  pub takes : filling.BeginsWrite (Err e) o.request.cache p.request.cache c d
+  pub takes : filling.BeginsWrite o.request.fetch (Err e) o.request.cache p.request.cache c d
   pub rest : KeepsFound o p
 
 abbrev pub Begins : Parts → Parts → Open → Open → ℕ → Type 0
@@ -281,6 +294,7 @@ pub record ReadOn (c d : Parts) (o p : Open) (old new : List ℕ) (count more : 
   pub request : p.request.cache ≡ read_on c.store (rest_of o) o.request.cache
   pub found : p.found ≡ o.found
   pub parts : d ≡ c
+  pub fetch : p.request.fetch ≡ o.request.fetch
 
 -- there was no memory for a piece that is there
 pub record RefusesRead (c d : Parts) (o p : Open) (old new : List ℕ) (e : ErrorType) : Type 0 where
@@ -308,6 +322,7 @@ pub record Viewed (c d : Parts) (o p : Open) (view : Option Object) (count more 
   pub request : p.request.cache ≡ read_on c.store (rest_of o) o.request.cache
   pub found : p.found ≡ o.found
   pub parts : d ≡ c
+  pub fetch : p.request.fetch ≡ o.request.fetch
 
 -- there was no memory for a piece that is there; or for the handle of the view: then the piece stays with the request, and
 -- comes next
@@ -318,6 +333,7 @@ pub record RefusesView (c d : Parts) (o p : Open) (view : Option Object) (e : Er
       ⊎ ((p.request.cache ≡ read_on c.store (rest_of o) o.request.cache) × IfSome (comes_next c o) (λ next. next ≡ Ready (Some (rest_of p))))
   pub found : p.found ≡ o.found
   pub parts : d ≡ c
+  pub fetch : p.request.fetch ≡ o.request.fetch
 
 abbrev pub Views : Option Object → ℕ → ℕ → Parts → Parts → Open → Open → ℕ → Type 0
 Views view count more c d o p code = Outcome (IsSome (comes_next c o)) (Viewed c d o p view count more) ⊥
@@ -334,6 +350,7 @@ pub record Fetched (c d : Parts) (o p : Open) (more : ℕ) : Type 0 where
   pub request : p.request.cache ≡ read_on c.store [] o.request.cache
   pub found : p.found ≡ o.found
   pub parts : d ≡ c
+  pub fetch : p.request.fetch ≡ o.request.fetch
 
 abbrev pub Fetches : ℕ → Parts → Parts → Open → Open → ℕ → Type 0
 Fetches more c d o p code = Outcome (IsSome o.request.cache.reader) (Fetched c d o p more) ⊥
@@ -363,6 +380,7 @@ pub record Sought (start end : ℕ) (o p : Open) : Type 0 where
   pub there : IsSome (reader_sought o start end)
   pub found : p.found ≡ o.found
   pub piece : p.piece ≡ []
+  pub fetch : p.request.fetch ≡ o.request.fetch
 
 pub record Seeks (start end : ℕ) (o p : Open) (code : ℕ) : Type 0 where
   pub wrong : (code ≡ wrong_call) ↔ (¬ IsSome o.request.cache.reader)
@@ -374,6 +392,7 @@ pub record HitEnded (c d : Parts) (o p : Open) : Type 0 where
   pub takes : looking.EndsHit (Ok tt) o.request.cache p.request.cache c d
   pub found : p.found ≡ o.found
   pub piece : p.piece ≡ []
+  pub fetch : p.request.fetch ≡ o.request.fetch
 
 abbrev pub EndsHit : Parts → Parts → Open → Open → ℕ → Type 0
 EndsHit c d o p code = Outcome (MayFinishHit o.request.cache.phase) (HitEnded c d o p) ⊥
@@ -439,6 +458,7 @@ pub record TurnedOff (why : NoCacheReason) (c d : Parts) (o p : Open) : Type 0 w
   pub takes : ending.Disables released why o.request.cache p.request.cache between d
   pub none : p.found ≡ None
   pub piece : p.piece ≡ []
+  pub fetch : p.request.fetch ≡ o.request.fetch
 
 abbrev pub TurnsOff : NoCacheReason → Parts → Parts → Open → Open → ℕ → Type 0
 TurnsOff why c d o p code = Outcome (MayDisable why o.request.cache) (TurnedOff why c d o p) ⊥ (λ e. ⊥) (IsUnchanged c d o p) code

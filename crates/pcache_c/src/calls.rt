@@ -8,7 +8,7 @@ ghost use Rattle.pcache_c.specs.Handles.{IsSame, OnEmpty, OnHandle, object_of};
 ghost use Rattle.pcache_c.specs.Handing.{HandsPermit};
 ghost use Rattle.pcache_c.specs.Numbers.{IsNumber, reason_number, status_number};
 ghost use Rattle.pcache_c.specs.Reached.{CountsOnRequest, OnRequest};
-ghost use Rattle.pcache_c.specs.Requests.{Adds, Begins, EndsHit, Expires, Finishes, LimitsWaits, Looks, LooksForVariant, Misses, Passes, Purges, Reads, Releases, SaysLength, SaysWaited, Seeks, ServesUpdating, Takes, TurnsOff, Varies, Views, Waits};
+ghost use Rattle.pcache_c.specs.Requests.{Adds, Begins, BeginsFetch, EndsHit, Expires, Finishes, LimitsWaits, Looks, LooksForVariant, Misses, Passes, Purges, Reads, Releases, SaysLength, SaysWaited, Seeks, ServesUpdating, Takes, TurnsOff, Varies, Views, Waits};
 
 use crate::codes::{BAD_HANDLE, BAD_VALUE};
 use crate::handle::PcacheHandle;
@@ -123,6 +123,24 @@ pub extern "C" fn pcache_request_miss(alloc: Global, cache: &mut PcacheHandle, r
         return BAD_HANDLE;
     };
     let code = reached::miss(&mut *object, request);
+    cache.put(object);
+    code
+}
+
+/// Notes that the request's fetch begins now, which a look-up notes too.
+#[unsafe(no_mangle)]
+pub extern "C" fn pcache_request_begin_fetch(
+    alloc: Global,
+    cache: &mut PcacheHandle,
+    request: u64,
+) -> u32
+    ensures { OnRequest request cache.old cache.new result (λ c d o p.
+        BeginsFetch c d o p result) }
+{
+    let Some(mut object) = cache.take(alloc) else {
+        return BAD_HANDLE;
+    };
+    let code = reached::begin_fetch(&mut *object, request);
     cache.put(object);
     code
 }

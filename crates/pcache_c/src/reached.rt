@@ -9,7 +9,7 @@ ghost use Rattle.pcache_c.specs.Counts.{filled, missed, taken_as, waited, when_d
 ghost use Rattle.pcache_c.specs.Fills.{Publishes, SaysAbandoned};
 ghost use Rattle.pcache_c.specs.Opening.{Ends, Opens};
 ghost use Rattle.pcache_c.specs.Reached.{CountsOnNumber, OnNumber};
-ghost use Rattle.pcache_c.specs.Requests.{Adds, Begins, CopyOf, EndsHit, Expires, Finishes, IsUnchanged, LimitsWaits, Looks, LooksForVariant, Misses, Passes, Purges, Reads, Releases, Renews, SaysHeld, SaysLength, SaysPhase, SaysWaited, Seeks, ServesOn, ServesUpdating, SetsMeta, Takes, TurnsOff, Varies, Views, Waits, meta_shown};
+ghost use Rattle.pcache_c.specs.Requests.{Adds, Begins, BeginsFetch, CopyOf, EndsHit, Expires, Finishes, IsUnchanged, LimitsWaits, Looks, LooksForVariant, Misses, Passes, Purges, Reads, Releases, Renews, SaysHeld, SaysLength, SaysPhase, SaysWaited, Seeks, ServesOn, ServesUpdating, SetsMeta, Takes, TurnsOff, Varies, Views, Waits, meta_shown};
 ghost use Rattle.pcache_c.specs.Sizes.{CountsBody, LimitsBody, LimitsHead, SaysHeadIsTooLong};
 ghost use Rattle.pcache_c.specs.Handles.{object_of};
 
@@ -201,6 +201,20 @@ pub(crate) fn renew(object: &mut Object, number: u64, meta: &CacheMeta, set: &mu
         return BAD_HANDLE;
     };
     requests::renew(&mut served.cache, request, meta, set)
+}
+
+/// Notes that the request's fetch begins now.
+pub(crate) fn begin_fetch(object: &mut Object, number: u64) -> u32
+    ensures { OnNumber number object.old object.new result (λ c d o p. BeginsFetch c d o p result) }
+{
+    let Object::Cache(boxed) = object else {
+        return WRONG_KIND;
+    };
+    let served = &mut **boxed;
+    let Some(request) = served.seats.find(number) else {
+        return BAD_HANDLE;
+    };
+    requests::begin_fetch(&mut served.cache, request)
 }
 
 /// Serves a stale body while another request renews it.

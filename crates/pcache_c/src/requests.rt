@@ -1,7 +1,7 @@
 //! What the requests of a cache do. Each call tests what the call that it makes requires, and says by a code how it went.
 ghost use Rattle.std.specs.Prelude.{◌≡◌, ◌*◌, [], IfOk, None};
 ghost use Rattle.pcache_c.specs.Numbers.{IsNumber, held_number, outcome_number, phase_number, reason_number, status_number};
-ghost use Rattle.pcache_c.specs.Requests.{Adds, Begins, CopyOf, EndsHit, Expires, Fetches, Finishes, HandsOut, HandsOver, LimitsWaits, Looks, LooksForVariant, Misses, Passes, Purges, Reads, Releases, Renews, SaysKnown, SaysTime, Seeks, ServesOn, ServesUpdating, SetsMeta, Takes, TurnsOff, Varies, Views, Waits, end_number, meta_shown, rest_of};
+ghost use Rattle.pcache_c.specs.Requests.{Adds, Begins, BeginsFetch, CopyOf, EndsHit, Expires, Fetches, Finishes, HandsOut, HandsOver, LimitsWaits, Looks, LooksForVariant, Misses, Passes, Purges, Reads, Releases, Renews, SaysKnown, SaysTime, Seeks, ServesOn, ServesUpdating, SetsMeta, Takes, TurnsOff, Varies, Views, Waits, end_number, meta_shown, rest_of};
 ghost use Rattle.core.specs.Ptr.{as_ptr};
 ghost use Rattle.pcache_meta.specs.Header.{shown};
 ghost use Rattle.pcache_c.specs.Handles.{object_of};
@@ -116,6 +116,14 @@ pub(crate) fn look(cache: &mut AnyCache, opened: &mut Open, now: Moment, found: 
         }
         Err(e) => code_of(e),
     }
+}
+
+/// Notes that the request's fetch begins now.
+pub(crate) fn begin_fetch(cache: &mut AnyCache, opened: &mut Open) -> u32
+    ensures { BeginsFetch cache.old cache.new opened.old opened.new result }
+{
+    cache.begin_fetch(&mut opened.request);
+    OK
 }
 
 // Forgets bytes that were read and not returned: they are of another body than the one that is read

@@ -5,6 +5,7 @@ pub mod SumsToStored
 pub mod Kept
 pub mod Modes
 pub mod Ended
+pub mod Outdated
 pub mod Own
 pub mod Only
 pub mod Room

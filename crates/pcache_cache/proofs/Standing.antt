@@ -1,7 +1,7 @@
 -- What is complete in a store after a call: no more than before, and with the same bytes.
 use Rattle.std.proofs.lemmas.Bool.Decides.{nat_tests}
-use Rattle.pcache_store.specs.Store.{opened_in, slot_or_new}
-use Rattle.pcache_cache.proofs.Words.{◌≡◌, ℕ, ◌==◌, true, false, cond, Option, None, Some, length, refl, ap, sym, subst, ◌∙◌, arith, nat_cmp, eq_by_cmp, nat_cmp_total, FinMap, get, insert, remove, get-insert, get-remove, eqb-true, Key, slot, Meta, begun_for, dropped_by, left_by, header_written, purged_at, Store, Slot, Stored, Reader, Whole, Part, complete_body, begun, dropped, dropped_on, followed, followed_by, is_idle, left, meta_changed, meta_changed_in, meta_changed_on, shut, shut_on, with_meta, with_slot, body_weight, weight_of, Weighing}
+use Rattle.pcache_store.specs.Store.{opened_in, slot_or_new, slot_without, write_gone_on, write_purged}
+use Rattle.pcache_cache.proofs.Words.{◌≡◌, ℕ, ◌==◌, Bool, true, false, cond, Option, None, Some, length, refl, ap, sym, subst, ◌∙◌, arith, nat_cmp, eq_by_cmp, nat_cmp_total, FinMap, get, insert, remove, get-insert, get-remove, eqb-true, Key, slot, Meta, begun_for, dropped_by, left_by, header_written, purged_at, Store, Slot, Stored, Reader, Whole, Part, complete_body, begun, dropped, dropped_on, followed, followed_by, has_body_of, is_idle, left, meta_changed, meta_changed_in, meta_changed_on, shut, shut_on, with_meta, with_slot, body_weight, weight_of, Weighing}
 
 -- the two tests of numbers agree
 pub cmp_same : (q w : ℕ) → eq_by_cmp nat_cmp q w ≡ (w == q)
@@ -107,6 +107,18 @@ module _ (wg : Weighing) where
   pub fewer-purged_at : (s : Store) (o : Option ℕ) → Fewer s.slots (purged_at s o).slots
   fewer-purged_at s None = fewer-same s.slots
   fewer-purged_at s (Some k) = fewer-remove s.slots k
+
+  -- a write goes, and its body if it is complete
+  pub fewer-write_purged : (s : Store) (k n : ℕ) → Fewer s.slots (write_purged s k n).slots
+  fewer-write_purged s k n =
+      elim (get s.slots k) as (λ o. get s.slots k ≡ o → Fewer s.slots (write_gone_on s.slots k n o)) [
+        | None ↦ λ is. fewer-same s.slots
+        | Some x ↦ λ is. fewer-slot s.slots k (slot_without n x) (λ b e. (b, ap complete_body is ∙ stays (has_body_of n x.body) x.body b e, refl, refl, refl))
+      ] refl
+    where
+      stays : (t : Bool) (o : Option Stored) (b : Stored) → cond t None o ≡ Some b → o ≡ Some b
+      stays true o b e = absurd (cc)
+      stays false o b e = e
 
   pub fewer-slots : (s t : Store) → t.slots ≡ s.slots → Fewer s.slots t.slots
   fewer-slots s t same = subst (λ xs. Fewer s.slots xs) (sym same) (fewer-same s.slots)

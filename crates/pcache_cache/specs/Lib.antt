@@ -1,5 +1,7 @@
 pub mod Ending
 pub mod Feeding
+pub mod Fetching
+pub mod FetchingCode
 pub mod Filling
 pub mod Growing
 pub mod Locking

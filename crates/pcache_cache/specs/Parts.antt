@@ -1,7 +1,9 @@
 -- A store, an eviction manager and a lock table as one value, and their invariant (own).
-use Rattle.std.specs.Prelude.{◌≡◌, ℕ, ◌≤◌, not, Bool, true, false, List, Option, Some, None, IfSome, cond}
+use Rattle.std.specs.Prelude.{◌≡◌, ℕ, ◌≤◌, not, Bool, true, false, List, Option, Some, None, IfErr, IfSome, OnOk, Result, cond}
 use Rattle.std.specs.FinMap.{get}
 use Rattle.pcache_base.specs.Key.{Key, slot}
+use Rattle.pcache_base.specs.declared.error.ErrorType.{ErrorType}
+use Rattle.pcache_base.specs.declared.error.ErrorType.TheVariants.{OutOfMemory}
 use Rattle.pcache_evict.specs.Entry.{id_of}
 use Rattle.pcache_evict.specs.Tracked.{Tracked, Limits, Evicted}
 use Rattle.pcache_evict.specs.declared.eviction.entry_key.CacheEntryKey.{CacheEntryKey}
@@ -18,6 +20,7 @@ use Rattle.pcache_store.specs.Past.{Note, Wrote}
 use Rattle.pcache_store.specs.Notes.{noted}
 use Rattle.pcache_store.specs.Store.{Store, Stored, complete_body, is_told, is_write_under, wrote}
 use Rattle.pcache_store.specs.Totals.{stored_bytes, slots}
+use Rattle.pcache_cache.specs.Fetching.{PurgesSeen}
 use Rattle.pcache_cache.specs.Weighing.{body_weight, stored_weight}
 use Rattle.pcache_cache.specs.declared.weighing.Weighing.{Weighing}
 
@@ -34,6 +37,8 @@ pub record Parts : Type 0 where
   pub locks : Locks
   -- what was done to the lock table, the newest first
   pub deeds : List Deed
+  -- what it has seen of purges
+  pub purges : PurgesSeen
 
 -- its parts, as the calls of a request are lent them
 abbrev pub store_of : Parts → StoreSide
@@ -66,6 +71,13 @@ pub record IsKept (how : Weighing) (limits : Limits) (m : Tracked) (s : Store) :
   pub exact : TracksExactly how s m
   pub bounded : IsBounded how limits s
   pub newest : s.newest ≡ true  -- a look-up prefers the newest response
+
+-- a call failed for want of memory, and nothing was done
+pub record LacksMemory {A : Type 0} (result : Result A ErrorType) (r s : Request) (p q : Parts) : Type 0 where
+  pub failed : OnOk result ⊥
+  pub kind : IfErr result (λ e. e ≡ OutOfMemory)
+  pub request : s ≡ r
+  pub same : q ≡ p
 
 -- a request's write, if it has one, is a write of this store and of the request's key
 abbrev pub is_own_write : Store → Option Key → Option ℕ → Bool

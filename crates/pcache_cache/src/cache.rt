@@ -3,6 +3,7 @@ ghost use Rattle.std.specs.Prelude.{◌≡◌};
 ghost use Rattle.std.specs.FinMap as map;
 
 use crate::fill::is_own_write;
+use crate::purges::Purges;
 use crate::request::CacheRequest;
 use crate::weighing::Weighing;
 use pcache_base::seed::Seed;
@@ -35,6 +36,9 @@ pub struct Totals {
 /// Its store prefers the newest response (RFC 9111, 4): a look-up finds what was fetched last, in flight or complete, and the end
 /// of a write fails (`Superseded`) if a newer body of its key stands.
 ///
+/// A response whose fetch began before a purge of its key, or of its URL, is not stored, and of a URL's variants none is found that was
+/// written before the URL was purged (own: RFC 9111 has no purge). A look-up notes that the fetch begins; see [`Cache::begin_fetch`].
+///
 /// `K` is a mark, a type of the caller's that nothing else uses: a request of one cache cannot be used with the parts
 /// of another.
 #[derive(Drop)]
@@ -44,6 +48,7 @@ pub struct Cache<M: EvictionManager, K> {
     pub(crate) manager: M,
     pub(crate) lock: CacheLock,
     pub(crate) weighing: Weighing,
+    pub(crate) purges: Purges,
     pub(crate) of: PhantomData<K>,
 }
 
@@ -57,7 +62,7 @@ impl<M: EvictionManager, K> Model for Cache<M, K> {
 
     ghost coded = { parts_code };
 
-    ghost view = { λ c. record { store = c.store.state; past = c.store.past; weighing = c.weighing; tracked = M.tracked c.manager; limits = M.limits c.manager; evicted = M.evicted c.manager; locks = c.lock.table; deeds = c.lock.past } };
+    ghost view = { λ c. record { store = c.store.state; past = c.store.past; weighing = c.weighing; tracked = M.tracked c.manager; limits = M.limits c.manager; evicted = M.evicted c.manager; locks = c.lock.table; deeds = c.lock.past; purges = c.purges } };
 
     // Facts of the store and of what is tracked, and of no events: a world's invariant speaks of
     // its history, which a server has no room for.
@@ -70,6 +75,7 @@ impl<M: EvictionManager, K> Cache<M, K> {
     ghost use Rattle.pcache_evict.specs.Tracked.{weight};
     ghost use Rattle.pcache_lock.specs.Locks.{no_locks};
     ghost use Rattle.pcache_store.specs.Totals.{slots, stored_bytes};
+    ghost use Rattle.pcache_cache.specs.Fetching.{no_purges};
     ghost use Rattle.pcache_cache.specs.Parts.{MayEnd, TracksExactly};
     ghost use Rattle.pcache_cache.specs.Weighing.{stored_weight};
     ghost use Rattle.pcache_cache.specs.declared.weighing.Weighing.TheVariants.{Bodies};
@@ -87,6 +93,7 @@ impl<M: EvictionManager, K> Cache<M, K> {
               evicted = M.evicted manager;
               locks = no_locks (as_nanos age_timeout);
               deeds = [];
+              purges = no_purges;
             } }
     {
         // As in the Rust, whose limits bound the bodies alone.
@@ -112,6 +119,7 @@ impl<M: EvictionManager, K> Cache<M, K> {
               evicted = M.evicted manager;
               locks = no_locks (as_nanos age_timeout);
               deeds = [];
+              purges = no_purges;
             } }
     {
         Cache {
@@ -120,6 +128,7 @@ impl<M: EvictionManager, K> Cache<M, K> {
             manager,
             lock: CacheLock::new(alloc, age_timeout),
             weighing,
+            purges: Purges::new(),
             of: PhantomData,
         }
     }

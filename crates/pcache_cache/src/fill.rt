@@ -1,5 +1,8 @@
 //! Writes: their begin, their pieces and their end.
-ghost use Rattle.std.specs.Prelude.{◌≡◌};
+ghost use Rattle.std.specs.Prelude.{◌≡◌, ◌∷◌};
+ghost use Rattle.pcache_base.specs.CompactKey.{compact_slot};
+ghost use Rattle.pcache_store.specs.Past.{WritePurged};
+ghost use Rattle.pcache_store.specs.Store.{write_purged};
 ghost use Rattle.pcache_cache.specs.Parts.{is_own_write, replaced_in};
 
 use crate::cache::Cache;
@@ -7,26 +10,80 @@ use crate::request::CacheRequest;
 use crate::weighing::ending_weight;
 use bytes::Bytes;
 use pcache_base::error::Result;
-use pcache_evict::eviction::{CacheEntryId, EvictionManager};
+use pcache_base::key::CompactCacheKey;
+use pcache_evict::eviction::{CacheEntryId, CacheEntryKey, EvictionManager};
 use pcache_request::cache::ending::Entering;
 use pcache_request::cache::{FinishReport, HttpCache};
 use pcache_store::memory::MemCache;
-use pcache_store::storage::HandleMiss;
+use pcache_store::storage::{HandleMiss, PurgeTarget, PurgeType, Storage};
 
 impl<M: EvictionManager, K> Cache<M, K> {
-    ghost use Rattle.std.specs.Prelude.{◌≡◌};
+    ghost use Rattle.std.specs.Prelude.{◌≡◌, IfErr, IfOk, OnErr, Some, option_map, true};
+    ghost use Rattle.pcache_base.specs.CompactKey.{compact_of};
+    ghost use Rattle.pcache_base.specs.declared.error.ErrorType.TheVariants.{OutOfMemory};
+    ghost use Rattle.pcache_cache.specs.Fetching.{is_outdated};
     ghost use Rattle.pcache_request.specs.Phases.{IsFilling};
     ghost use Rattle.pcache_request.specs.Requests.{MayWrite};
     ghost use Rattle.pcache_request.specs.Sizes.{exceeds_head};
     ghost use Rattle.pcache_cache.specs.Parts.{MayEnd};
     ghost use Rattle.pcache_cache.specs.Weighing.{written_head};
-    ghost use Rattle.pcache_cache.specs.Filling.{BeginsWrite, EndsWrite, Writes};
+    ghost use Rattle.pcache_cache.specs.Filling.{Begins, BeginsWrite, EndsWrite, Writes, key_if, write_removed};
 
-    /// `HttpCache::set_miss_handler`: begins the write. Requires a phase in which a write may be made, a meta, and no write; ask
-    /// `may_write` of the request.
+    /// `HttpCache::set_miss_handler`: begins the write. If the key, or its URL, was purged since the request's fetch began, the write is
+    /// removed at once: the request writes and reads on as any other, nobody else finds the response, and its end says `WriteRemoved`.
+    /// Requires a phase in which a write may be made, a meta, and no write; ask `may_write` of the request.
     pub fn set_miss_handler(&mut self, request: &mut CacheRequest<K>) -> Result<()>
         requires { MayWrite request.old.cache }
-        ensures takes { BeginsWrite result request.old.cache request.new.cache self.old self.new }
+        ensures takes { BeginsWrite request.old.fetch result request.old.cache request.new.cache
+            self.old self.new }
+        ensures fetch { request.new.fetch ≡ request.old.fetch }
+    {
+        // Made first, so that a lack of memory for it changes nothing.
+        let outdated = self.outdated_key(request)?;
+        let begun = self.begin_write(request);
+        if let Some(key) = outdated {
+            self.remove_write(request, key);
+        }
+        begun
+    }
+
+    // The request's key, if it, or its URL, was purged since the request's fetch began.
+    fn outdated_key(&self, request: &CacheRequest<K>) -> Result<Option<CompactCacheKey>>
+        ensures key { IfOk result (λ k. k
+            ≡ key_if (is_outdated request.now.fetch request.now.cache.key self.now.purges)
+            request.now.cache.key) }
+        ensures outdated { OnErr result (is_outdated request.now.fetch request.now.cache.key
+            self.now.purges
+            ≡ true) }
+        ensures kind { IfErr result (λ e. e ≡ OutOfMemory) }
+    {
+        let key = request.cache.key();
+        if !self.purges.is_outdated(&request.fetch, key) {
+            return Ok(None);
+        }
+        match key {
+            Some(key) => Ok(Some(key.to_compact()?)),
+            None => Ok(None),
+        }
+    }
+
+    // Removes the request's write, if it has one. Its key is given.
+    fn remove_write(&mut self, request: &CacheRequest<K>, key: CompactCacheKey)
+        requires { option_map compact_of request.now.cache.key ≡ Some key }
+        ensures { self.new
+            ≡ write_removed request.now.cache.key request.now.cache.write self.old }
+    {
+        let Some(writer) = request.cache.writer() else {
+            return;
+        };
+        remove_one(&mut self.store, key, writer.number());
+    }
+
+    // Begins the write, whenever its response was fetched.
+    fn begin_write(&mut self, request: &mut CacheRequest<K>) -> Result<()>
+        requires { MayWrite request.old.cache }
+        ensures takes { Begins result request.old.cache request.new.cache self.old self.new }
+        ensures fetch { request.new.fetch ≡ request.old.fetch }
     {
         // For the prover: the contract of the call says that a request which fills has a key.
         let _key = request.cache.key();
@@ -69,6 +126,7 @@ impl<M: EvictionManager, K> Cache<M, K> {
         requires { IsFilling request.old.cache.phase }
         ensures takes { Writes result bytes eof request.old.cache request.new.cache self.old
             self.new }
+        ensures fetch { request.new.fetch ≡ request.old.fetch }
     {
         let Some(writer) = request.cache.miss_handler() else {
             return Ok(false);
@@ -93,6 +151,7 @@ impl<M: EvictionManager, K> Cache<M, K> {
         requires phase { IsFilling request.old.cache.phase }
         requires own { MayEnd self.old.store request.old.cache }
         ensures takes { EndsWrite result request.old.cache request.new.cache self.old self.new }
+        ensures fetch { request.new.fetch ≡ request.old.fetch }
     {
         // For the prover: the contract of the call says that the entry of the write has the write's
         // number.
@@ -106,6 +165,16 @@ impl<M: EvictionManager, K> Cache<M, K> {
         };
         request.cache.finish_replacing(&mut self.store, &mut self.manager, &mut self.lock, entering)
     }
+}
+
+// Removes one write of a key.
+fn remove_one(store: &mut MemCache, key: CompactCacheKey, number: u64)
+    ensures state { store.new.state ≡ write_purged store.old.state (compact_slot key) number }
+    ensures past { store.new.past ≡ WritePurged (compact_slot key) number ∷ store.old.past }
+{
+    let entry = CacheEntryKey::from_entry_id(key, Some(CacheEntryId::new(number)));
+    // A removal in memory does not fail.
+    let _ = store.purge(PurgeTarget::Exact(&entry), PurgeType::Invalidation);
 }
 
 // Whether a request's write, if it has one, is a write of the store and of the request's key.

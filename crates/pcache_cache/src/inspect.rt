@@ -92,6 +92,7 @@ impl<M: EvictionManager, K> Cache<M, K> {
             manager,
             lock: _,
             weighing: _,
+            purges: _,
             of: _,
         } = self;
         manager

@@ -6,6 +6,7 @@
 //! - `weighing`: what an entry weighs
 //! - `inspect`: its manager, and its invariant
 //! - `request`, `put`: a request of it, and a put
+//! - `purges`: what it has seen of purges, and when fetches began
 //! - `look`, `fill`, `remove`, `locks`, `renew`: the calls of a request, each that of `HttpCache` with the parts
 //!   passed
 //! - `reweigh`: what the entry of a body weighs once its meta is set
@@ -17,6 +18,7 @@ mod fill;
 mod inspect;
 mod locks;
 mod look;
+mod purges;
 mod put;
 mod remove;
 mod renew;
@@ -25,6 +27,7 @@ mod reweigh;
 mod weighing;
 
 pub use cache::{Cache, Totals};
+pub use purges::Fetch;
 pub use put::{LeftWrite, PendingPut};
 pub use request::CacheRequest;
 pub use weighing::{OVERHEAD, Weighing};

@@ -10,7 +10,7 @@ use pcache_lock::lock::{LockWaitOutcome, WritePermit};
 use pcache_request::cache::{LockName, ReleasedLock};
 
 impl<M: EvictionManager, K> Cache<M, K> {
-    ghost use Rattle.std.specs.Prelude.{IsSome};
+    ghost use Rattle.std.specs.Prelude.{◌≡◌, IsSome};
     ghost use Rattle.pcache_request.specs.LockUse.{read_in};
     ghost use Rattle.pcache_request.specs.Phases.{IsOn};
     ghost use Rattle.pcache_request.specs.Releasing.{MayRelease};
@@ -24,6 +24,7 @@ impl<M: EvictionManager, K> Cache<M, K> {
     ) -> Result<Poll<LockWaitOutcome>>
         requires { IsSome (read_in request.old.cache.held) }
         ensures takes { Waits result now request.old.cache request.new.cache self.old self.new }
+        ensures fetch { request.new.fetch ≡ request.old.fetch }
     {
         request.cache.cache_lock_wait(&mut self.lock, now)
     }
@@ -37,6 +38,7 @@ impl<M: EvictionManager, K> Cache<M, K> {
         requires { MayRelease reason request.old.cache.held }
         ensures takes { Releases result reason request.old.cache request.new.cache self.old
             self.new }
+        ensures fetch { request.new.fetch ≡ request.old.fetch }
     {
         request.cache.release_write_lock(&mut self.lock, reason)
     }
@@ -51,6 +53,7 @@ impl<M: EvictionManager, K> Cache<M, K> {
         requires { IsOn request.old.cache.phase }
         ensures takes { TakesPermit result permit request.old.cache request.new.cache self.old
             self.new }
+        ensures fetch { request.new.fetch ≡ request.old.fetch }
     {
         request.cache.set_write_lock(&mut self.lock, permit)
     }

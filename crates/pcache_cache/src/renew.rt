@@ -29,6 +29,7 @@ fn named_as(request: &HttpCache<MemCache>, meta: CacheMeta) -> CacheMeta
 }
 
 impl<M: EvictionManager, K> Cache<M, K> {
+    ghost use Rattle.std.specs.Prelude.{◌≡◌};
     ghost use Rattle.pcache_meta.specs.Header.{shown};
     ghost use Rattle.pcache_request.specs.Releasing.{MayRelease};
     ghost use Rattle.pcache_request.specs.Requests.{MayWrite};
@@ -49,6 +50,7 @@ impl<M: EvictionManager, K> Cache<M, K> {
         requires { MayRevalidate request.old.cache }
         ensures takes { Revalidates result meta request.old.cache request.new.cache self.old
             self.new }
+        ensures fetch { request.new.fetch ≡ request.old.fetch }
     {
         // For the prover: a complete body has the number of its write.
         self.store.headline();
@@ -81,6 +83,7 @@ impl<M: EvictionManager, K> Cache<M, K> {
         requires reason { MayRelease reason request.old.cache.held }
         ensures takes { ServesUncacheable result (shown header) reason request.old.cache
             request.new.cache self.old self.new }
+        ensures fetch { request.new.fetch ≡ request.old.fetch }
     {
         request
             .cache
@@ -96,6 +99,7 @@ impl<M: EvictionManager, K> Cache<M, K> {
         requires { MayWrite request.old.cache }
         ensures takes { Varies result variance request.old.cache request.new.cache self.old
             self.new }
+        ensures fetch { request.new.fetch ≡ request.old.fetch }
     {
         request.cache.update_variance(&mut self.lock, variance)
     }

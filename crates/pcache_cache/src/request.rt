@@ -1,10 +1,11 @@
 //! A request of a cache.
-ghost use Rattle.std.specs.Prelude.{◌≡◌, true, false};
+ghost use Rattle.std.specs.Prelude.{◌≡◌, None, true, false};
 ghost use Rattle.pcache_lock.specs.Locks.{Locks};
 ghost use Rattle.pcache_request.specs.Alone.{MayEndAlone};
 ghost use Rattle.pcache_request.specs.Requests.{dropped_by, enabled_with, left_by, let_go_by, new_request};
 ghost use Rattle.pcache_store.specs.Store.{Store};
 
+use crate::purges::Fetch;
 use pcache_request::cache::HttpCache;
 use pcache_request::phase::InUse;
 use pcache_store::memory::MemCache;
@@ -17,15 +18,18 @@ pub struct CacheRequest<K> {
     // Public, so that the calls which need no part of the cache are those of the request itself.
     /// The request itself.
     pub cache: HttpCache<MemCache>,
+    /// When its fetch began, if that was noted.
+    pub fetch: Option<Fetch>,
     of: PhantomData<K>,
 }
 
 impl<K> CacheRequest<K> {
     /// A request with caching turned on, which uses the eviction manager and the lock table.
     pub fn new(alloc: Global) -> CacheRequest<K>
-        ensures { result.cache
+        ensures request { result.cache
             ≡ enabled_with (record { eviction = true; predictor = false; lock = true })
             new_request }
+        ensures fetch { result.fetch ≡ None }
     {
         let mut cache = HttpCache::new(alloc);
         let uses = InUse {
@@ -36,6 +40,7 @@ impl<K> CacheRequest<K> {
         cache.enable(uses, None);
         CacheRequest {
             cache,
+            fetch: None,
             of: PhantomData,
         }
     }
@@ -55,7 +60,11 @@ impl<K> CacheRequest<K> {
     pub(crate) fn into_cache(self) -> HttpCache<MemCache>
         ensures { result ≡ self.cache }
     {
-        let CacheRequest { cache, of: _ } = self;
+        let CacheRequest {
+            cache,
+            fetch: _,
+            of: _,
+        } = self;
         cache
     }
 }

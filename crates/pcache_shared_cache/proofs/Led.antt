@@ -3,9 +3,11 @@
 use Rattle.pcache_cache.proofs.Adding.{end_keeps, ends_request_keeps, found_keeps, handed_keeps, left_keeps, let_go_keeps, looked_keeps, published_keeps, searched_keeps, settled_keeps, taken_keeps, varied_keeps, waited_keeps, writing_keeps, begun_keeps, written_keeps}
 use Rattle.pcache_cache.proofs.Growing.{GrewFrom, grew_if, grown_by_note, kept_by_deeds}
 use Rattle.pcache_cache.proofs.Owned.{own_keeps}
-use Rattle.pcache_cache.specs.Filling.{EndsWrite}
+use Rattle.pcache_base.specs.Key.{Key}
+use Rattle.pcache_cache.specs.Fetching.{FetchNote, is_old_variant, is_outdated}
+use Rattle.pcache_cache.specs.Filling.{Begins, BeginsSo, EndsWrite, write_gone, write_removed}
 use Rattle.pcache_cache.specs.Growing.{Grew}
-use Rattle.pcache_cache.specs.Looking.{LetsGo}
+use Rattle.pcache_cache.specs.Looking.{LetsGo, LooksIn, emptied, without_old}
 use Rattle.pcache_cache.specs.Renewing.{named_as, stock}
 use Rattle.pcache_cache.specs.Parts.{Adds, tracked_at_end, written_past}
 use Rattle.pcache_cache.specs.Weighing.{entered}
@@ -20,9 +22,9 @@ use Rattle.pcache_request.specs.WriteEnds.{EndsAs}
 use Rattle.pcache_request.specs.declared.cache.finish.FinishReport.{FinishReport}
 use Rattle.pcache_request.specs.declared.cache.report.LockName.{LockName}
 use Rattle.pcache_request.specs.declared.cache.report.ReleasedLock.{ReleasedLock}
-use Rattle.pcache_store.specs.Notes.{expiry_noted}
-use Rattle.pcache_store.specs.Past.{MetaSet, Purged}
-use Rattle.pcache_shared_cache.proofs.Words.{◌≡◌, ⊎_elim, inl, inr, ℕ, Bool, true, List, Option, None, Some, Result, Ok, Err, OnErr, OnOk, ap, option_map, refl, sym, subst, slot, ErrorType, dropped_keeps, grew_by, grew_not, grew_same, kept_by_notes, Disables, EndsRequest, BeginsWrite, Writes, Publishes, Releases, TakesPermit, Waits, EndsHit, LooksUp, TakesFound, Expires, Purges, Revalidates, ServesUncacheable, Varies, Parts, LockWaitOutcome, LockStatus, Done, Poll, NoCacheReason, Meta, published_by, table_handed, table_waited, Request, let_go_by, settled, table_found, dropped_past, searched_past, table_looked_for, table_varied, WriteEnd, HitStatus, leave_noted, noted, in_memory, Reader, MemHitHandler, Leads}
+use Rattle.pcache_store.specs.Notes.{added, expiry_noted}
+use Rattle.pcache_store.specs.Past.{MetaSet, Note, Purged}
+use Rattle.pcache_shared_cache.proofs.Words.{◌≡◌, ⊎_elim, inl, inr, ℕ, Bool, true, false, cond, List, [], ◌∷◌, ◌++◌, append_assoc, ◌∙◌, Option, None, Some, Result, Ok, Err, OnErr, OnOk, ap, option_map, refl, sym, subst, slot, ErrorType, dropped_keeps, grew_by, grew_not, grew_same, kept_by_notes, Disables, EndsRequest, BeginsWrite, Writes, Publishes, Releases, TakesPermit, Waits, EndsHit, LooksUp, TakesFound, Expires, Purges, Revalidates, ServesUncacheable, Varies, Parts, LockWaitOutcome, LockStatus, Done, Poll, NoCacheReason, Meta, published_by, table_handed, table_waited, Request, let_go_by, settled, table_found, dropped_past, searched_past, table_looked_for, table_varied, WriteEnd, HitStatus, leave_noted, noted, in_memory, Reader, MemHitHandler, Leads}
 use Rattle.pcache_request.specs.declared.cache.finish.WriteEnd.TheVariants as end
 use Rattle.pcache_shared_cache.proofs.Ages.{HasAgeOf, age_as, age_ended, age_found, age_handed, age_if, age_let_go, age_looked, age_published, age_varied, age_waited, settled_at}
 
@@ -33,6 +35,25 @@ err_ap f (Err k) x y e = ap f e
 -- the part after a call that changed nothing of the locks, or nothing of the store
 same_deeds : (p q : Parts) → q.deeds ≡ p.deeds → Grew p.deeds q.deeds
 same_deeds p q is = grew_same p.deeds q.deeds is
+
+-- a list that grew, and grew once more
+grew_then : {A : Type 0} (a b c : List A) → Grew a b → Grew b c → Grew a c
+grew_then a b c (xs, is) (ys, so) = (ys ++ xs, so ∙ ap (λ l. ys ++ l) is ∙ sym (append_assoc ys xs a))
+
+-- a past with one more note, if there is one
+added_grew : (note : Option Note) (past : List Note) → Grew past (added note past)
+added_grew None past = ([], refl)
+added_grew (Some note) past = (note ∷ [], refl)
+
+-- nothing changed
+pub stayed : (p q : Parts) → q ≡ p → Leads p q
+stayed p q same = record {
+  limits = ap (λ (x : Parts). x.limits) same;
+  weighing = ap (λ (x : Parts). x.weighing) same;
+  age = ap (λ (x : Parts). x.locks.age_timeout) same;
+  past = grew_same p.past q.past (ap (λ (x : Parts). x.past) same);
+  deeds = grew_same p.deeds q.deeds (ap (λ (x : Parts). x.deeds) same);
+}
 
 pub purged : {result : Result Bool ErrorType} {r s : Request} {p q : Parts} → Purges result r s p q → Leads p q
 purged {result} {r} {s} {p} {q} row = record {
@@ -64,23 +85,48 @@ written {result} {bytes} {eof} {r} {s} {p} {q} row = record {
 grew_as : {A : Type 0} (p q : List A) (x : Option (List A)) → Some q ≡ x → GrewFrom (Some p) x → Grew p q
 grew_as p q x is grew = subst (GrewFrom (Some p)) (sym is) grew
 
-looked_past : (result : Result (Option (Meta × MemHitHandler)) ErrorType) (now : ℕ) (r s : Request) (p q : Parts) → LooksUp result now r s p q → Grew p.past q.past
+looked_past : (result : Result (Option (Meta × MemHitHandler)) ErrorType) (now : ℕ) (r s : Request) (p q : Parts) → LooksIn result now r s p q → Grew p.past q.past
 looked_past (Ok f) now r s p q row = grew_by (searched_past p.store r) p.past q.past (searched_keeps (kept_by_notes p.past) p.store r) row.takes.past
 looked_past (Err e) now r s p q row = ⊎_elim (λ same. grew_as p.past q.past (Some p.past) same.1 (grew_not p.past))
     (λ gone. grew_as p.past q.past (searched_past p.store r (Some p.past)) gone.1 (searched_keeps (kept_by_notes p.past) p.store r (Some p.past) (grew_not p.past))) row.takes.left
 
-looked_table : (result : Result (Option (Meta × MemHitHandler)) ErrorType) (now : ℕ) (r s : Request) (p q : Parts) → LooksUp result now r s p q → Grew p.deeds q.deeds
+looked_table : (result : Result (Option (Meta × MemHitHandler)) ErrorType) (now : ℕ) (r s : Request) (p q : Parts) → LooksIn result now r s p q → Grew p.deeds q.deeds
 looked_table (Ok f) now r s p q row = grew_by (looked_deeds p.store now p.locks r) p.deeds q.deeds (looked_keeps (kept_by_deeds p.deeds) p.store now p.locks r) row.takes.deeds
 looked_table (Err e) now r s p q row = grew_as p.deeds q.deeds (Some p.deeds) row.takes.same_deeds (grew_not p.deeds)
 
-pub looked : {result : Result (Option (Meta × MemHitHandler)) ErrorType} {now : ℕ} {r s : Request} {p q : Parts} → LooksUp result now r s p q → Leads p q
-looked {result} {now} {r} {s} {p} {q} row = record {
+looked_in : {result : Result (Option (Meta × MemHitHandler)) ErrorType} {now : ℕ} {r s : Request} {p q : Parts} → LooksIn result now r s p q → Leads p q
+looked_in {result} {now} {r} {s} {p} {q} row = record {
   limits = ap (λ (x : Parts). x.limits) row.rest;
   weighing = ap (λ (x : Parts). x.weighing) row.rest;
   age = age_if result p.locks (table_looked_for p.store now r p.locks) q.locks row.takes.table (age_looked p.store now r p.locks) row.takes.same_table;
   past = looked_past result now r s p q row;
   deeds = looked_table result now r s p q row;
 }
+
+-- one call after another
+leads_then : (p m q : Parts) → Leads p m → Leads m q → Leads p q
+leads_then p m q first second = record {
+  limits = second.limits ∙ first.limits;
+  weighing = second.weighing ∙ first.weighing;
+  age = second.age ∙ first.age;
+  past = grew_then p.past m.past q.past first.past second.past;
+  deeds = grew_then p.deeds m.deeds q.deeds first.deeds second.deeds;
+}
+
+-- what is stored for an old variant is removed
+emptied_leads : (r : Request) (p : Parts) → Leads p (emptied r p)
+emptied_leads r p = record { limits = refl; weighing = refl; age = refl; past = added_grew (option_map (λ k. Purged (slot k)) r.key) p.past; deeds = grew_same p.deeds p.deeds refl }
+
+cleared_leads : (r : Request) (p : Parts) → Leads p (without_old r p)
+cleared_leads r p = by (is_old_variant r.key p.store p.purges)
+  where
+    by : (b : Bool) → Leads p (cond b (emptied r p) p)
+    by true = emptied_leads r p
+    by false = stayed p p refl
+
+pub looked : {result : Result (Option (Meta × MemHitHandler)) ErrorType} {now : ℕ} {r s : Request} {p q : Parts} → LooksUp result now r s p q → Leads p q
+looked {result} {now} {r} {s} {p} {q} (inl row) = leads_then p (without_old r p) q (cleared_leads r p) (looked_in row)
+looked {result} {now} {r} {s} {p} {q} (inr row) = stayed p q row.1.same
 
 grew_either : {A R : Type 0} (result : Result R ErrorType) (f h : Option (List A) → Option (List A)) (p q : List A) → ((x : Option (List A)) → GrewFrom (Some p) x → GrewFrom (Some p) (f x)) → ((x : Option (List A)) → GrewFrom (Some p) x → GrewFrom (Some p) (h x))
     → OnOk result (Adds f p q) → OnErr result (Adds h p q) → Grew p q
@@ -193,28 +239,50 @@ varied_on {result} {variance} {r} {s} {p} {q} row = record {
   deeds = grew_by (varied_deeds variance r) p.deeds q.deeds (varied_keeps (kept_by_deeds p.deeds) variance r) row.takes.deeds;
 }
 
-begun_notes : (result : Result (Unit {0}) ErrorType) (r s : Request) (p q : Parts) → BeginsWrite result r s p q → Grew p.past q.past
+begun_notes : (result : Result (Unit {0}) ErrorType) (r s : Request) (p q : Parts) → Begins result r s p q → Grew p.past q.past
 begun_notes (Ok a) r s p q row = grew_by (writing_past true p.store r) p.past q.past (writing_keeps (kept_by_notes p.past) true p.store r) row.takes.past
 begun_notes (Err e) r s p q row = ⊎_elim (λ same. grew_as p.past q.past (Some p.past) same.2 (grew_not p.past))
     (λ gone. grew_as p.past q.past (begun_past p.store r (Some p.past)) gone.2 (begun_keeps (kept_by_notes p.past) p.store r (Some p.past) (grew_not p.past))) row.takes.err
 
-begun_deeds : (result : Result (Unit {0}) ErrorType) (r s : Request) (p q : Parts) → BeginsWrite result r s p q → Grew p.deeds q.deeds
+begun_deeds : (result : Result (Unit {0}) ErrorType) (r s : Request) (p q : Parts) → Begins result r s p q → Grew p.deeds q.deeds
 begun_deeds (Ok a) r s p q row = grew_by (settled_deeds Done r.held) p.deeds q.deeds (settled_keeps (kept_by_deeds p.deeds) Done r.held) row.takes.deeds
 begun_deeds (Err e) r s p q row = ⊎_elim (λ same. grew_as p.deeds q.deeds (Some p.deeds) same.4 (grew_not p.deeds))
     (λ gone. grew_as p.deeds q.deeds (settled_deeds Done r.held (Some p.deeds)) gone.4 (settled_keeps (kept_by_deeds p.deeds) Done r.held (Some p.deeds) (grew_not p.deeds))) row.takes.err
 
-begun_age : (result : Result (Unit {0}) ErrorType) (r s : Request) (p q : Parts) → BeginsWrite result r s p q → HasAgeOf p.locks q.locks
+begun_age : (result : Result (Unit {0}) ErrorType) (r s : Request) (p q : Parts) → Begins result r s p q → HasAgeOf p.locks q.locks
 begun_age (Ok a) r s p q row = settled_at Done r.held p.locks q.locks row.takes.table
 begun_age (Err e) r s p q row = ⊎_elim (λ same. age_as p.locks p.locks q.locks same.3 refl) (λ gone. settled_at Done r.held p.locks q.locks gone.3) row.takes.err
 
-pub begun : {result : Result (Unit {0}) ErrorType} {r s : Request} {p q : Parts} → BeginsWrite result r s p q → Leads p q
-begun {result} {r} {s} {p} {q} row = record {
+begun_first : {result : Result (Unit {0}) ErrorType} {r s : Request} {p q : Parts} → Begins result r s p q → Leads p q
+begun_first {result} {r} {s} {p} {q} row = record {
   limits = ap (λ (x : Parts). x.limits) row.rest;
   weighing = ap (λ (x : Parts). x.weighing) row.rest;
   age = begun_age result r s p q row;
   past = begun_notes result r s p q row;
   deeds = begun_deeds result r s p q row;
 }
+
+-- a write is removed
+write_gone_leads : (k : Option Key) (w : Option ℕ) (p : Parts) → Leads p (write_removed k w p)
+write_gone_leads None w p = stayed p p refl
+write_gone_leads (Some k) w p = record { limits = refl; weighing = refl; age = refl; past = added_grew (write_gone (slot k) w) p.past; deeds = grew_same p.deeds p.deeds refl }
+
+begun_so : {fetch : Option FetchNote} {result : Result (Unit {0}) ErrorType} {r s : Request} {p q : Parts} → BeginsSo fetch result r s p q → Leads p q
+begun_so {fetch} {result} {r} {s} {p} {q} row = by (is_outdated fetch r.key p.purges) row.removed
+  where
+    m : Parts
+    m = row.between
+
+    first : Leads p m
+    first = begun_first row.begins
+
+    by : (b : Bool) → q ≡ cond b (write_removed s.key s.write m) m → Leads p q
+    by true is = subst (λ (x : Parts). Leads p x) (sym is) (leads_then p m (write_removed s.key s.write m) first (write_gone_leads s.key s.write m))
+    by false is = subst (λ (x : Parts). Leads p x) (sym is) first
+
+pub begun : {fetch : Option FetchNote} {result : Result (Unit {0}) ErrorType} {r s : Request} {p q : Parts} → BeginsWrite fetch result r s p q → Leads p q
+begun {fetch} {result} {r} {s} {p} {q} (inl row) = begun_so row
+begun {fetch} {result} {r} {s} {p} {q} (inr row) = stayed p q row.1.same
 
 -- what holds of each way in which a write can have ended
 ended_any : {X : Type 0} {P : WriteEnd → Type 0} (result : Result (Option FinishReport) ErrorType) → EndsAs result P → ((how : WriteEnd) → P how → X) → X
@@ -230,14 +298,4 @@ ended {result} {r} {s} {p} {q} row = record {
   age = ended_any result row.ended (λ how is. age_ended in_memory r r.key r.write (entered p.weighing p.store r.write) p.limits how p.store q.store (tracked_at_end p r how) q.tracked p.locks q.locks is.ends);
   past = ended_any result row.ended (λ how is. ends_request_keeps (kept_by_notes p.past) in_memory r.key r.write how (Some p.past) (Some q.past) is.past (grew_not p.past));
   deeds = ended_any result row.ended (λ how is. grew_by (end_deeds r.write r.held how) p.deeds q.deeds (end_keeps (kept_by_deeds p.deeds) r.write r.held how) is.deeds);
-}
-
--- nothing changed
-pub stayed : (p q : Parts) → q ≡ p → Leads p q
-stayed p q same = record {
-  limits = ap (λ (x : Parts). x.limits) same;
-  weighing = ap (λ (x : Parts). x.weighing) same;
-  age = ap (λ (x : Parts). x.locks.age_timeout) same;
-  past = grew_same p.past q.past (ap (λ (x : Parts). x.past) same);
-  deeds = grew_same p.deeds q.deeds (ap (λ (x : Parts). x.deeds) same);
 }

@@ -1,6 +1,7 @@
 -- What a contract sees of a manager with its limits, and how a part with it begins (own).
 use Rattle.std.specs.Prelude.{ℕ, [], true}
 use Rattle.std.specs.FinMap.{empty}
+use Rattle.pcache_cache.specs.Fetching.{no_purges}
 use Rattle.pcache_cache.specs.Parts.{Parts}
 use Rattle.pcache_cache.specs.declared.weighing.Weighing.TheVariants.{Entries}
 use Rattle.pcache_evict.specs.Listed.{Listed, map_of}
@@ -65,4 +66,5 @@ opened age_timeout m = record {
   evicted = m.evicted;
   locks = no_locks age_timeout;
   deeds = [];
+  purges = no_purges;
 }

@@ -1,8 +1,9 @@
 -- Encodings of what contracts see of a part and of its requests, which the values of models need (own).
 use denote.Builtin.{unit}
-use Rattle.std.specs.Prelude.{ℕ, List, refl}
+use Rattle.std.specs.Prelude.{ℕ, List, Option, refl}
 use Rattle.std.specs.Coded.{Coded, code_by, coded×, coded_list, coded_ℕ}
 use Rattle.std.specs.FinMap.{code}
+use Rattle.pcache_cache.specs.Fetching.{FetchNote}
 use Rattle.pcache_cache.specs.Parts.{Parts}
 use Rattle.pcache_cache.specs.PartsCode.{parts_code}
 use Rattle.pcache_cache.specs.contracts.request.CacheRequest as request_row
@@ -32,10 +33,11 @@ managers_code =
     coded_list (code_by (Tracked × (Limits × (ℕ × ℕ))) (coded× (code key_row.the_row.coded coded_ℕ) (coded× limits_code (coded× coded_ℕ coded_ℕ)))
     (λ m. (m.tracked, (m.limits, (m.evicted.weight, m.evicted.count)))) (λ q. record { tracked = q.0; limits = q.1.0; evicted = record { weight = q.1.1.0; count = q.1.1.1 } }) (λ _. refl))
 
-abbrev request_code : Coded Request
-request_code = code_by ((request_row.the_row unit).Denot) ((request_row.the_row unit).coded) (λ r. record { cache = r; of = record {} }) (λ d. d.cache) (λ _. refl)
+abbrev request_code : Coded (Request × Option FetchNote)
+request_code =
+    code_by ((request_row.the_row unit).Denot) ((request_row.the_row unit).coded) (λ r. record { cache = r.0; fetch = r.1; of = record {} }) (λ d. (d.cache, d.fetch)) (λ _. refl)
 
 abbrev pub seated_code : Coded Seated
 seated_code =
-    code_by (ℕ × (List Parts × Request)) (coded× coded_ℕ (coded× (coded_list parts_code) request_code)) (λ s. (s.place, (s.seen, s.cache))) (λ q. record { place = q.0; seen = q.1.0; cache = q.1.1 })
-    (λ _. refl)
+    code_by (ℕ × (List Parts × (Request × Option FetchNote))) (coded× coded_ℕ (coded× (coded_list parts_code) request_code)) (λ s. (s.place, (s.seen, (s.cache, s.fetch))))
+    (λ q. record { place = q.0; seen = q.1.0; cache = q.1.1.0; fetch = q.1.1.1 }) (λ _. refl)

@@ -1,15 +1,17 @@
 -- A cache in parts, and what is known of a part while a thread has it (own).
-use Rattle.std.specs.Prelude.{◌≡◌, ℕ, List, All, map}
+use Rattle.std.specs.Prelude.{◌≡◌, ℕ, List, Option, All, map}
+use Rattle.pcache_cache.specs.Fetching.{FetchNote}
 use Rattle.pcache_cache.specs.Parts.{Parts, IsKept}
 use Rattle.pcache_evict.specs.Tracked.{Limits}
 use Rattle.pcache_lock.specs.declared.lock.permit.WritePermit.{WritePermit}
 use Rattle.pcache_request.specs.Requests.{Request}
 
--- a request of a cache in parts: itself, the place of its part, and what it has seen of the part
+-- a request of a cache in parts: itself, the place of its part, what it has seen of the part, and when its fetch began, if that was noted
 pub record Seated : Type 0 where
   pub place : ℕ
   pub seen : List Parts
   pub cache : Request
+  pub fetch : Option FetchNote
 
 -- a permit of a cache in parts: itself, the place of its part, and what was seen of the part by the request that had it
 pub record SeatedPermit : Type 0 where

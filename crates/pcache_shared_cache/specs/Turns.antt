@@ -28,8 +28,8 @@ InTurns {A} call turns r s result =
 
 -- a read, of a cache whose parts began so
 abbrev pub ReadsBody : List Parts → (ℕ → Option ℕ) → CallOf (Option (List ℕ))
-ReadsBody firsts names r s result = Sees firsts names r.place r.seen s.seen (λ p. Reads result r.cache s.cache p.store) × (s.place ≡ r.place)
+ReadsBody firsts names r s result = Sees firsts names r.place r.seen s.seen (λ p. Reads result r.cache s.cache p.store) × (s.place ≡ r.place) × (s.fetch ≡ r.fetch)
 
 -- a question whether a wait is over
 abbrev pub AsksOfWait : List Parts → (ℕ → Option ℕ) → ℕ → CallOf LockWaitOutcome
-AsksOfWait firsts names now r s result = Goes firsts names r.place r.seen s.seen (Waits result now r.cache s.cache) × (s.place ≡ r.place)
+AsksOfWait firsts names now r s result = Goes firsts names r.place r.seen s.seen (Waits result now r.cache s.cache) × (s.place ≡ r.place) × (s.fetch ≡ r.fetch)

@@ -20,14 +20,16 @@ impl<M: EvictionManager, K: Mark, const N: usize> SharedCache<M, K, N> {
     ghost use Rattle.pcache_cache.specs.Weighing.{written_head};
     ghost use Rattle.pcache_shared_cache.specs.Seen.{Goes, Sees};
 
-    /// `Cache::set_miss_handler`: begins the write. Requires a phase in which a write may be made, a meta, and no write; ask
+    /// `Cache::set_miss_handler`: begins the write, which is removed at once if the key, or its URL, was purged since the request's fetch
+    /// began. Requires a phase in which a write may be made, a meta, and no write; ask
     /// `may_write` of the request.
     pub fn set_miss_handler<R: Wait>(&self, rt: &R, request: &mut SharedRequest<K, N>) -> Result<()>
         requires { MayWrite request.old.cache }
         ensures goes { Goes self.now K.names request.old.place request.old.seen request.new.seen
-            (BeginsWrite result request.old.cache request.new.cache) }
+            (BeginsWrite request.old.fetch result request.old.cache request.new.cache) }
         ensures phase { request.new.cache.phase ≡ request.old.cache.phase }
         ensures place { request.new.place ≡ request.old.place }
+        ensures fetch { request.new.fetch ≡ request.old.fetch }
     {
         let mut guard = self.part(request.place()).lock(rt);
         let part = &mut *guard;
@@ -102,6 +104,7 @@ impl<M: EvictionManager, K: Mark, const N: usize> SharedCache<M, K, N> {
         ensures err { OnErr result ((request.new.cache ≡ request.old.cache)
             ⊎ (request.new.cache ≡ after_finish request.old.cache)) }
         ensures place { request.new.place ≡ request.old.place }
+        ensures fetch { request.new.fetch ≡ request.old.fetch }
     {
         let mut guard = self.part(request.place()).lock(rt);
         let part = &mut *guard;

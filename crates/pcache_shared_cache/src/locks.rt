@@ -42,6 +42,7 @@ impl<M: EvictionManager, K: Mark, const N: usize> SharedCache<M, K, N> {
         ensures same { OnErr result (request.new.cache ≡ request.old.cache) }
         ensures kind { IfErr result (λ e. e ≡ OutOfMemory) }
         ensures place { request.new.place ≡ request.old.place }
+        ensures fetch { request.new.fetch ≡ request.old.fetch }
     {
         let mut guard = self.part(request.place()).lock(rt);
         let part = &mut *guard;
@@ -66,6 +67,7 @@ impl<M: EvictionManager, K: Mark, const N: usize> SharedCache<M, K, N> {
         ensures goes_on { IfOk result (λ a. a ≡ Pending → IsSome (read_in request.new.cache.held)) }
         ensures kind { IfErr result (λ e. e ≡ OutOfMemory) }
         ensures place { request.new.place ≡ request.old.place }
+        ensures fetch { request.new.fetch ≡ request.old.fetch }
     {
         // With one moment for all turns: a caller that waits for long calls again with a later one.
         for _turn in 0..turns {
@@ -91,6 +93,7 @@ impl<M: EvictionManager, K: Mark, const N: usize> SharedCache<M, K, N> {
         ensures place { request.new.place ≡ request.old.place }
         ensures released { result
             ≡ option_map (released_as (status_for (λ text. GiveUp) reason)) request.old.cache.held }
+        ensures fetch { request.new.fetch ≡ request.old.fetch }
     {
         let mut guard = self.part(request.place()).lock(rt);
         let part = &mut *guard;
@@ -115,6 +118,7 @@ impl<M: EvictionManager, K: Mark, const N: usize> SharedCache<M, K, N> {
         ensures request { request.new.cache ≡ handed permit.permit request.old.cache }
         ensures stays { request.new.place ≡ request.old.place }
         ensures let_go { result ≡ option_map name_of (gone_for permit.permit request.old.cache) }
+        ensures fetch { request.new.fetch ≡ request.old.fetch }
     {
         let lock = self.part(request.place());
         let (permit, sight) = permit.into_both();

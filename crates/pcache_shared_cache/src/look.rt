@@ -25,15 +25,16 @@ impl<M: EvictionManager, K: Mark, const N: usize> SharedCache<M, K, N> {
     ghost use Rattle.pcache_request.specs.Requests.{HoldsNothing, asks_for_hit, length_by, whole_by, without_reader};
     ghost use Rattle.pcache_store.specs.Readers.{reader_of};
     ghost use Rattle.pcache_cache.specs.Ending.{Disables, EndsRequest};
-    ghost use Rattle.pcache_cache.specs.Looking.{EndsHit, LetsGo, LooksUp, TakesFound};
+    ghost use Rattle.pcache_cache.specs.Looking.{EndsHit, LetsGo, TakesFound};
+    ghost use Rattle.pcache_cache.specs.Fetching.{fetch_begun};
     ghost use Rattle.pcache_request.specs.Looking.{Reads};
-    ghost use Rattle.pcache_shared_cache.specs.Calls.{FindsBody};
+    ghost use Rattle.pcache_shared_cache.specs.Calls.{FindsBody, LooksUpNoted};
     ghost use Rattle.pcache_shared_cache.specs.Seen.{Begins, Goes, Sees};
     ghost use Rattle.pcache_shared_cache.specs.Turns.{InTurns, ReadsBody};
 
     /// `Cache::cache_lookup` in the request's part: what its store has for the key; if nothing is handed on, the key's lock is
     /// asked for. No call of a shared request takes a policy into use, so there is none to ask. A pair that is handed on has to
-    /// be taken by `cache_found` or let go.
+    /// be taken by `cache_found` or let go. It notes that the request's fetch begins (`begin_fetch`).
     /// Requires the phase CacheKey or Stale; ask `phase().may_look_up()` of `cache()`.
     pub fn cache_lookup<R: Wait>(
         &self,
@@ -43,7 +44,7 @@ impl<M: EvictionManager, K: Mark, const N: usize> SharedCache<M, K, N> {
     ) -> Result<Option<(CacheMeta, MemHitHandler)>>
         requires { MayLookUp request.old.cache.phase }
         ensures goes { Goes self.now K.names request.old.place request.old.seen request.new.seen
-            (LooksUp result now request.old.cache request.new.cache) }
+            (LooksUpNoted result now request.old.cache request.new.cache request.new.fetch) }
         ensures same { OnErr result (request.new.cache ≡ request.old.cache) }
         ensures phase { request.new.cache.phase ≡ request.old.cache.phase }
         ensures uses { request.new.cache.uses ≡ request.old.cache.uses }
@@ -62,14 +63,31 @@ impl<M: EvictionManager, K: Mark, const N: usize> SharedCache<M, K, N> {
         Ok(Some((meta, hit)))
     }
 
-    // What the request's look-up finds, if that is a complete body. The part stays as it is.
+    /// `Cache::begin_fetch`: notes that the request's fetch begins now. A look-up notes it too, so only who fetches without one, or once
+    /// more, calls this first.
+    pub fn begin_fetch<R: Wait>(&self, rt: &R, request: &mut SharedRequest<K, N>)
+        ensures sees { Sees self.now K.names request.old.place request.old.seen request.new.seen
+            (λ p. request.new.fetch ≡ fetch_begun request.old.cache.key p.purges) }
+        ensures rest { request.new
+            ≡ record request.old { seen = request.new.seen; fetch = request.new.fetch } }
+    {
+        let lock = self.part(request.place());
+        let mut guard = lock.lock(rt);
+        let part = &mut *guard;
+        part.log.shows(&mut request.sight);
+        part.cache.begin_fetch(&mut request.request);
+    }
+
+    // What the request's look-up finds, if that is a complete body. Its fetch begins; the part stays as it is.
     fn complete_body<R: Wait>(&self, rt: &R, request: &mut SharedRequest<K, N>) -> Option<FoundBody>
         ensures goes { Goes self.now K.names request.old.place request.old.seen request.new.seen
-            (FindsBody result request.old.cache) }
-        ensures rest { request.new ≡ record request.old { seen = request.new.seen } }
+            (FindsBody result request.old.cache request.new.fetch) }
+        ensures rest { request.new
+            ≡ record request.old { seen = request.new.seen; fetch = request.new.fetch } }
     {
         let mut guard = self.part(request.place()).lock(rt);
         let part = &mut *guard;
+        part.cache.begin_fetch(&mut request.request);
         let found = part.cache.complete_body(&request.request);
         part.log.adds(&part.cache, &mut request.sight);
         match found {
@@ -89,7 +107,7 @@ impl<M: EvictionManager, K: Mark, const N: usize> SharedCache<M, K, N> {
     ) -> Result<Option<(CacheMeta, MemHitHandler)>>
         requires { MayLookUp request.old.cache.phase }
         ensures goes { Goes self.now K.names request.old.place request.old.seen request.new.seen
-            (LooksUp result now request.old.cache request.new.cache) }
+            (LooksUpNoted result now request.old.cache request.new.cache request.new.fetch) }
         ensures same { OnErr result (request.new.cache ≡ request.old.cache) }
         ensures phase { request.new.cache.phase ≡ request.old.cache.phase }
         ensures uses { request.new.cache.uses ≡ request.old.cache.uses }
@@ -123,6 +141,7 @@ impl<M: EvictionManager, K: Mark, const N: usize> SharedCache<M, K, N> {
             e ≡ NumbersExhausted → IsTrue (asks_for_hit status request.old.cache)) }
         ensures same { OnErr result (request.new.cache ≡ request.old.cache) }
         ensures place { request.new.place ≡ request.old.place }
+        ensures fetch { request.new.fetch ≡ request.old.fetch }
     {
         let mut guard = self.part(request.place()).lock(rt);
         let part = &mut *guard;
@@ -160,6 +179,7 @@ impl<M: EvictionManager, K: Mark, const N: usize> SharedCache<M, K, N> {
         ensures reader { IsSome request.new.cache.reader }
         ensures phase { request.new.cache.phase ≡ request.old.cache.phase }
         ensures place { request.new.place ≡ request.old.place }
+        ensures fetch { request.new.fetch ≡ request.old.fetch }
     {
         let lock = self.part(request.place());
         // What needs no part takes no lock. What such a call returns is true of each state of the part, so of the last one seen.
@@ -232,6 +252,7 @@ impl<M: EvictionManager, K: Mark, const N: usize> SharedCache<M, K, N> {
         ensures reader { IsSome request.new.cache.reader }
         ensures phase { request.new.cache.phase ≡ request.old.cache.phase }
         ensures place { request.new.place ≡ request.old.place }
+        ensures fetch { request.new.fetch ≡ request.old.fetch }
     {
         for _turn in 0..turns {
             match self.read_body(rt, request)? {
@@ -259,6 +280,7 @@ impl<M: EvictionManager, K: Mark, const N: usize> SharedCache<M, K, N> {
         ensures request { request.new.cache ≡ without_reader request.old.cache }
         ensures place { request.new.place ≡ request.old.place }
         ensures answer { IsOk result }
+        ensures fetch { request.new.fetch ≡ request.old.fetch }
     {
         let lock = self.part(request.place());
         if request.request.cache.reads_alone() {
@@ -291,6 +313,7 @@ impl<M: EvictionManager, K: Mark, const N: usize> SharedCache<M, K, N> {
         ensures off { IsDisabled request.new.cache.phase }
         ensures held { HoldsNothing request.new.cache }
         ensures released { result ≡ option_map name_of request.old.cache.held }
+        ensures fetch { request.new.fetch ≡ request.old.fetch }
     {
         let mut guard = self.part(request.place()).lock(rt);
         let part = &mut *guard;

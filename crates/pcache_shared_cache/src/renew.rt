@@ -41,6 +41,7 @@ impl<M: EvictionManager, K: Mark, const N: usize> SharedCache<M, K, N> {
             ≡ renewed (named_as request.old.cache.meta meta) request.old.cache }
         ensures place { request.new.place ≡ request.old.place }
         ensures kind { IfErr result (λ e. e ≡ OutOfMemory) }
+        ensures fetch { request.new.fetch ≡ request.old.fetch }
     {
         let mut guard = self.part(request.place()).lock(rt);
         let part = &mut *guard;
@@ -67,6 +68,7 @@ impl<M: EvictionManager, K: Mark, const N: usize> SharedCache<M, K, N> {
         ensures request { request.new.cache ≡ uncacheable (shown header) reason request.old.cache }
         ensures place { request.new.place ≡ request.old.place }
         ensures released { result ≡ option_map name_of request.old.cache.held }
+        ensures fetch { request.new.fetch ≡ request.old.fetch }
     {
         let mut guard = self.part(request.place()).lock(rt);
         let part = &mut *guard;
@@ -90,6 +92,7 @@ impl<M: EvictionManager, K: Mark, const N: usize> SharedCache<M, K, N> {
         ensures request { request.new.cache ≡ varied variance request.old.cache }
         ensures place { request.new.place ≡ request.old.place }
         ensures released { result ≡ released_by_variance variance request.old.cache }
+        ensures fetch { request.new.fetch ≡ request.old.fetch }
     {
         let mut guard = self.part(request.place()).lock(rt);
         let part = &mut *guard;

@@ -39,7 +39,7 @@ impl<K: Mark, const N: usize> Model for SharedRequest<K, N> {
 
     ghost coded = { seated_code };
 
-    ghost view = { λ r. record { place = r.sight.place; seen = r.sight.log; cache = r.request.cache } };
+    ghost view = { λ r. record { place = r.sight.place; seen = r.sight.log; cache = r.request.cache; fetch = r.request.fetch } };
 
     ghost invariant = { λ r. r.sight.place < N };
 }
@@ -67,6 +67,7 @@ impl<K: Mark, const N: usize> SharedRequest<K, N> {
         ensures request { result.cache
             ≡ with_key key (enabled_with
             (record { eviction = true; predictor = false; lock = true }) new_request) }
+        ensures fetch { result.fetch ≡ None }
     {
         let mut request = CacheRequest::new(alloc);
         request.cache.set_cache_key(key);
@@ -257,6 +258,7 @@ impl<K: Mark, const N: usize> SharedRequest<K, N> {
     // The request of the part, and what it has seen.
     pub(crate) fn into_both(self) -> (CacheRequest<K>, Sight<K>)
         ensures request { result.0.cache ≡ self.cache }
+        ensures fetch { result.0.fetch ≡ self.fetch }
         ensures place { result.1.place ≡ self.place }
         ensures seen { result.1.log ≡ self.seen }
     {

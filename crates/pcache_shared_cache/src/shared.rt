@@ -136,6 +136,7 @@ impl<M: EvictionManager, K: Mark, const N: usize> SharedCache<M, K, N> {
         ensures request { result.cache
             ≡ with_key key (enabled_with
             (record { eviction = true; predictor = false; lock = true }) new_request) }
+        ensures fetch { result.fetch ≡ None }
     {
         // For the prover: a use of a field brings in the invariant: there are `N` parts, each at
         // its place.

@@ -2,7 +2,7 @@
 -- (own).
 use Rattle.std.specs.Prelude.{ℕ, Bool, true, false, Option, None, Some, cond}
 use Rattle.pcache_meta.specs.Meta.{Meta}
-use Rattle.pcache_store.specs.Store.{Reader, Whole, Part, Guarantees}
+use Rattle.pcache_store.specs.Store.{Reader, Whole, Part, Guarantees, write_read}
 use Rattle.pcache_store.specs.declared.memory.hit.MemHitHandler.{MemHitHandler}
 use Rattle.pcache_store.specs.declared.memory.hit.MemHitHandler.TheVariants.{Complete, Partial}
 
@@ -24,6 +24,11 @@ needs_no_store (Part n place) = false
 abbrev pub if_complete : Option (Meta × Reader) → Option (Meta × Reader)
 if_complete None = None
 if_complete (Some p) = cond (needs_no_store p.1) (Some p) None
+
+-- the number of the write that a look-up found: the one in flight, or the one that stored the complete body
+abbrev pub number_found : Option (Meta × Reader) → Option ℕ
+number_found None = None
+number_found (Some p) = write_read p.1
 
 -- removals always succeed, and an entry has the number of its write
 abbrev pub in_memory : Guarantees

@@ -7,7 +7,7 @@ ghost use Rattle.pcache_store.specs.Finishes.{body_number, created};
 ghost use Rattle.pcache_store.specs.Kept.{lengths, write_lengths};
 ghost use Rattle.pcache_store.specs.Notes.{added, leave_noted, look_noted, target_id};
 ghost use Rattle.pcache_store.specs.Past.{Dropped, Finished, Joined, Wrote};
-ghost use Rattle.pcache_store.specs.Readers.{if_complete, in_memory, reader_of};
+ghost use Rattle.pcache_store.specs.Readers.{if_complete, in_memory, number_found, reader_of};
 ghost use Rattle.pcache_store.specs.Refusals.{MayFailFinish};
 ghost use Rattle.pcache_store.specs.Shards.{of_shard};
 ghost use Rattle.pcache_store.specs.Store.{Part, complete_body, dropped, find, finished, is_superseded, is_untouched, is_write_under, left, wrote};
@@ -216,6 +216,21 @@ impl MemCache {
         ensures { result ≡ body_number self.now.state (slot key.now) }
     {
         self.bare.body_number(key)
+    }
+
+    /// The number of the write that a look-up of the key finds: one in flight, or the one that stored the complete body. It copies
+    /// nothing, and reads no meta.
+    pub fn found_number(&self, key: &CacheKey) -> Option<CacheEntryId>
+        ensures { result ≡ number_found (find self.now.state (slot key.now)) }
+    {
+        self.bare.found_number(key)
+    }
+
+    /// The number that the next write gets, which is greater than that of each write so far; 2^64 if all numbers are used.
+    pub fn next_number(&self) -> u128
+        ensures { result ≡ self.now.state.next }
+    {
+        self.bare.next_number()
     }
 
     /// The lengths of the key's complete body and of the text of its head, in bytes, if there is one.

@@ -9,6 +9,8 @@ mod calls;
 #[cfg(test)]
 mod ends;
 #[cfg(test)]
+mod fetches;
+#[cfg(test)]
 mod heads;
 #[cfg(test)]
 mod lifetimes;
@@ -18,6 +20,7 @@ mod loaded;
 mod locks;
 #[cfg(test)]
 mod managers;
+#[cfg(test)]
 mod newest;
 #[cfg(test)]
 mod puts;

@@ -3,7 +3,7 @@
 use crate::calls::{begins, end, finishes, misses, opens, read, takes, writes};
 use crate::requests::{OfTest, Request};
 use crate::wholes::{fill, find, purge, renew};
-use crate::{heads, locks, puts, refills, responses};
+use crate::{fetches, heads, locks, puts, refills, responses};
 use pcache_base::moment::Moment;
 use pcache_cache::{Cache, CacheRequest, Weighing};
 use pcache_evict::eviction::EvictionManager;
@@ -110,6 +110,10 @@ fn tell_of_request<M: EvictionManager>(
         "stale" | "renew" | "version" => {
             let (cache, request) = room.at(of);
             responses::tell(cache, request, call, told);
+        }
+        "look" | "fetch" | "varies" | "variant" => {
+            let (cache, request) = room.at(of);
+            fetches::tell(cache, request, call, told);
         }
         _ => {
             let (cache, request) = room.at(of);

@@ -45,6 +45,7 @@ pub struct PlainStore {
 }
 
 impl Model for PlainStore {
+    ghost use Rattle.std.specs.Prelude.{false};
     ghost use Rattle.pcache_store.specs.Store.{Store};
     ghost use Rattle.pcache_store.specs.StoreCode.{store_code};
 

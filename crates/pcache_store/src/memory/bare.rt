@@ -9,7 +9,7 @@ ghost use Rattle.pcache_store.specs.Finishes.{body_number, created};
 ghost use Rattle.pcache_store.specs.Kept.{lengths, write_lengths};
 ghost use Rattle.pcache_store.specs.Purge.{expire_outcome, expired_at, slot_expired, target_outcome, target_purged};
 ghost use Rattle.pcache_store.specs.Refusals.{MayFailFinish, MayFailWrite};
-ghost use Rattle.pcache_store.specs.Readers.{if_complete, reader_of, slot_named};
+ghost use Rattle.pcache_store.specs.Readers.{if_complete, number_found, reader_of, slot_named};
 ghost use Rattle.pcache_store.specs.Shards.{of_shard};
 ghost use Rattle.pcache_store.specs.Store.{begun, complete_body, dropped, find, find_write, finished, followed, found_part, is_superseded, is_untouched, is_write_under, joined, left_on, meta_set, wrote};
 ghost use Rattle.pcache_store.specs.Tag.{named_by};
@@ -143,6 +143,26 @@ impl BareStore {
         ensures { result ≡ body_number self.now (slot key.now) }
     {
         self.slots.get(key.slot())?.entry_id()
+    }
+
+    /// The number of the write that a look-up of the key finds: one in flight, or the one that stored the complete body.
+    pub fn found_number(&self, key: &CacheKey) -> Option<CacheEntryId>
+        ensures { result ≡ number_found (find self.now (slot key.now)) }
+    {
+        let slot = key.slot();
+        let there = self.slots.get(slot)?;
+        let Some(number) = there.first(self.newest) else {
+            return there.entry_id();
+        };
+        let _draft = self.drafts.get(slot, number)?;
+        Some(CacheEntryId::new(number))
+    }
+
+    /// The number that the next write gets; 2^64 if all are used.
+    pub fn next_number(&self) -> u128
+        ensures { result ≡ self.now.next }
+    {
+        self.drafts.next_number()
     }
 
     /// The lengths of the key's complete body and of the text of its head, in bytes, if there is one.

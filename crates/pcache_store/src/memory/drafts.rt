@@ -72,6 +72,16 @@ impl Drafts {
         self.writes.get(slot, number)
     }
 
+    // The number of the next write; 2^64 if all are used.
+    pub(crate) fn next_number(&self) -> u128
+        ensures { result ≡ self.now.next }
+    {
+        match self.next {
+            Some(number) => u128::from(number),
+            None => 1 << 64,
+        }
+    }
+
     // The number of the next write, if not all are used.
     pub(crate) fn next(&self) -> Option<u64>
         ensures value { IfSome result (λ n. n ≡ self.now.next) }

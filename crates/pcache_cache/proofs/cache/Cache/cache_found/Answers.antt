@@ -34,4 +34,5 @@ returns g c =
         only = λ of its only. only_slots of inside.weighing (tracked inside.manager) (tracked call.new.eviction) inside.store.state call.new.storage.state (slots_taken inside.store.state call.new.storage.state c.args.status (reader_of c.args.hit) c.args.request.now.cache call.result e.takes.store e.takes.left_store) e.tracked only;
         rest = search rules;
       };
+      fetch = search rules;
     })

@@ -34,4 +34,5 @@ returns g c =
         same = search rules;
         rest = search rules;
       };
+      fetch = search rules;
     })

@@ -38,5 +38,7 @@ returns g c =
         withdrawn = search rules;
         limits = e.limits;
         weighing = refl;
+        purges = refl;
       };
+      fetch = search rules;
     })

@@ -11,4 +11,4 @@ invariant_of-self g c = (
 )
 
 pub returns : goal.returns
-returns g c = rw (← c.self.view_is) (record { takes = record { takes = c.release_write_lock.ensures.releases; rest = refl } })
+returns g c = rw (← c.self.view_is) (record { takes = record { takes = c.release_write_lock.ensures.releases; rest = refl }; fetch = refl })

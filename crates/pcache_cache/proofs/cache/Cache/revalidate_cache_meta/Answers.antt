@@ -16,7 +16,7 @@ returns g c =
     let keyed : Some key ≡ r.key = c.in-Some-Some.ensures.value ∙ ap (λ (x : Request). x.key) made in
     let given : Some c.in-Some-Some.meta.now ≡ Some (renewed_by (named_as r.meta c.args.meta) r.meta) = c.in-Some-Some.ensures' ∙ ap (λ (x : Request). x.meta) made ∙ ap (λ (x : Meta). Some (renewed_by x r.meta)) as_named in
     let meta : c.in-Some-Some.meta.now ≡ renewed_by (named_as r.meta c.args.meta) r.meta = cc in
-    let p : Parts = record { store = inside.store.state; past = inside.store.past; weighing = inside.weighing; tracked = g.M.EvictionManager.tracked inside.manager; limits = g.M.EvictionManager.limits inside.manager; evicted = g.M.EvictionManager.evicted inside.manager; locks = inside.lock.table; deeds = inside.lock.past } in
+    let p : Parts = record { store = inside.store.state; past = inside.store.past; weighing = inside.weighing; tracked = g.M.EvictionManager.tracked inside.manager; limits = g.M.EvictionManager.limits inside.manager; evicted = g.M.EvictionManager.evicted inside.manager; locks = inside.lock.table; deeds = inside.lock.past; purges = inside.purges } in
     let own = own_room p c.in-Some-Some.meta.now (Some key) c.set_own_meta.result (record { store = new; past = c.set_own_meta.new.store.past; tracked = g.M.EvictionManager.tracked c.set_own_meta.new.manager; evicted = g.M.EvictionManager.evicted c.set_own_meta.new.manager }) c.set_own_meta.ensures.renews in
     let with_meta = subst (λ (x : Meta). OnOk c.set_own_meta.result (IfRoom (Some key) (weight_with p.weighing x (Some key) p.store) p (KeepsBodies p.store new))) meta own in
     let with_key = subst (λ (k : Option Key). OnOk c.set_own_meta.result (IfRoom k (weight_with p.weighing (renewed_by (named_as r.meta c.args.meta) r.meta) k p.store) p (KeepsBodies p.store new))) keyed with_meta in
@@ -30,4 +30,5 @@ returns g c =
         room = with_key;
         rest = search rules;
       };
+      fetch = search rules;
     })

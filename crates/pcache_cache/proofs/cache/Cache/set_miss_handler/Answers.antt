@@ -1,30 +1,19 @@
-use Rattle.pcache_cache.proofs.Naming.{names_begun}
-use Rattle.pcache_cache.proofs.Kept.{kept_beginning}
-use Rattle.pcache_cache.proofs.Own.{beginning_own}
-use Rattle.pcache_cache.proofs.Unlocking.{if_begun}
-use Rattle.pcache_cache.proofs.Words.{Some, refl, rules}
+use Rattle.pcache_cache.proofs.Outdated.{begins_kept, begins_removed, is_kept, is_removed}
+use Rattle.pcache_cache.proofs.Words.{Some, inl, sym, ◌∙◌}
+use Rattle.pcache_cache.specs.Fetching.{is_outdated}
 use Rattle.pcache_cache.proofs.cache.Cache.set_miss_handler.Goals as goal
 
-pub invariant_of-self : goal.invariant_of-self
-invariant_of-self g c =
-    let inside = c.self.inside in
-    let r = c.args.request.now.cache in
-    let call = c.set_miss_handler in
-    let new = call.new in (
-      kept_beginning inside.weighing (g.M.EvictionManager.limits inside.manager) (g.M.EvictionManager.tracked inside.manager) inside.store.state new.storage.state (Some inside.store.past) (Some new.storage.past) inside.lock.table new.lock.table (Some inside.lock.past) (Some new.lock.past) r new.self call.result call.ensures.begins.store call.ensures.begins.err c.self.invariant.0,
-      if_begun call.result inside.store.state new.storage.state (Some inside.store.past) (Some new.storage.past) inside.lock.table new.lock.table (Some inside.lock.past) (Some new.lock.past) r new.self call.ensures.begins.deeds call.ensures.begins.err c.self.invariant.1,
-      names_begun call.result inside.store.state new.storage.state (Some inside.store.past) (Some new.storage.past) inside.lock.table new.lock.table (Some inside.lock.past) (Some new.lock.past) r new.self call.ensures.begins.past call.ensures.begins.err c.self.invariant.2,
-    )
+pub returns-in-Some-clause-takes : goal.returns-in-Some-clause-takes
+returns-in-Some-clause-takes g c =
+    let r = c.args.request.now in
+    let p = c.args.self.now in
+    let begun = c.begin_write-begun in
+    let outdated = is_removed (is_outdated r.fetch r.cache.key p.purges) r.cache.key c.in-Some.key (sym c.in_ok-outdated.ensures.key ∙ c.in-Some.is) in
+    inl (begins_removed r.fetch begun.result r.cache begun.new.request.cache p begun.new.self c.remove_write.new.self outdated begun.ensures.takes c.remove_write.ensures)
 
-pub returns : goal.returns
-returns g c =
-    let call = c.set_miss_handler in
-    let e = call.ensures in
-    rw (← c.self.view_is) (record {
-      takes = record {
-        takes = e.begins;
-        phase = search rules;
-        own = λ uses. beginning_own c.args.request.now.cache call.new.self c.self.inside.store.state call.new.storage.state call.result c.requires c.key-key.ensures.known uses e.begins.request e.begins.store;
-        rest = refl;
-      };
-    })
+pub returns-in_default-clause-takes : goal.returns-in_default-clause-takes
+returns-in_default-clause-takes g c =
+    let r = c.args.request.now in
+    let p = c.args.self.now in
+    let begun = c.begin_write-begun in
+    inl (begins_kept r.fetch begun.result r.cache begun.new.request.cache p begun.new.self (is_kept r.fetch r.cache.key p.purges (sym c.in_ok-outdated.ensures.key ∙ c.in_default.is)) begun.ensures.takes)

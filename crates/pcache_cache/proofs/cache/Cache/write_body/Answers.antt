@@ -19,4 +19,5 @@ returns g c =
         kind = search rules;
         rest = refl;
       };
+      fetch = search rules;
     })

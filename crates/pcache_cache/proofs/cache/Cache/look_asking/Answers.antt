@@ -4,7 +4,7 @@ use Rattle.pcache_cache.proofs.Words.{Some, looked_with_deeds}
 use Rattle.pcache_cache.proofs.Kept.{kept_looked_with}
 use Rattle.pcache_cache.proofs.Adding.{looked_with_keeps}
 use Rattle.pcache_cache.proofs.Unlocking.{if_done, none_kept}
-use Rattle.pcache_cache.proofs.cache.Cache.cache_lookup.Goals as goal
+use Rattle.pcache_cache.proofs.cache.Cache.look_asking.Goals as goal
 
 pub invariant_of-self : goal.invariant_of-self
 invariant_of-self g c =

@@ -6,23 +6,23 @@ use Rattle.pcache_cache.proofs.Naming.{names_if, names_kept}
 use Rattle.pcache_cache.proofs.Words.{subst, sym, rules, IsKept}
 use Rattle.pcache_cache.proofs.Kept.{kept_removed}
 use Rattle.pcache_cache.proofs.Only.{only_removed}
-use Rattle.pcache_cache.proofs.cache.Cache.purge.Goals as goal
+use Rattle.pcache_cache.proofs.cache.Cache.remove_key.Goals as goal
 
 pub invariant_of-self : goal.invariant_of-self
 invariant_of-self g c =
     let limits = g.M.EvictionManager.limits c.self.inside.manager in
     let tracked = g.M.EvictionManager.tracked c.self.inside.manager in (
-      subst (λ l. IsKept c.self.inside.weighing l (g.M.EvictionManager.tracked c.purge.new.eviction) c.purge.new.storage.state) (sym c.purge.ensures.purges.limits)
-          (kept_removed c.self.inside.weighing limits tracked (g.M.EvictionManager.tracked c.purge.new.eviction) c.self.inside.store.state c.purge.new.storage.state c.args.request.now.cache.uses.eviction c.args.request.now.cache.key c.purge.result c.purge.ensures.purges.store c.purge.ensures.purges.tracked c.purge.ensures.purges.same_store c.purge.ensures.purges.same_tracked c.self.invariant.0),
+      subst (λ l. IsKept c.self.inside.weighing l (g.M.EvictionManager.tracked c.spawn_async_purge.new.eviction) c.spawn_async_purge.new.storage.state) (sym c.spawn_async_purge.ensures.purges.limits)
+          (kept_removed c.self.inside.weighing limits tracked (g.M.EvictionManager.tracked c.spawn_async_purge.new.eviction) c.self.inside.store.state c.spawn_async_purge.new.storage.state c.args.request.now.cache.uses.eviction c.args.request.now.cache.key c.spawn_async_purge.result c.spawn_async_purge.ensures.purges.store c.spawn_async_purge.ensures.purges.tracked c.spawn_async_purge.ensures.purges.same_store c.spawn_async_purge.ensures.purges.same_tracked c.self.invariant.0),
       c.self.invariant.1,
-      names_if c.purge.result (purged_past c.args.request.now.cache.key) (Some c.self.inside.store.past) (Some c.purge.new.storage.past) (λ x is. names_kept (option_map (λ k. Purged (slot k)) c.args.request.now.cache.key) x (no_set_purged c.args.request.now.cache.key) is) c.purge.ensures.purges.past c.purge.ensures.purges.same_past c.self.invariant.2,
+      names_if c.spawn_async_purge.result (purged_past c.args.request.now.cache.key) (Some c.self.inside.store.past) (Some c.spawn_async_purge.new.storage.past) (λ x is. names_kept (option_map (λ k. Purged (slot k)) c.args.request.now.cache.key) x (no_set_purged c.args.request.now.cache.key) is) c.spawn_async_purge.ensures.purges.past c.spawn_async_purge.ensures.purges.same_past c.self.invariant.2,
     )
 
 pub returns : goal.returns
 returns g c =
     let tracked = g.M.EvictionManager.tracked in
     let inside = c.self.inside in
-    let call = c.purge in
+    let call = c.spawn_async_purge in
     let e = call.ensures in
     let r = c.args.request.now.cache in
     rw (← c.self.view_is) (record {
@@ -34,4 +34,5 @@ returns g c =
         same = search rules;
         rest = search rules;
       };
+      fetch = search rules;
     })
