@@ -430,6 +430,10 @@ uint32_t pcache_request_renew(pcache_handle *cache, uint64_t request, pcache_han
 /* The same with a copy of the head of that answer alone, which is not stored, for a reason: what is stored stays as it is, and what
  * the request holds is released as the reason says. */
 uint32_t pcache_request_serve_on(pcache_handle *cache, uint64_t request, pcache_handle *head, uint32_t reason);
+/* The request's fetch begins now, which a look-up notes too: a response whose fetch began before a purge of its key, or of its URL (the
+ * key without a variance), is not stored, and its write finishes as PCACHE_REMOVED. Who fetches without a look-up, or once more, calls
+ * this first: a fetch whose begin was not noted counts as one from before all purges. */
+uint32_t pcache_request_begin_fetch(pcache_handle *cache, uint64_t request);
 /* A stale body is served while another request renews it. PCACHE_WRONG_CALL in any phase but PCACHE_STALE. */
 uint32_t pcache_request_serve_updating(pcache_handle *cache, uint64_t request);
 /* The variance of the response that is to be stored, after its meta was set and before its write begins; no
@@ -485,7 +489,8 @@ uint32_t pcache_request_abandoned(pcache_handle *cache, uint64_t request, uint64
 /* PCACHE_NONE if the request holds nothing. */
 uint32_t pcache_request_release(pcache_handle *cache, uint64_t request, uint32_t reason);
 /* The permit goes to another request of the same cache and for the same key (keys are not compared), which lets go of a lock that it
- * held before. PCACHE_WRONG_CALL if the request holds no permit, if the other one is disabled, and for one number twice. */
+ * held before; its fetch counts as begun when this one's did. PCACHE_WRONG_CALL if the request holds no permit, if the other one is
+ * disabled, and for one number twice. */
 uint32_t pcache_request_hand_permit(pcache_handle *cache, uint64_t request, uint64_t to);
 uint32_t pcache_request_disable(pcache_handle *cache, uint64_t request, uint32_t reason);
 uint32_t pcache_request_purge(pcache_handle *cache, uint64_t request, uint32_t *was);

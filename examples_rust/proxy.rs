@@ -22,16 +22,13 @@ use origin::{fetch, Fetched};
 use pcache::{Answer as Gets, Asked as Rules, Cache, Decision, Error, Fill, Head, Held, HitStatus, Looked, Meta, Moment, Options, Outcome};
 use pcache::{Hash, Read, Reason, Request, Reuse, Said, Terms, Variance, WaitEnd};
 use server::{Server, Settings, USAGE};
-use std::hash::{DefaultHasher, Hash as _, Hasher};
-use std::sync::atomic::{AtomicU32, Ordering::Relaxed, Ordering::SeqCst};
+use std::sync::atomic::{AtomicU32, Ordering::Relaxed};
 use std::sync::Arc;
 use std::time::Instant;
 use std::{process, thread};
 
 /// In so many parts, each behind a lock, is the cache.
 const PARTS: usize = 16;
-/// So many places count purges.
-const PLACES: usize = 4096;
 /// What asks for a part of a response, or for nothing of it.
 const CONDITIONS: [&str; 4] = ["range", "if-range", "if-none-match", "if-modified-since"];
 
@@ -40,8 +37,6 @@ const CONDITIONS: [&str; 4] = ["range", "if-range", "if-none-match", "if-modifie
 struct Proxy {
     cache: Cache,
     server: Arc<Server>,
-    /// How many purges the targets of each place have met. What was fetched before a purge is not stored after it.
-    purges: Vec<AtomicU32>,
 }
 
 impl Proxy {
@@ -69,17 +64,8 @@ impl Proxy {
         Ok((request, looked, meta))
     }
 
-    /// How many purges a target has met, or one that has its place.
-    fn purges_of(&self, asked: &Asked) -> &AtomicU32 {
-        let mut hasher = DefaultHasher::new();
-        base_of(asked).hash(&mut hasher);
-        &self.purges[hasher.finish() as usize % self.purges.len()]
-    }
-
-    /// Purges a target with all its variants.
+    /// Purges a target with all its variants. What was fetched before is not stored after it: a look-up notes when the fetch begins.
     fn purge(&self, asked: &Asked) -> Result<bool, Error> {
-        // (first, so that a fetch under way which does not see it begins its write before the purge, and loses it by that)
-        self.purges_of(asked).fetch_add(1, SeqCst);
         self.cache.request(&base_of(asked), "")?.purge()
     }
 
@@ -162,7 +148,6 @@ impl Proxy {
     fn validate(&self, client: &mut Client, asked: &Asked, request: &mut Request, mut meta: Meta) -> Result<(), Error> {
         let (tag, since) = meta.validators()?;
         let conditions = vec![("if-none-match".to_string(), tag), ("if-modified-since".to_string(), since)];
-        let purges = self.purges_of(asked).load(SeqCst);
         let fetched = self.fetch(client, asked, &CONDITIONS, conditions);
         let (mut rules, terms) = (rules_of(asked)?, terms_of(&mut meta, moment())?);
         let outcome = match &fetched {
@@ -182,13 +167,13 @@ impl Proxy {
             }
             (_, Err(fault)) => fail(client, Some(request), &fault),
             (Outcome::FetchAgain | Outcome::Freshen(..), _) => return Err(Error::Nothing),
-            (outcome, Ok(fetched)) => self.store(client, asked, request, purges, fetched, outcome),
+            (outcome, Ok(fetched)) => self.store(client, asked, request, fetched, outcome),
         }
         Ok(())
     }
 
-    /// Sends what was fetched to the client, and stores it if it is to be stored, and the target met no purge since it was asked for.
-    fn store(&self, client: &mut Client, asked: &Asked, request: &mut Request, purges: u32, fetched: Fetched, outcome: Outcome) {
+    /// Sends what was fetched to the client, and stores it if it is to be stored.
+    fn store(&self, client: &mut Client, asked: &Asked, request: &mut Request, fetched: Fetched, outcome: Outcome) {
         let names = members(&fetched.fields, "vary");
         let mut kept = match outcome {
             Outcome::Store(meta) if names.iter().all(|it| it != "*") => Some(meta),
@@ -199,7 +184,7 @@ impl Proxy {
         let is_fresh = kept.as_mut().map_or(false, |it| it.servable(Moment::now()).map_or(false, |it| it.fresh));
         let is_too_large = fetched.length().map_or(false, |it| it > self.server.settings.body as u64);
         let mut meta = match kept {
-            Some(meta) if (is_fresh || has_validator) && !is_too_large && self.purges_of(asked).load(SeqCst) == purges => meta,
+            Some(meta) if (is_fresh || has_validator) && !is_too_large => meta,
             _ => {
                 // Who waits for this key is told to go to the origin itself; or, after an error, one of them is.
                 let _ = request.disable(if fetched.status >= 500 { Reason::UpstreamError } else { Reason::OriginNotCache });
@@ -207,21 +192,20 @@ impl Proxy {
             }
         };
         match variance_of(asked, &names) {
-            Ok(variance) => self.store_body(client, asked, request, purges, &mut meta, variance, fetched),
+            Ok(variance) => self.store_body(client, asked, request, &mut meta, variance, fetched),
             Err(_) => send_on(client, fetched, "pass"),
         }
     }
 
     /// Stores a body and sends it. The origin sets the speed of the write, in this thread, and the client that of its own: in another
     /// thread it is sent what is stored. A write that is let go, as it is too large, goes on as what passes.
-    fn store_body(&self, client: &mut Client, asked: &Asked, request: &mut Request, purges: u32, meta: &mut Meta, variance: Option<Hash>, mut fetched: Fetched) {
+    fn store_body(&self, client: &mut Client, asked: &Asked, request: &mut Request, meta: &mut Meta, variance: Option<Hash>, mut fetched: Fetched) {
         fetched.fields.push(with("X-Cache", "miss"));
         client.begin(fetched.status, &fetched.fields);
         let _ = request.limit_body(self.server.settings.body);
         let is_whole = thread::scope(|scope| {
             let (says, to) = (meta.says(), &mut *client);
-            // (a purge since the test above is seen here, or removes the write)
-            let fill = request.fill(meta, variance.as_ref()).ok().filter(|_| self.purges_of(asked).load(SeqCst) == purges);
+            let fill = request.fill(meta, variance.as_ref()).ok();
             let (end, to) = match fill.as_ref().filter(|_| to.takes_body).and_then(|_| self.reader_of(asked, says.ok()?)) {
                 None => (pour(&mut fetched, fill, to), Some(to)),
                 Some(mut reader) => {
@@ -260,14 +244,13 @@ impl Proxy {
 
     /// Hands the request to the origin, and fills its key if it may. What an unsafe method may have changed is purged (RFC 9111, 4.4).
     fn forward(&self, client: &mut Client, asked: &Asked, request: Option<&mut Request>) {
-        let purges = self.purges_of(asked).load(SeqCst);
         let fetched = match self.fetch(client, asked, if request.is_some() { &CONDITIONS } else { &[] }, Fields::new()) {
             Ok(fetched) => fetched,
             Err(fault) => return fail(client, request, &fault),
         };
         let outcome = rules_of(asked).and_then(|mut it| it.decide_fetched(&Terms::at(moment()), &mut head_in(&fetched)?));
         match (outcome, request) {
-            (Ok(outcome), Some(request)) => return self.store(client, asked, request, purges, fetched, outcome),
+            (Ok(outcome), Some(request)) => return self.store(client, asked, request, fetched, outcome),
             (Ok(Outcome::Invalidate), None) => drop(self.purge(asked)),
             _ => {}
         }
@@ -448,8 +431,7 @@ fn main() -> Result<(), Box<dyn std::error::Error>> {
     }
     let cache = Cache::new(&Options { limit: settings.limit, age_timeout: settings.patience, parts: PARTS, ..Options::default() })?;
     let server = Arc::new(Server::new(settings));
-    let purges = (0..PLACES).map(|_| AtomicU32::new(0)).collect();
-    let proxy = Arc::new(Proxy { cache: cache.clone(), server: server.clone(), purges });
+    let proxy = Arc::new(Proxy { cache: cache.clone(), server: server.clone() });
     server.operate(move || counts_of(&cache))?;
     server.run(move |client, asked| proxy.answer(client, asked))?;
     Ok(())

@@ -476,6 +476,7 @@ extern "C" {
         head: *mut PcacheHandle,
         reason: u32,
     ) -> u32;
+    pub fn pcache_request_begin_fetch(cache: *mut PcacheHandle, request: u64) -> u32;
     pub fn pcache_request_serve_updating(cache: *mut PcacheHandle, request: u64) -> u32;
     pub fn pcache_request_set_meta(
         cache: *mut PcacheHandle,

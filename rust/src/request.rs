@@ -465,6 +465,16 @@ impl Request {
         self.change(|cache, request| unsafe { raw::pcache_request_serve_on(cache, request, head, reason as u32) })
     }
 
+    /// Notes that its fetch begins now, as a look-up does: its response is not stored if the key, or the URL (the key without a variance), is
+    /// purged from now on until the fill begins. Who fetches without a look-up, or once more, calls this first: a fetch whose begin was
+    /// not noted counts as one from before all purges.
+    ///
+    /// # Errors
+    /// None of an open request.
+    pub fn begin_fetch(&mut self) -> Result<(), Error> {
+        self.call(|cache, request| unsafe { raw::pcache_request_begin_fetch(cache, request) })
+    }
+
     /// Serves a stale body while another request renews it: the phase says so from then on.
     ///
     /// # Errors
@@ -599,7 +609,8 @@ impl Request {
     }
 
     /// Hands the permit to another request for the same key, which then fills or renews it in this one's place: so a stale body is
-    /// served to its end by one request, and renewed by another. A lock that the other one held is let go. Keys are not compared.
+    /// served to its end by one request, and renewed by another. Its fetch counts as begun when this one looked up, or said so. A lock that
+    /// the other one held is let go. Keys are not compared.
     ///
     /// # Errors
     /// [`Error::WrongCall`] if this request holds no permit, if the other one is disabled, or is of another cache or part.

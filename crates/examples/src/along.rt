@@ -117,6 +117,8 @@ fn begin_writing(
     requires phase { writer.old.cache.phase ≡ CacheKey }
     ensures phase { OnOk result (writer.new.cache.phase ≡ Miss) }
 {
+    // It looked nothing up, which would have noted this too.
+    cache.begin_fetch(writer);
     writer.cache.cache_miss();
     writer.cache.set_cache_meta(meta_of(cache.alloc(), now));
     cache.set_miss_handler(writer)?;

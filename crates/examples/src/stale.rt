@@ -100,6 +100,8 @@ fn hand_over(cache: &mut FrontCache, request: &mut Request, path: &str) -> Resul
     let mut renewal = request_for(cache.alloc(), path)?;
     let permit = request.cache.take_write_lock();
     cache.set_write_lock(&mut renewal, permit);
+    // It looks nothing up, so it says itself that it fetches from now on.
+    cache.begin_fetch(&mut renewal);
     Ok(renewal)
 }
 

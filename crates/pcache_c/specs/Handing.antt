@@ -1,5 +1,6 @@
 -- What it is to hand the permit of a request to another request of the same cache (own).
 use Rattle.std.specs.Prelude.{◌≡◌, ◌≢◌, ℕ, Option, None, Some, IsSome}
+use Rattle.pcache_cache.specs.Fetching.{FetchNote}
 use Rattle.pcache_cache.specs.Locking as locking
 use Rattle.pcache_cache.specs.Parts.{Parts}
 use Rattle.pcache_lock.specs.Permits.{Permit}
@@ -9,7 +10,7 @@ use Rattle.pcache_request.specs.declared.cache.report.LockName.{LockName}
 use Rattle.pcache_c.specs.Codes.{Outcome, bad_handle}
 use Rattle.pcache_c.specs.Handles.{Turns}
 use Rattle.pcache_c.specs.Objects.{as_cache}
-use Rattle.pcache_c.specs.Requests.{KeepsFound}
+use Rattle.pcache_c.specs.Requests.{KeepsPieces}
 use Rattle.pcache_c.specs.Seats.{AreSet, IsSet, request_at}
 use Rattle.pcache_c.specs.declared.object.Object.{Object}
 use Rattle.pcache_c.specs.declared.seats.Seats.{Seats}
@@ -23,25 +24,29 @@ pub record MayHand (from to : ℕ) (o q : Open) : Type 0 where
   pub held : IsSome (permit_in o.request.cache.held)
   pub on : IsOn q.request.cache.phase
 
--- the permit of the request o is taken out of it, which leaves p
-pub record Gives (permit : Permit) (o p : Open) : Type 0 where
+-- the permit of the request o is taken out of it, which leaves p, and with it when its fetch began
+pub record Gives (permit : Permit) (fetch : Option FetchNote) (o p : Open) : Type 0 where
   pub had : permit_in o.request.cache.held ≡ Some permit
+  pub fetch_is : fetch ≡ o.request.fetch
   pub request : p.request.cache ≡ unheld o.request.cache
-  pub rest : KeepsFound o p
+  pub gone : p.request.fetch ≡ None
+  pub rest : KeepsPieces o p
 
--- a permit is held by the request q, which is r since, and a lock that it held before is let go
-pub record Gets (permit : Permit) (c d : Parts) (q r : Open) : Type 0 where
+-- a permit is held by the request q, which is r since, and a lock that it held before is let go; its fetch began when the giver's did
+pub record Gets (permit : Permit) (fetch : Option FetchNote) (c d : Parts) (q r : Open) : Type 0 where
   pub let_go : Option LockName
   pub takes : locking.TakesPermit let_go permit q.request.cache r.request.cache c d
-  pub rest : KeepsFound q r
+  pub fetch_is : r.request.fetch ≡ fetch
+  pub rest : KeepsPieces q r
 
 -- the permit went from the first request to the second, and no other request changed
 pub record Hands (from to : ℕ) (o q : Open) (s t : Served) : Type 0 where
   pub permit : Permit
+  pub fetch : Option FetchNote
   pub giver : Open
   pub taker : Open
-  pub gives : Gives permit o giver
-  pub gets : Gets permit s.cache t.cache q taker
+  pub gives : Gives permit fetch o giver
+  pub gets : Gets permit fetch s.cache t.cache q taker
   pub seats : AreSet from giver to taker s.seats t.seats
   pub counts : t.counts ≡ s.counts
 
@@ -60,21 +65,21 @@ abbrev pub HasPermit : Option Open → Type 0
 HasPermit None = ⊥
 HasPermit (Some o) = IsSome (permit_in o.request.cache.held)
 
-pub record GivesPermit (from : ℕ) (permit : Permit) (old new : Seats Open) : Type 0 where
+pub record GivesPermit (from : ℕ) (permit : Permit) (fetch : Option FetchNote) (old new : Seats Open) : Type 0 where
   pub before : Open
   pub after : Open
   pub was : request_at old from ≡ Some before
   pub set : IsSet from after old new
-  pub gives : Gives permit before after
+  pub gives : Gives permit fetch before after
 
 abbrev pub IsOpenOn : Option Open → Type 0
 IsOpenOn None = ⊥
 IsOpenOn (Some q) = IsOn q.request.cache.phase
 
-pub record TakesPermit (to : ℕ) (permit : Permit) (s t : Served) : Type 0 where
+pub record TakesPermit (to : ℕ) (permit : Permit) (fetch : Option FetchNote) (s t : Served) : Type 0 where
   pub before : Open
   pub after : Open
   pub was : request_at s.seats to ≡ Some before
   pub set : IsSet to after s.seats t.seats
   pub counts : t.counts ≡ s.counts
-  pub gets : Gets permit s.cache t.cache before after
+  pub gets : Gets permit fetch s.cache t.cache before after

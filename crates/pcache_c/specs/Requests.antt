@@ -49,9 +49,13 @@ SaysPhase c d o p out code = IsUnchanged c d o p × (code ≡ ok) × (out ≡ ph
 abbrev pub SaysHeld : Parts → Parts → Open → Open → ℕ → ℕ → Type 0
 SaysHeld c d o p out code = IsUnchanged c d o p × (code ≡ ok) × (out ≡ held_number o.request.cache.held)
 
+-- of the request, all but the cache's own part of it, and when its fetch began, is as it was
+abbrev pub KeepsPieces : Open → Open → Type 0
+KeepsPieces o p = (p.found ≡ o.found) × (p.piece ≡ o.piece) × (p.next_byte ≡ o.next_byte)
+
 -- of the request, all but the cache's own part of it is as it was
 abbrev pub KeepsFound : Open → Open → Type 0
-KeepsFound o p = (p.found ≡ o.found) × (p.piece ≡ o.piece) × (p.next_byte ≡ o.next_byte) × (p.request.fetch ≡ o.request.fetch)
+KeepsFound o p = KeepsPieces o p × (p.request.fetch ≡ o.request.fetch)
 
 -- the pair that a look-up found
 abbrev pub pair_found : Open → Option (Meta × Reader)
@@ -71,7 +75,7 @@ pub record Looked (now : ℕ) (c d : Parts) (o p : Open) (found : ℕ) : Type 0 
 pub record RefusesLook (now : ℕ) (c d : Parts) (o p : Open) (e : ErrorType) : Type 0 where
   pub takes : looking.LooksUp (Err e) now o.request.cache p.request.cache c d
   pub fetch : p.request.fetch ≡ fetch_begun o.request.cache.key c.purges
-  pub rest : (p.found ≡ o.found) × (p.piece ≡ o.piece) × (p.next_byte ≡ o.next_byte)
+  pub rest : KeepsPieces o p
 
 abbrev pub Looks : ℕ → Parts → Parts → Open → Open → ℕ → ℕ → Type 0
 Looks now c d o p found code = Outcome (MayLook o) (Looked now c d o p found) ⊥ (RefusesLook now c d o p) (IsUnchanged c d o p) code
@@ -80,7 +84,7 @@ Looks now c d o p found code = Outcome (MayLook o) (Looked now c d o p found) �
 
 abbrev pub BeginsFetch : Parts → Parts → Open → Open → ℕ → Type 0
 BeginsFetch c d o p code = (code ≡ ok) × (d ≡ c) × (p.request.fetch ≡ fetch_begun o.request.cache.key c.purges) × (p.request.cache ≡ o.request.cache)
-    × (p.found ≡ o.found) × (p.piece ≡ o.piece) × (p.next_byte ≡ o.next_byte)
+    × KeepsPieces o p
 
 -- what a look-up found is taken; of what was read before, nothing is handed over any more
 

@@ -8,9 +8,10 @@ use crate::codes::{BAD_HANDLE, OK, WRONG_CALL, WRONG_KIND};
 use crate::object::Object;
 use crate::seats::Seats;
 use crate::served::{Open, Served};
+use pcache_cache::Fetch;
 use pcache_lock::lock::{Locked, WritePermit};
 
-/// Hands the permit of a request to another request of the same cache.
+/// Hands the permit of a request to another request of the same cache, whose fetch counts as begun when the giver's did.
 pub(crate) fn hand_permit(object: &mut Object, from: u64, to: u64) -> u32
     ensures { HandsPermit from to object.old object.new result }
 {
@@ -34,8 +35,8 @@ fn hand_on(served: &mut Served, from: u64, to: u64) -> u32
     if from == to || !holds_permit(giver) || !taker.request.cache.phase().is_on() {
         return WRONG_CALL;
     }
-    let permit = give_permit(&mut served.seats, from);
-    take_permit(served, to, permit);
+    let (permit, fetch) = give_permit(&mut served.seats, from);
+    take_permit(served, to, permit, fetch);
     OK
 }
 
@@ -46,24 +47,26 @@ pub(crate) fn holds_permit(giver: &Open) -> bool
     matches!(giver.request.cache.held(), Some(Locked::Write(_)))
 }
 
-// Takes the permit out of the request that holds it.
-fn give_permit(seats: &mut Seats<Open>, from: u64) -> WritePermit
+// Takes the permit out of the request that holds it, and with it when that request's fetch began.
+fn give_permit(seats: &mut Seats<Open>, from: u64) -> (WritePermit, Option<Fetch>)
     requires { HasPermit (request_at seats.old from) }
-    ensures { GivesPermit from result seats.old seats.new }
+    ensures { GivesPermit from result.0 result.1 seats.old seats.new }
 {
     let Some(giver) = seats.find(from) else {
         unreachable!()
     };
-    giver.request.cache.take_write_lock()
+    let permit = giver.request.cache.take_write_lock();
+    (permit, giver.request.fetch.take())
 }
 
-// Lets a request hold a permit. A lock that it held before is let go.
-fn take_permit(served: &mut Served, to: u64, permit: WritePermit)
+// Lets a request hold a permit, whose fetch began then. A lock that it held before is let go.
+fn take_permit(served: &mut Served, to: u64, permit: WritePermit, fetch: Option<Fetch>)
     requires { IsOpenOn (request_at served.old.seats to) }
-    ensures { TakesPermit to permit served.old served.new }
+    ensures { TakesPermit to permit fetch served.old served.new }
 {
     let Some(taker) = served.seats.find(to) else {
         unreachable!()
     };
+    taker.request.fetch = fetch;
     let _gone = served.cache.set_write_lock(&mut taker.request, permit);
 }

@@ -6,6 +6,7 @@ pub mod Kept
 pub mod Modes
 pub mod Ended
 pub mod Outdated
+pub mod Outdating
 pub mod Own
 pub mod Only
 pub mod Room

@@ -5,7 +5,7 @@ use Rattle.pcache_request.specs.WriteEnds.{EndsAs}
 use Rattle.pcache_store.specs.PastLaws.{BodiesAreLast, NothingIsLost}
 use Rattle.pcache_store.specs.PastSays.{body_stored, is_removed, last_finished}
 use Rattle.pcache_store.specs.Store.{Written}
-use Rattle.pcache_cache.proofs.Words.{◌≡◌, ◌≢◌, ℕ, inl, inr, Bool, true, false, cond, Option, None, Some, is_some, List, Result, Ok, Err, refl, ap, sym, subst, ◌∙◌, length, option_map, option_and_then, OnErr, OnOk, nat_cmp, eq_by_cmp, FinMap, get, insert, remove, compact_of, Key, slot, share, ErrorType, IsFair, Limits, Tracked, without, CacheEntryKey, Locks, LockStatus, header_written, Meta, expired_at, Parsed, Stage, InHead, InBody, HasDeclined, IsOver, entry_in, write_in, EndsEarly, EndsPut, tracked_before_put, write_end, PutEnd, PutOutcome, PurgesAll, Stores, Withdraws, tracked_before, tracked_before_end, without_entry, Request, entry_of, settled, tracked_gone, tracked_gone_for, Ends, EndsBody, EndsIdle, HoldsNoLock, FinishReport, WriteEnd, body_number, Note, expire_outcome, purge_outcome, purged_at, slot_outcome, in_memory, Slot, Store, Stored, complete_body, dropped, dropped_on, finished, is_untouched, is_write_under, meta_changed, meta_changed_in, meta_changed_on, meta_set, number_of_body, purged, shut, shut_on, with_meta, Created, Expired, NotFound, MayEnd, is_own_write, replaced_in, IsNotSet, IsSet, Renews, Stock, entry_at, meta_given, reweighs, weight_at, Account, IsItsKey, TracksOnly, body_weight, ending_weight, entered, weight_of, write_weight, Weighing}
+use Rattle.pcache_cache.proofs.Words.{◌≡◌, ◌≢◌, ℕ, inl, inr, Bool, true, false, cond, Option, None, Some, is_some, List, Result, Ok, Err, refl, ap, sym, subst, ◌∙◌, length, option_map, option_and_then, OnErr, OnOk, nat_cmp, eq_by_cmp, FinMap, get, insert, remove, compact_of, Key, slot, share, ErrorType, IsFair, Limits, Tracked, without, CacheEntryKey, Locks, LockStatus, header_written, Meta, expired_at, Parsed, Stage, InHead, InBody, HasDeclined, IsOver, entry_in, write_in, EndsPut, tracked_before_put, write_end, PutEnd, PutOutcome, PurgesAll, Stores, Withdraws, tracked_before, tracked_before_end, without_entry, Request, entry_of, settled, tracked_gone, tracked_gone_for, Ends, EndsBody, EndsIdle, HoldsNoLock, FinishReport, WriteEnd, body_number, Note, expire_outcome, purge_outcome, purged_at, slot_outcome, in_memory, Slot, Store, Stored, complete_body, dropped, dropped_on, finished, is_untouched, is_write_under, meta_changed, meta_changed_in, meta_changed_on, meta_set, number_of_body, purged, shut, shut_on, with_meta, Created, Expired, NotFound, MayEnd, is_own_write, replaced_in, IsNotSet, IsSet, Renews, Stock, entry_at, meta_given, reweighs, weight_at, Account, IsItsKey, TracksOnly, body_weight, ending_weight, entered, weight_of, write_weight, Weighing}
 use Rattle.pcache_put.specs.Steps as put_steps
 use Rattle.pcache_request.specs.declared.cache.finish.WriteEnd.TheVariants as end
 use Rattle.pcache_store.specs.Purge as purge

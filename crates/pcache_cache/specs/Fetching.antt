@@ -3,7 +3,7 @@
 -- not stored, and of a URL's variants none is found that was written before the URL was purged. A cache keeps of its purges the last one
 -- of each of 1,024 places, and a slot's place is the slot modulo their number. So a purge counts for all slots of its place: more is
 -- refused for that, and never less.
-use Rattle.std.specs.Prelude.{ℕ, ◌+◌, ◌-◌, ◌^◌, ◌%◌, ◌==◌, ◌&&◌, ◌||◌, nat_lt, min, Bool, false, true, cond, List, replicate, slice_index, slice_set, Option, None, Some, is_some}
+use Rattle.std.specs.Prelude.{ℕ, ◌≡◌, ◌≤◌, length, ◌+◌, ◌-◌, ◌^◌, ◌%◌, ◌==◌, ◌&&◌, ◌||◌, nat_lt, min, Bool, false, cond, List, replicate, slice_index, slice_set, Option, None, Some, is_some}
 use Rattle.pcache_base.specs.Key.{Key, primary_of, slot, slot_of}
 use Rattle.pcache_store.specs.Readers.{number_found}
 use Rattle.pcache_store.specs.Store.{Store, find}
@@ -43,6 +43,12 @@ is_after purges last = nat_lt purges last || (last == 2 ^ 64 - 1)
 -- whether a slot was purged since so many purges
 abbrev pub purged_since : ℕ → ℕ → PurgesSeen → Bool
 purged_since purges slot p = is_after purges (slice_index p.last (place_of slot))
+
+-- of what was seen, each place has a count, and none is greater than that of all purges
+pub record AreCounted (p : PurgesSeen) : Type 0 where
+  pub places : length p.last ≡ 1024
+  pub last : (place : ℕ) → slice_index p.last place ≤ p.count
+  pub most : p.count ≤ 2 ^ 64 - 1
 
 -- the slot of a URL: that of the key without its variance
 abbrev pub url_slot : Key → ℕ

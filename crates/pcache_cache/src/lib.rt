@@ -10,12 +10,14 @@
 //! - `look`, `fill`, `remove`, `locks`, `renew`: the calls of a request, each that of `HttpCache` with the parts
 //!   passed
 //! - `reweigh`: what the entry of a body weighs once its meta is set
+//! - `laws`: what follows for fetches of what a cache has seen of purges
 //! - `feed`: the calls of a put, each that of `CachePutCtx`
 
 mod cache;
 mod feed;
 mod fill;
 mod inspect;
+pub mod laws;
 mod locks;
 mod look;
 mod purges;

@@ -20,7 +20,8 @@ impl<M: EvictionManager, K> Cache<M, K> {
         ensures takes { Purges result request.old.cache request.new.cache self.old self.new }
         ensures fetch { request.new.fetch ≡ request.old.fetch }
     {
-        self.purge_key(request)
+        let there = self.purge_key(request)?;
+        Ok(there)
     }
 
     /// `HttpCache::spawn_async_purge`: the same in any phase with a key. It is done at once, and the context is not read.

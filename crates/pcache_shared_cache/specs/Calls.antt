@@ -16,12 +16,12 @@ use Rattle.pcache_store.specs.declared.memory.hit.MemHitHandler.{MemHitHandler}
 -- the key is looked up, and its fetch begins
 pub record LooksUpNoted (result : Result (Option (Meta × MemHitHandler)) ErrorType) (now : ℕ) (r s : Request) (fetch : Option FetchNote) (p q : Parts) : Type 0 where
   pub looks : LooksUp result now r s p q
-  pub fetch : fetch ≡ fetch_begun r.key p.purges
+  pub noted : fetch ≡ fetch_begun r.key p.purges
 
 -- the look-up of the key finds this complete body, its fetch begins, and the part stays as it is
 pub record FindsBody (f : Option (Meta × Reader)) (r : Request) (fetch : Option FetchNote) (p q : Parts) : Type 0 where
   pub found : IfSome f (λ x. body_found r.key p.store p.purges ≡ Some x)
-  pub fetch : fetch ≡ fetch_begun r.key p.purges
+  pub noted : fetch ≡ fetch_begun r.key p.purges
   pub same : q ≡ p
 
 -- the call fails, and nothing changes

@@ -22,7 +22,7 @@ pub use pcache_base::reason::NoCacheReason;
 pub use pcache_base::seed::Seed;
 pub use pcache_base::variance::VarianceBuilder;
 pub use pcache_base::{error, key, moment, poll, reason, seed, text, variance};
-pub use pcache_cache::{Cache, CacheRequest, LeftWrite, PendingPut, Totals};
+pub use pcache_cache::{Cache, CacheRequest, Fetch, LeftWrite, PendingPut, Totals};
 pub use pcache_control::{CacheMetaDefaults, RespCacheable, cache_control, filters};
 pub use pcache_decisions as decisions;
 pub use pcache_evict::eviction::{CacheEntryId, CacheEntryKey, CacheEntryKeyRef};

@@ -34,6 +34,8 @@ fn is_begun<M: EvictionManager>(
     size: usize,
 ) -> Result<bool> {
     opens(cache.alloc(), request, &key.to_be_bytes(), None);
+    // It is fetched without a look-up.
+    cache.begin_fetch(request);
     is_written(cache, request, body_of(size))
 }
 

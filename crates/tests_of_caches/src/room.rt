@@ -111,7 +111,7 @@ fn tell_of_request<M: EvictionManager>(
             let (cache, request) = room.at(of);
             responses::tell(cache, request, call, told);
         }
-        "look" | "fetch" | "varies" | "variant" => {
+        "look" | "fetch" | "anew" | "varies" | "variant" => {
             let (cache, request) = room.at(of);
             fetches::tell(cache, request, call, told);
         }

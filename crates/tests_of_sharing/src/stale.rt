@@ -96,13 +96,16 @@ const WHAT_IS_EXPIRED_OR_PURGED_IS_SO_FOR_ALL: &str = "\
     2 read -> old\n\
     2 key a\n\
     2 look 6 -> key waits\n\
-    3 fill new 60 -> okokokok\n\
-    1 look 6 -> until 60 hit\n\
+    3 fill new 60 -> okokokWriteRemoved\n\
+    1 look 6 -> key permit\n\
+    1 fill new 60 -> okokokok\n\
+    3 key a\n\
+    3 look 6 -> until 60 hit\n\
     2 spawn -> yes\n\
     2 spawn -> no\n\
     0 key a\n\
     0 look 6 -> key permit\n\
-    1 read -> new";
+    3 read -> new";
 
 #[test]
 fn stale_bodies_are_served_while_one_renews_them(rt: HostRuntime) {

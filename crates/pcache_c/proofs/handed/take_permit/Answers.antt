@@ -13,5 +13,5 @@ returns c =
       was = was_found c.find.result c.in-Some.taker c.in-Some.is (request_at seats c.args.to) c.find.ensures.value;
       set = when_found c.find.result c.in-Some.taker c.in-Some.is (IsSet c.args.to r seats (c.find.follows.lender r)) (c.find.follows.holds r);
       counts = refl;
-      gets = record { let_go = c.set_write_lock-gone.result; takes = c.set_write_lock-gone.ensures.takes; rest = (refl, refl, refl) };
+      gets = record { let_go = c.set_write_lock-gone.result; takes = c.set_write_lock-gone.ensures.takes; fetch_is = c.set_write_lock-gone.ensures.fetch; rest = (refl, refl, refl) };
     }

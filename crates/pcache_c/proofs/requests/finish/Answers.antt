@@ -8,5 +8,5 @@ returns-in-Ok-Some c =
       c.in-Ok-Some.report,
       refl,
       search rules,
-      record { takes = rw c.in-Ok-Some.field-0-is at c.in-Ok-Some.ensures.takes; rest = (refl, refl, refl) },
+      record { takes = rw c.in-Ok-Some.field-0-is at c.in-Ok-Some.ensures.takes; rest = ((refl, refl, refl), c.finish_miss_handler.ensures.fetch) },
     )

@@ -7,5 +7,5 @@ returns-in-Ok c =
     outcome_done _ _ _ _ _ (search rules) (record {
       released = c.revalidate_uncacheable.result;
       takes = rw c.in-Ok.ensures.ok at c.revalidate_uncacheable.ensures.takes;
-      rest = (refl, refl, refl);
+      rest = ((refl, refl, refl), c.revalidate_uncacheable.ensures.fetch);
     })

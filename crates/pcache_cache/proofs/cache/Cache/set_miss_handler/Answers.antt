@@ -1,5 +1,5 @@
 use Rattle.pcache_cache.proofs.Outdated.{begins_kept, begins_removed, is_kept, is_removed}
-use Rattle.pcache_cache.proofs.Words.{Some, inl, sym, ◌∙◌}
+use Rattle.pcache_cache.proofs.Words.{inl, sym, ◌∙◌}
 use Rattle.pcache_cache.specs.Fetching.{is_outdated}
 use Rattle.pcache_cache.proofs.cache.Cache.set_miss_handler.Goals as goal
 

@@ -20,7 +20,7 @@ returns-in_err-meta-clause-goes g c =
     (λ p q found.
     let body = body_is (is_old_variant r.key p.store p.purges) (if_complete (found_for p.store r.key)) c.in-Some.found found.found in
     let is = found_is (found_for p.store r.key) c.in-Some.found body.1 in
-    record { looks = read_not c.args.now r p q c.from_residual.result why.0 why.1 why.2 (subst IsSome (sym is.0) refl) body.0 found.same; fetch = found.fetch })
+    record { looks = read_not c.args.now r p q c.from_residual.result why.0 why.1 why.2 (subst IsSome (sym is.0) refl) body.0 found.same; noted = found.noted })
     c.in-Some.ensures.goes)
 
 pub returns-then-hides-clause-goes : goal.returns-then-hides-clause-goes
@@ -42,5 +42,5 @@ returns-clause-goes g c =
     (λ p q found.
     let body = body_is (is_old_variant r.key p.store p.purges) (if_complete (found_for p.store r.key)) c.in-Some.found found.found in
     let is = found_is (found_for p.store r.key) c.in-Some.found body.1 in
-    record { looks = found_alone c.args.now r p m h (is.0 ∙ ap Some (sym c.in_ok-meta.ensures.read)) (ap (λ x. needs_no_store x.1) c.in_ok-meta.ensures.read ∙ is.1) shown body.0 q found.same; fetch = found.fetch })
+    record { looks = found_alone c.args.now r p m h (is.0 ∙ ap Some (sym c.in_ok-meta.ensures.read)) (ap (λ x. needs_no_store x.1) c.in_ok-meta.ensures.read ∙ is.1) shown body.0 q found.same; noted = found.noted })
     c.in-Some.ensures.goes)

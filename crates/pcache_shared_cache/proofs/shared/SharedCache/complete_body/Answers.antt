@@ -16,7 +16,7 @@ returns-in-Ok-clause-goes g c =
     let p = c.part-2.inside.cache in
     let r = c.request.inside.request.cache in
     let row : FindsBody c.in-Ok.found r c.begin_fetch.new.request.fetch p p =
-    record { found = some_found c.in-Ok.found (body_found r.key p.store p.purges) (c.in-Ok.ensures.found ∙ ap (λ (x : Request). body_found x.key p.store p.purges) c.begin_fetch.ensures.cache); fetch = c.begin_fetch.ensures.fetch; same = refl } in
+    record { found = some_found c.in-Ok.found (body_found r.key p.store p.purges) (c.in-Ok.ensures.found ∙ ap (λ (x : Request). body_found x.key p.store p.purges) c.begin_fetch.ensures.cache); noted = c.begin_fetch.ensures.fetch; same = refl } in
     let here = lent c.args.self.now c.part.result.now c.part.ensures.limits c.part.ensures.place c.place.ensures.place c.lock-guard.ensures.place c.lock-guard.ensures.limits (c.part-2.view_is ∙ c.deref_mut-part.ensures.value) in
     goes_by c.args.self.now g.K.Mark.names c.part-2.inside.log.place c.args.request.now.place c.request.inside.sight.log c.args.request.now.seen c.adds.new.sight.log p p here (ap (λ (s : Seated). s.seen) c.request.view_is)
     (c.adds.ensures.moves p c.part-2.invariant) (subst (λ (s : Seated). FindsBody c.in-Ok.found s.cache c.begin_fetch.new.request.fetch p p) c.request.view_is row)
@@ -26,4 +26,4 @@ returns-clause-goes g c =
     let p = c.part-2.inside.cache in
     let here = lent c.args.self.now c.part.result.now c.part.ensures.limits c.part.ensures.place c.place.ensures.place c.lock-guard.ensures.place c.lock-guard.ensures.limits (c.part-2.view_is ∙ c.deref_mut-part.ensures.value) in
     goes_by c.args.self.now g.K.Mark.names c.part-2.inside.log.place c.args.request.now.place c.request.inside.sight.log c.args.request.now.seen c.adds.new.sight.log p p here (ap (λ (s : Seated). s.seen) c.request.view_is)
-    (c.adds.ensures.moves p c.part-2.invariant) (record { found = tt; fetch = c.begin_fetch.ensures.fetch ∙ ap (λ (s : Seated). fetch_begun s.cache.key p.purges) c.request.view_is; same = refl })
+    (c.adds.ensures.moves p c.part-2.invariant) (record { found = tt; noted = c.begin_fetch.ensures.fetch ∙ ap (λ (s : Seated). fetch_begun s.cache.key p.purges) c.request.view_is; same = refl })

@@ -1,4 +1,4 @@
-use Rattle.pcache_shared_cache.proofs.Words.{ap, ◌∙◌, reader_of, Seated}
+use Rattle.pcache_shared_cache.proofs.Words.{ap, ◌∙◌, Seated}
 use Rattle.pcache_shared_cache.proofs.Led.{let_go}
 use Rattle.pcache_shared_cache.proofs.Logs.{goes_by, lent}
 use Rattle.pcache_shared_cache.proofs.shared.SharedCache.let_go.Goals as goal

@@ -13,4 +13,4 @@ returns-clause-goes g c =
     let q = c.cache_lookup_without_policy-result.new.self in
     let here = lent c.args.self.now c.part.result.now c.part.ensures.limits c.part.ensures.place c.place.ensures.place c.lock-guard.ensures.place c.lock-guard.ensures.limits (c.part-2.view_is ∙ c.deref_mut-part.ensures.value) in
     goes_by c.args.self.now g.K.Mark.names c.part-2.inside.log.place c.args.request.now.place c.request.inside.sight.log c.args.request.now.seen c.adds.new.sight.log p q here (ap (λ (s : Seated). s.seen) c.request.view_is)
-    (c.adds.ensures.moves p c.part-2.invariant) (subst (λ (s : Seated). LooksUpNoted c.cache_lookup_without_policy-result.result c.args.now s.cache c.cache_lookup_without_policy-result.new.request.cache c.cache_lookup_without_policy-result.new.request.fetch p q) c.request.view_is (record { looks = c.cache_lookup_without_policy-result.ensures.takes; fetch = c.cache_lookup_without_policy-result.ensures.fetch }))
+    (c.adds.ensures.moves p c.part-2.invariant) (subst (λ (s : Seated). LooksUpNoted c.cache_lookup_without_policy-result.result c.args.now s.cache c.cache_lookup_without_policy-result.new.request.cache c.cache_lookup_without_policy-result.new.request.fetch p q) c.request.view_is (record { looks = c.cache_lookup_without_policy-result.ensures.takes; noted = c.cache_lookup_without_policy-result.ensures.fetch }))
