@@ -3,7 +3,8 @@
 # prints is compared with what is written down, and with what the same program in Rust prints. The headers and pcache_parts.c are read
 # by a C and by a C++ compiler, and pcache_c.h and the crate are compared with the exports. It wants gcc, g++, rustc and cargo (Debian:
 # apt-get install gcc g++ rustc cargo), fetches nothing, and ends with 77 where one is missing, so that it could not be tried here, and
-# with 1 where something differs. With no word it also makes build/dist, and uses it from an empty folder (bench/plays/dist.sh).
+# with 1 where something differs. With no word it also plays one_response.py, makes build/dist, and uses that from an empty folder
+# (bench/plays/dist.sh).
 #
 #   bench/plays/from_c.sh                    over build/c, where the library is built without a proof first (two to three minutes), if it
 #                                            does not stand there
@@ -13,6 +14,8 @@
 #   bench/plays/from_c.sh memory             what a cache takes of memory, with bodies and heads of several lengths
 #   bench/plays/from_c.sh proxy              the proxy (bench/plays/proxy.py and hard_proxy.py)
 #   bench/plays/from_c.sh load [SECONDS]     the proxy under a load that checks each answer (bench/plays/checked_load.py)
+#   bench/plays/from_c.sh one_response       that each client of the proxy gets one response (bench/plays/one_response.py), and what
+#                                            rfc9111_proxy does with pages by Cookie, which is built for that, in a minute, if it is not there
 set -eu
 cd "$(dirname "$0")/../.."
 for tool in gcc g++ rustc cargo; do
@@ -48,6 +51,11 @@ run() {
     (cd rust && cargo run --quiet --offline --release --example "$@")
 }
 
+proxy=build/rust/release/examples/proxy
+build_proxy() {
+    (cd rust && cargo build --quiet --offline --release --example proxy)
+}
+
 case "${1:-}" in
 threads)
     for name in threads shared; do
@@ -60,11 +68,14 @@ threads)
 border | memory)
     run "$1"
     ;;
-proxy | load)
-    (cd rust && cargo build --quiet --offline --release --example proxy)
-    proxy=build/rust/release/examples/proxy
+proxy | load | one_response)
+    build_proxy
     case "$1" in
     load) bench/plays/checked_load.py "$proxy" "${2:-120}" ;;
+    one_response)
+        bench/make/tried.py rfc9111_proxy </dev/null
+        bench/plays/one_response.py "$proxy" bench/make/tried.py rfc9111_proxy
+        ;;
     *) bench/plays/proxy.py "$proxy" && bench/plays/hard_proxy.py "$proxy" ;;
     esac
     ;;
@@ -88,6 +99,8 @@ proxy | load)
     done
     run eviction_trait
     (cd rust && cargo test --quiet --offline --release)
+    build_proxy
+    bench/plays/one_response.py "$proxy"
     bench/make/dist.py "$(cut -d' ' -f1 "$made/made-of")"
     bench/plays/dist.sh
     ;;

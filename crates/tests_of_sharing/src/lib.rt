@@ -1,15 +1,18 @@
 #![tactic(auto)]
 //! Tests of a cache in parts, which threads call side by side. What a test waits for is counted, so that each ends by itself.
 //!
-//! - `waits`, `stale`, `bodies`, `clock`; `alone`, `ends`, `refills`, `puts`: rows that four threads play, each row in its turn:
-//!   whatever the schedule, each thread is told the same; and such rows of one thread
+//! - `waits`, `stale`, `bodies`, `clock`, `responses`; `alone`, `ends`, `refills`, `puts`: rows that four threads play, each row in its
+//!   turn: whatever the schedule, each thread is told the same; and such rows of one thread
 //! - `play`, `rows`; `looks`, `fills`, `permits`, `renewals`, `counts`, and `puts` too: what plays them, and their calls
 //! - `many`, `gates`; `requests`: parts by a few threads at a time, and their calls
 //! - `purges`: eight threads that fill, read and purge a thousand keys
+//! - `answers`: eight threads that fill, reload, renew and read three keys
 //! - `pushes`: puts beside requests
 //! - `seats`: what all of them share
 #[cfg(test)]
 mod alone;
+#[cfg(test)]
+mod answers;
 #[cfg(test)]
 mod bodies;
 #[cfg(test)]
@@ -44,6 +47,8 @@ mod refills;
 mod renewals;
 #[cfg(test)]
 mod requests;
+#[cfg(test)]
+mod responses;
 #[cfg(test)]
 mod rows;
 #[cfg(test)]

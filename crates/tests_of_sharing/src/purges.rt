@@ -26,22 +26,24 @@ const ROUNDS: u64 = 500;
 
 const NOW: Moment = Moment::EPOCH;
 
-// The next number of a write, and the least that may be read for each key.
+/// The next number of a write, and the least that may be read for each key.
 #[derive(Drop)]
-struct Numbers {
+pub struct Numbers {
     next: AtomicU64,
     least: [AtomicU64; KEYS],
 }
 
 impl Numbers {
-    fn new() -> Numbers {
+    /// None was drawn, and all may be read.
+    pub fn new() -> Numbers {
         Numbers {
             next: AtomicU64::new(1),
             least: std::array::from_fn(|_key: usize| -> AtomicU64 { AtomicU64::new(0) }),
         }
     }
 
-    fn draw(&self) -> u64 {
+    /// The next number.
+    pub fn draw(&self) -> u64 {
         self.next.fetch_add(1, Ordering::SeqCst)
     }
 
@@ -49,16 +51,16 @@ impl Numbers {
         self.next.load(Ordering::SeqCst)
     }
 
-    // The least number that may be read for a key.
-    fn least(&self, key: u64) -> u64 {
+    /// The least number that may be read for a key.
+    pub fn least(&self, key: u64) -> u64 {
         match self.least.get(key as usize) {
             Some(least) => least.load(Ordering::SeqCst),
             None => u64::MAX,
         }
     }
 
-    // From now on no number below this one may be read for a key.
-    fn raise(&self, key: u64, number: u64) {
+    /// From now on no number below this one may be read for a key.
+    pub fn raise(&self, key: u64, number: u64) {
         if let Some(least) = self.least.get(key as usize) {
             least.fetch_max(number, Ordering::SeqCst);
         }
@@ -159,8 +161,8 @@ fn is_purged<R: Wait>(rt: &R, cache: &Lists, key: u64, numbers: &Numbers) -> Res
     is_purged
 }
 
-// The number after this one in a sequence that looks drawn (Knuth's MMIX).
-fn stirred(number: u64) -> u64 {
+/// The number after this one in a sequence that looks drawn (Knuth's MMIX).
+pub fn stirred(number: u64) -> u64 {
     number
         .wrapping_mul(6_364_136_223_846_793_005)
         .wrapping_add(1_442_695_040_888_963_407)

@@ -99,11 +99,21 @@ pub fn reason_of(word: &str) -> NoCacheReason {
 
 /// Begins a write, of a response that is fresh for a minute. Returns whether it may.
 pub fn begins<R: Wait>(rt: &R, cache: &Lists, request: &mut Request) -> Result<bool> {
+    begins_with(rt, cache, request, meta_until(cache.alloc(), 60))
+}
+
+/// The same, of a response with this meta.
+pub fn begins_with<R: Wait>(
+    rt: &R,
+    cache: &Lists,
+    request: &mut Request,
+    meta: CacheMeta,
+) -> Result<bool> {
     if !request.cache().phase().may_miss() {
         return Ok(false);
     }
     request.cache_miss();
-    request.set_cache_meta(meta_until(cache.alloc(), 60));
+    request.set_cache_meta(meta);
     if !request.cache().may_write() {
         return Ok(false);
     }
