@@ -100,8 +100,6 @@ fn hand_over(cache: &mut FrontCache, request: &mut Request, path: &str) -> Resul
     let mut renewal = request_for(cache.alloc(), path)?;
     let permit = request.cache.take_write_lock();
     cache.set_write_lock(&mut renewal, permit);
-    // It looks nothing up, so it says itself that it fetches from now on.
-    cache.begin_fetch(&mut renewal);
     Ok(renewal)
 }
 
@@ -130,6 +128,8 @@ pub fn renew(cache: &mut FrontCache, renewal: Request, body: Bytes, now: Moment)
     requires uses { renewal.cache.uses.eviction ≡ true }
 {
     let mut renewal = renewal;
+    // It looked nothing up, so it says itself that its fetch begins.
+    cache.begin_fetch(&mut renewal);
     let stored = fill(cache, &mut renewal, body, now);
     cache.end(renewal);
     stored

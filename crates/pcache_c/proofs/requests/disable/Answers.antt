@@ -11,4 +11,5 @@ returns c =
       takes = search rules;
       none = search rules;
       piece = search rules;
+      fetch = search rules;
     })
