@@ -7,12 +7,17 @@
 LRU; FIFO; CLOCK (Corbató, A paging experiment with the Multics system, 1968), as a circle with a hand; SIEVE (Zhang, Yang, Yue, Vigfusson, Rashmi, NSDI 2024); S3-FIFO (Yang, Zhang, Qiu, Yue, Vigfusson, SOSP 2023); 2Q (Johnson, Shasha, VLDB 1994). Each takes requests of (key, size) and tells hits.
 Beside them is a sample of at most so many keys.
 With a time to live, a body past its time is a miss: its entry is used, or removed and admitted anew. Nothing here is shared with the crates of this repository.
+At first it hands over what is no trace, or none for the options: each has to be refused in a line, with no row; and traces in other forms,
+which have the rows of the plain one.
 """
 import bisect
+import bz2
 import collections
+import gzip
 import hashlib
 import heapq
 import itertools
+import lzma
 import random
 import subprocess
 import sys
@@ -511,6 +516,57 @@ def each_prefix(program, name, trace, sizes):
     print(f"{name}: equal after each of {len(trace)} requests")
 
 
+def run(program, words, trace=b""):
+    return subprocess.run([program, *words, "--format", "csv"], input=trace, capture_output=True, check=False)
+
+
+def is_refused(program, words, trace, said):
+    """Whether it ends with 1, without a row, and with this in its last line."""
+    ended = run(program, words, trace)
+    last = ended.stderr.decode().strip().split("\n")[-1]
+    assert (ended.returncode, ended.stdout) == (1, b"") and said in last, (words, trace[:40], ended)
+
+
+def compare_forms(program):
+    """What is no trace is refused, by its bytes and whatever it is named; and a trace has the same rows in each of its forms."""
+    requests = HAND_MADE["sizes"]
+    lines = "".join(f"{second},{key},{size}\n" for second, (key, size) in enumerate(requests))
+    text = f"time,key,size\n{lines}".encode()
+    with open("/bin/sh", "rb") as it:
+        shell = it.read()
+    unpacked = {"xzcat": lzma.compress(text), "bzcat": bz2.compress(text), "zcat": gzip.compress(text)}
+    unpacked |= {"zstdcat": bytes.fromhex("28b52ffd2400") + bytes(40), "lz4cat": bytes.fromhex("04224d186440a7") + bytes(40)}
+    cases = [([], data, f"pipe it through {name}") for name, data in unpacked.items()]
+    cases += [([], shell, "the trace is no text"), (["--trace-type", "csv"], shell, "the trace is no text"), ([], text.decode().encode("utf-16"), "the trace is no text")]
+    cases += [(["--ttl", "5"], b"key,size\na,2\n", "no times"), (["--ttl", "5"], b"a 2\n", "no times"), (["--ttl", "5", "--columns", "key,size"], b"a,2\n", "no times")]
+    with tempfile.NamedTemporaryFile(suffix=".csv") as file:
+        for words, data, said in cases:
+            is_refused(program, words, data, said)
+            file.seek(0)
+            file.truncate()
+            file.write(data)
+            file.flush()
+            is_refused(program, [*words, "--trace", file.name], b"", said)
+    for words in (["--policy", "belady,lru", "--ignore-size"], ["--sample-keys", "3"], ["--size", "1%"]):
+        is_refused(program, [*words, "--trace", "/dev/stdin"], text, "no pipe")
+    is_refused(program, ["--sample", "0.001", "--size", "999"], text, "has none in the sample")
+    is_refused(program, ["--sample", "0.1", "--watermark", "9"], text, "leaves no entry in the sample")
+    small = run(program, ["--sample", "0.5", "--size", "8"], text)
+    assert small.returncode == 0 and b"size 8: 4 bytes in the sample, whose largest body has" in small.stderr, small
+    print(f"{len(cases)} files that are no traces, six options that a trace does not serve: refused; a sample below a body: warned of")
+    words = ["--size", "9,13", "--policy", ",".join(POLICIES), "--ttl", "5"]
+    wanted = run(program, words, text)
+    assert wanted.returncode == 0 and wanted.stdout.count(b"\n") == 1 + 2 * len(POLICIES), wanted
+    other_forms = [text.replace(b"time,key,size", name) for name in (b"timestamp,obj_id,obj_size", b"Ts,object,Object_Size", b"\xef\xbb\xbftime,key,size")]
+    for other in [*other_forms, lines.encode(), b"\xef\xbb\xbf" + lines.encode()]:
+        assert run(program, words, other).stdout == wanted.stdout, other[:40]
+    words = ["--size", "2,3", "--policy", ",".join(POLICIES), "--ignore-size"]
+    wanted = run(program, words, text)
+    for other in ("".join(f"{key}\n" for key, _ in requests), "key\n" + "".join(f"{key}\n" for key, _ in requests), "time,key\n" + "".join(f"7,{key}\n" for key, _ in requests)):
+        assert run(program, words, other.encode()).stdout == wanted.stdout != b"", other[:40]
+    print("other names of columns, a byte-order mark, no header, keys alone: equal")
+
+
 def main():
     if sys.argv[1] == "--trace":
         seed, requests, keys = map(int, sys.argv[2:5])
@@ -518,6 +574,7 @@ def main():
             print(key, size)
         return
     program = sys.argv[1]
+    compare_forms(program)
     for name, trace in HAND_MADE.items():
         each_prefix(program, name, trace, [1, 2, 3, 5, 8, 13])
         compare_bounds(program, name, trace, [1, 2, 3, 5, 8])

@@ -72,23 +72,40 @@ fn run<C: Clock + Files + Threads + Sync>(
 
 fn tell(rt: &HostRuntime, stop: &Stop) -> io::Result<()> {
     match stop {
-        Stop::NoDistinct => eprintln!(rt;
-            "a size in percent needs --trace, a file that is read twice, or --distinct, the bytes of all bodies, each once"
-        ),
         Stop::First(refused) => tell_first(rt, *refused),
         Stop::BadLines(lines) => eprintln!(rt;
             "too many bad lines: it stopped after line {lines}, and the results are of the lines before (--bad-lines says how many may be bad)"
         ),
         Stop::NoRequests => eprintln!(rt; "no line of the trace is a request"),
         Stop::NoneSampled => eprintln!(rt; "no key of the trace is in the sample"),
-        Stop::TooManyKeys => eprintln!(rt;
-            "the sample of a millionth of the keys has more than --sample-keys"
-        ),
         Stop::NoneCounted => eprintln!(rt;
             "the trace has no more requests than --warmup, which are not counted"
         ),
+        Stop::Changed => eprintln!(rt;
+            "the trace changed while it was read: it had fewer requests the second time"
+        ),
         Stop::Memory => eprintln!(rt; "out of memory"),
         Stop::Io(error) => eprintln!(rt; "{error}"),
+        unmet => tell_unmet(rt, unmet),
+    }
+}
+
+// What the options ask of a trace that it cannot give.
+fn tell_unmet(rt: &HostRuntime, stop: &Stop) -> io::Result<()> {
+    match stop {
+        Stop::NoDistinct => eprintln!(rt;
+            "a size in percent needs --trace, a file that is read twice, or --distinct, the bytes of all bodies, each once"
+        ),
+        Stop::NoFile => eprintln!(rt;
+            "belady, --sample-keys and a size in percent without --distinct read the trace twice: --trace is to be a file, and no pipe"
+        ),
+        Stop::NoRoom(size) => eprintln!(rt;
+            "a cache of {size} bytes has none in the sample: a larger --sample, or a larger --size"
+        ),
+        Stop::NoEntries(entries) => eprintln!(rt;
+            "a --watermark of {entries} leaves no entry in the sample: a larger --sample, or a larger --watermark"
+        ),
+        _ => eprintln!(rt; "the sample of a millionth of the keys has more than --sample-keys"),
     }
 }
 
@@ -100,6 +117,12 @@ fn tell_first(rt: &HostRuntime, refused: Refused) -> io::Result<()> {
         Refused::OtherNames => eprintln!(rt;
             "the header and --columns name the columns in two ways"
         ),
+        Refused::NoTimes => eprintln!(rt;
+            "the trace has no times, which --ttl needs: no column of its lines is named time, timestamp or ts"
+        ),
         Refused::Packed(program) => eprintln!(rt; "the trace is packed: pipe it through {program}"),
+        Refused::NoTrace => eprintln!(rt;
+            "the trace is no text, and does not look like records of oracleGeneral; if it has them, --trace-type oracleGeneral says so"
+        ),
     }
 }

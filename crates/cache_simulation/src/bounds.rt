@@ -4,14 +4,14 @@ use crate::names::front;
 use crate::options::{Options, Output, Setting};
 use crate::reader::Reader;
 use crate::report::{Cells, Shown, ratio, write_cells, write_setting, write_settings};
-use crate::simulation::Stop;
+use crate::simulation::{Stop, open_trace};
 use belady::kept::most_hits;
 use belady::requests::next_requests;
 use pcache_base::key::hash_key;
 use std::alloc::Global;
+use std::io;
 use std::io::{Read, Write};
 use std::rt::Files;
-use std::{fs, io};
 
 /// The most hits of a cache of some size over a trace, and the options that they depend on.
 #[derive(Clone, Copy, Debug)]
@@ -84,8 +84,7 @@ pub(crate) fn find_bounds<C: Files, E: Write>(
     if !options.is_bounded {
         return Ok(bounds);
     }
-    let file = fs::open(rt, path.as_str()).map_err(Stop::Io)?;
-    let reader = Reader::new(alloc, options, file)?;
+    let reader = open_trace(rt, alloc, options, path.as_str())?;
     let bodies = read_bodies(alloc, options, reader, until, errors)?;
     // Not read off an `oracleGeneral` record: its numbers are of the trace that the file was made
     // from, which may have been cut since, and could only be believed.
@@ -162,6 +161,10 @@ fn read_bodies<R: Read + Drop, E: Write>(
         if number <= options.warmup {
             bodies.uncounted = bodies.asked.len();
         }
+    }
+    if number < until {
+        // As a file that another program writes anew: hits of fewer requests would stand beside those of all.
+        return Err(Stop::Changed);
     }
     Ok(bodies)
 }

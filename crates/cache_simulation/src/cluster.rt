@@ -1,5 +1,6 @@
 //! A trace that is played to several nodes, from its first line to the report.
 
+use crate::checked::Bodies;
 use crate::names::{front, hashed};
 use crate::options::{Cluster, Options, Output};
 use crate::player::request;
@@ -22,9 +23,11 @@ pub(crate) struct Nodes<'o> {
     options: &'o Options,
     cluster: &'o Cluster,
     all: Vec<Tiers>,
+    distinct: u64,
     // How many requests of the trace were read, and how many of the sample.
     number: u64,
     sampled: u64,
+    bodies: Bodies,
 }
 
 impl<'o> Nodes<'o> {
@@ -58,8 +61,10 @@ impl<'o> Nodes<'o> {
             options,
             cluster,
             all,
+            distinct,
             number: 0,
             sampled: 0,
+            bodies: Bodies::none(),
         })
     }
 
@@ -79,6 +84,8 @@ impl<'o> Nodes<'o> {
         if self.sampled == 0 {
             return Err(Stop::NoneSampled);
         }
+        self.bodies
+            .warn_of_sample(self.options, self.distinct, errors)?;
         if matches!(self.options.output, Output::Table) {
             let mut lines = Vec::new(self.alloc);
             self.write(&mut lines)?;
@@ -122,6 +129,7 @@ impl<'o> Nodes<'o> {
             }
         }
         progress.say_bad(errors)?;
+        reader.say_unused(errors)?;
         Ok(stopped)
     }
 
@@ -142,6 +150,7 @@ impl<'o> Nodes<'o> {
         }
         self.sampled = self.sampled.saturating_add(1);
         let size = self.options.counted(asked.size);
+        self.bodies.note(size, true);
         let one = request(hashed(self.alloc, primary), size, asked.second);
         for tiers in self.all.iter_mut() {
             tiers.ask(hash, &one).map_err(|_| Stop::Memory)?;

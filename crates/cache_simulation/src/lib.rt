@@ -3,6 +3,7 @@
 //!
 //! - `bounds`: the most hits that a cache of bodies of one size can have
 //! - `cache`: one cache, of any policy
+//! - `checked`: what is refused before a trace is played, and warned of after it
 //! - `cluster`: a trace that is played to several nodes
 //! - `counts`: the counts over a trace
 //! - `drawing`: a drawing of the ratios of misses
@@ -28,6 +29,7 @@
 
 pub mod bounds;
 pub mod cache;
+mod checked;
 mod cluster;
 pub mod counts;
 pub mod drawing;

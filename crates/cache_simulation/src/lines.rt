@@ -9,6 +9,12 @@ use std::io::{BufRead, BufReader, Read};
 /// How many bytes a line may have. What a longer one has beyond is read and not kept.
 pub(crate) const LONGEST: usize = 65_536;
 
+// How many of the first bytes are looked at: so many records that what is none shows it.
+const FIRST: usize = 256 * RECORD;
+
+// The byte-order mark of UTF-8, which some programs write before a text.
+const MARK: [u8; 3] = [0xef, 0xbb, 0xbf];
+
 /// Lines that are read one after the other, into one buffer.
 #[derive(Drop)]
 pub(crate) struct Lines<R: Read + Drop> {
@@ -44,11 +50,19 @@ impl<R: Read + Drop> Lines<R> {
         self.read
     }
 
-    /// Takes the first bytes for the line that was read last, and leaves them to be read.
+    /// Takes the first bytes, as many as there are at once, for the line that was read last, and leaves them to be read.
     pub(crate) fn begin(&mut self) -> Result<(), Stop> {
         self.line.clear();
-        let _taken = take_upto(&mut self.reader, RECORD, &mut self.line)?;
+        let _taken = take_upto(&mut self.reader, FIRST, &mut self.line)?;
         Ok(())
+    }
+
+    /// Passes over a byte-order mark, if one is at the beginning of what `begin` took.
+    pub(crate) fn pass_mark(&mut self) {
+        if self.line.starts_with(&MARK) {
+            self.reader.consume(MARK.len());
+            self.read = self.read.saturating_add(MARK.len() as u64);
+        }
     }
 
     /// Reads the next record in place of a line, and returns whether there was one. The last one can be cut.

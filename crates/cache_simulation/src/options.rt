@@ -8,7 +8,7 @@ ghost use Rattle.cache_simulation.specs.Sampled.{expected};
 
 use crate::names::{front, hashed, named};
 use crate::sample::{Sample, WHOLE};
-use crate::trace::{Columns, TraceType, is_digits};
+use crate::trace::{Columns, Needs, TraceType, is_digits};
 use pcache_base::key::{CompactCacheKey, hash_key};
 use std::alloc::{AllocError, Global};
 use std::fmt;
@@ -269,6 +269,22 @@ impl Options {
         is_behind || self.sizes.iter().any(|size| matches!(size, Size::Share(_)))
     }
 
+    /// What each line of the trace has to have besides its key: a size, unless sizes are ignored, and a time if bodies are fresh
+    /// for a time.
+    pub fn needs(&self) -> Needs {
+        Needs {
+            size: !self.setting.ignores_size,
+            time: self.setting.ttl.is_some(),
+        }
+    }
+
+    /// Whether the trace is read more than once.
+    pub(crate) fn read_again(&self) -> bool {
+        self.is_bounded
+            || self.sample_keys.is_some()
+            || (self.have_share() && self.distinct.is_none())
+    }
+
     /// The size that counts of a body which has this one.
     pub fn counted(&self, size: usize) -> usize {
         if self.setting.ignores_size { 1 } else { size }
@@ -331,7 +347,7 @@ pub fn read<'a>(alloc: Global, words: &Words<'a>) -> Result<Options, Unusable<'a
         warmup: value("warmup", words.warmup, NUMBER, whole_number(words.warmup))?,
         interval: interval(words.interval, words.plot)?,
         trace_type: trace_type(words.trace_type)?,
-        columns: columns(words.columns)?,
+        columns: columns(words)?,
         threads: threads(words.threads)?,
     })
 }
@@ -377,7 +393,8 @@ const THREADS: &str = "a whole number from 1 and below 2^64";
 
 const TRACE_TYPES: &str = "csv, cdn, twitter or oracleGeneral";
 
-const COLUMNS: &str = "names with commas, with key and size among them once and time at most once";
+const COLUMNS: &str =
+    "names with commas, with key and size among them once (size may be missing with --ignore-size) and time at most once";
 
 const NODES: &str =
     "a whole number from 1 to 65536, without --warmup, --interval, --plot and belady";
@@ -468,11 +485,19 @@ fn trace_type(text: Option<&str>) -> Result<Option<TraceType>, Unusable<'_>> {
     }
 }
 
-fn columns(text: Option<&str>) -> Result<Option<Columns>, Unusable<'_>> {
-    match text {
-        Some(text) => Ok(Some(value("columns", text, COLUMNS, Columns::read(text))?)),
-        None => Ok(None),
+fn columns<'a>(words: &Words<'a>) -> Result<Option<Columns>, Unusable<'a>> {
+    let Some(text) = words.columns else {
+        return Ok(None);
+    };
+    let columns = value("columns", text, COLUMNS, Columns::read(text))?;
+    if columns.size.is_none() && !words.ignores_size {
+        return Err(Unusable::Value {
+            option: "columns",
+            value: text,
+            choices: COLUMNS,
+        });
     }
+    Ok(Some(columns))
 }
 
 // The most nodes that there can be.

@@ -15,6 +15,7 @@ use std::io::{Read, Write};
 pub(crate) struct Reader<R: Read + Drop> {
     lines: Lines<R>,
     layout: Layout,
+    length: Option<u64>,
     number: u64,
     // The record that was read last, and its number as a key.
     record: Result<Record, BadLine>,
@@ -22,11 +23,17 @@ pub(crate) struct Reader<R: Read + Drop> {
 }
 
 impl<R: Read + Drop> Reader<R> {
-    /// A trace from its beginning, read as the options say.
-    pub(crate) fn new(alloc: Global, options: &Options, input: R) -> Result<Reader<R>, Stop> {
+    /// A trace of so many bytes, if that is known, from its beginning, read as the options say.
+    pub(crate) fn new(
+        alloc: Global,
+        options: &Options,
+        input: R,
+        length: Option<u64>,
+    ) -> Result<Reader<R>, Stop> {
         Ok(Reader {
             lines: Lines::new(alloc, input)?,
-            layout: Layout::new(options.trace_type, options.columns),
+            layout: Layout::new(options.trace_type, options.columns, options.needs()),
+            length,
             number: 0,
             record: Err(BadLine::Cut),
             key: String::new(alloc),
@@ -52,12 +59,35 @@ impl<R: Read + Drop> Reader<R> {
         self.lines.bytes_read()
     }
 
+    /// How many bytes the trace has, if that is known.
+    pub(crate) fn length(&self) -> Option<u64> {
+        self.length
+    }
+
+    /// Writes at the end what lines have that is not used.
+    pub(crate) fn say_unused<E: Write>(&self, errors: &mut E) -> Result<(), Stop> {
+        if !self.layout.has_lives() {
+            return Ok(());
+        }
+        writeln!(
+            errors,
+            "the times to live of the lines are not used: --ttl is one for all bodies"
+        )
+        .map_err(Stop::Io)
+    }
+
     /// Reads the next line or record, and returns whether there was one. A header is taken, and shown if its names are not
     /// used.
     pub(crate) fn advance<E: Write>(&mut self, errors: &mut E) -> Result<bool, Stop> {
         if self.number == 0 {
             self.lines.begin()?;
-            self.layout.begin(self.lines.line()).map_err(Stop::First)?;
+            self.layout
+                .begin(self.lines.line(), self.length)
+                .map_err(Stop::First)?;
+            // Only before a text: a record may begin with a time of these bytes.
+            if !self.layout.has_records() {
+                self.lines.pass_mark();
+            }
         }
         let is_there = self.step()?;
         if is_there && self.number == 1 && self.is_header(errors)? {
@@ -122,7 +152,7 @@ impl<R: Read + Drop> Reader<R> {
                 Ok(true)
             }
             Err(refused) => {
-                if !matches!(refused, Refused::Packed(_)) {
+                if matches!(refused, Refused::NoNames | Refused::OtherNames) {
                     say_line(1, "a header", self.lines.line(), errors)?;
                 }
                 Err(Stop::First(refused))

@@ -1,12 +1,13 @@
 //! A trace from its first line to the report.
 
 use crate::bounds::{Bound, find_bounds, write_bounds};
+use crate::checked::{Bodies, check_file, check_sample};
 use crate::cluster::Nodes;
 use crate::drawing::draw;
 use crate::key_limit::LowestKeys;
 use crate::layout::Refused;
 use crate::names::front;
-use crate::options::{Cluster, Options, Output, Policy};
+use crate::options::{Cluster, Options, Output};
 use crate::player::Player;
 use crate::progress::Progress;
 use crate::reader::Reader;
@@ -30,7 +31,13 @@ pub(crate) const LINES_BETWEEN: u64 = 1_000_000;
 pub enum Stop {
     /// A size in percent needs the total bytes of all bodies, or a trace that can be read twice.
     NoDistinct,
-    /// The first line of the trace is not one that can be read.
+    /// The trace is to be read more than once, and is no file.
+    NoFile,
+    /// A cache of this size has no byte in the sample.
+    NoRoom(usize),
+    /// A cache of so many entries has none in the sample.
+    NoEntries(usize),
+    /// The beginning of the trace is not one that can be read.
     First(Refused),
     /// More lines are bad than allowed; this many were read. The results of these are written.
     BadLines(u64),
@@ -42,6 +49,8 @@ pub enum Stop {
     TooManyKeys,
     /// The trace has no more requests than are made before any is counted.
     NoneCounted,
+    /// The trace had fewer requests when it was read once more.
+    Changed,
     /// Memory ran out.
     Memory,
     /// The trace cannot be read, or the report cannot be written.
@@ -59,6 +68,7 @@ pub fn simulate<C: Clock + Files + Threads + Sync, R: Read + Drop, W: Write + Dr
     output: W,
     errors: &mut E,
 ) -> Result<(), Stop> {
+    check_file(rt, options)?;
     // Its rate is known before the first request: a cache that shrank in the midst of a run would
     // have the hits of no plain run of its policy.
     if let Some(sample) = largest_sample(rt, alloc, options, errors)? {
@@ -76,6 +86,7 @@ fn play<C: Clock + Files + Threads + Sync, R: Read + Drop, W: Write + Drop, E: W
     errors: &mut E,
 ) -> Result<(), Stop> {
     let distinct = distinct(rt, alloc, options, errors)?;
+    check_sample(options, distinct)?;
     if let Some(cluster) = &options.cluster {
         return play_nodes(rt, alloc, options, cluster, distinct, input, output, errors);
     }
@@ -89,7 +100,8 @@ fn play<C: Clock + Files + Threads + Sync, R: Read + Drop, W: Write + Drop, E: W
     if player.until().is_ok_and(|lines| lines <= options.warmup) {
         return Err(Stop::NoneCounted);
     }
-    read.warn(options, errors)?;
+    read.bodies.warn_of_policies(options, errors)?;
+    read.bodies.warn_of_sample(options, distinct, errors)?;
     take_rows(rt, &mut player, &mut rows)?;
     let until = player.until().map_err(|_| Stop::Memory)?;
     let bounds = find_bounds(rt, alloc, options, distinct, until, errors)?;
@@ -123,13 +135,12 @@ fn play_nodes<C: Clock + Files, R: Read + Drop, W: Write + Drop, E: Write>(
     let told = BufWriter::new(alloc, output).map_err(Stop::Io)?;
     let nodes = Nodes::new(alloc, options, cluster, distinct)?;
     let Some(path) = &options.trace else {
-        let progress = Progress::start(rt, length(rt, "/dev/stdin"))?;
-        let reader = Reader::new(alloc, options, input)?;
-        return nodes.play(rt, reader, progress, told, errors);
+        let length = length(rt, "/dev/stdin");
+        let reader = Reader::new(alloc, options, input, length)?;
+        return nodes.play(rt, reader, Progress::start(rt, length)?, told, errors);
     };
-    let progress = Progress::start(rt, length(rt, path.as_str()))?;
-    let file = fs::open(rt, path.as_str()).map_err(Stop::Io)?;
-    let reader = Reader::new(alloc, options, file)?;
+    let reader = open_trace(rt, alloc, options, path.as_str())?;
+    let progress = Progress::start(rt, reader.length())?;
     nodes.play(rt, reader, progress, told, errors)
 }
 
@@ -145,13 +156,13 @@ fn read_input<C: Clock + Files + Threads + Sync, R: Read + Drop, E: Write>(
 ) -> Result<Taken, Stop> {
     let Some(path) = &options.trace else {
         // Also standard input has a length if it is a file, and then it is told how long is left.
-        let progress = Progress::start(rt, length(rt, "/dev/stdin"))?;
-        let reader = Reader::new(alloc, options, input)?;
+        let length = length(rt, "/dev/stdin");
+        let reader = Reader::new(alloc, options, input, length)?;
+        let progress = Progress::start(rt, length)?;
         return read_trace(rt, options, player, rows, reader, progress, errors);
     };
-    let progress = Progress::start(rt, length(rt, path.as_str()))?;
-    let file = fs::open(rt, path.as_str()).map_err(Stop::Io)?;
-    let reader = Reader::new(alloc, options, file)?;
+    let reader = open_trace(rt, alloc, options, path.as_str())?;
+    let progress = Progress::start(rt, reader.length())?;
     read_trace(rt, options, player, rows, reader, progress, errors)
 }
 
@@ -171,9 +182,7 @@ struct Taken {
     // Whether there was a request at all, and one of the sample.
     is_some: bool,
     is_sampled: bool,
-    // The sizes of the smallest and the largest body.
-    least: usize,
-    largest: usize,
+    bodies: Bodies,
     // After how many lines it stopped, if there were too many bad ones.
     stopped: Option<u64>,
 }
@@ -183,8 +192,7 @@ impl Taken {
         Taken {
             is_some: false,
             is_sampled: false,
-            least: usize::MAX,
-            largest: 0,
+            bodies: Bodies::none(),
             stopped: None,
         }
     }
@@ -193,8 +201,7 @@ impl Taken {
     fn note(&mut self, size: usize, is_sampled: bool) {
         self.is_some = true;
         self.is_sampled = self.is_sampled || is_sampled;
-        self.least = self.least.min(size);
-        self.largest = self.largest.max(size);
+        self.bodies.note(size, is_sampled);
     }
 
     fn check(&self) -> Result<(), Stop> {
@@ -206,23 +213,18 @@ impl Taken {
         }
         Ok(())
     }
+}
 
-    // Warns of what is read in two ways if bodies have different sizes.
-    fn warn<E: Write>(&self, options: &Options, errors: &mut E) -> Result<(), Stop> {
-        let has_fifo = options
-            .policies
-            .iter()
-            .any(|policy| *policy == Policy::S3Fifo);
-        if !has_fifo || self.least >= self.largest {
-            return Ok(());
-        }
-        writeln!(
-            errors,
-            "s3-fifo: bodies have {} to {} bytes; one above the small queue comes in here, and other simulators refuse it",
-            self.least, self.largest
-        )
-        .map_err(Stop::Io)
-    }
+/// The trace of a file, from its beginning.
+pub(crate) fn open_trace<C: Files>(
+    rt: &C,
+    alloc: Global,
+    options: &Options,
+    path: &str,
+) -> Result<Reader<C::File>, Stop> {
+    let length = length(rt, path);
+    let file = fs::open(rt, path).map_err(Stop::Io)?;
+    Reader::new(alloc, options, file, length)
 }
 
 // The length of a file, if it has one.
@@ -268,6 +270,7 @@ fn read_trace<C: Clock + Threads + Sync, R: Read + Drop, E: Write>(
         }
     }
     progress.say_bad(errors)?;
+    reader.say_unused(errors)?;
     Ok(taken)
 }
 
@@ -339,8 +342,7 @@ fn largest_sample<C: Files, E: Write>(
     let (Some(most), Some(path)) = (options.sample_keys, &options.trace) else {
         return Ok(None);
     };
-    let file = fs::open(rt, path.as_str()).map_err(Stop::Io)?;
-    let reader = Reader::new(alloc, options, file)?;
+    let reader = open_trace(rt, alloc, options, path.as_str())?;
     match Sample::new(largest_rate(alloc, most, reader, errors)?, 0) {
         Some(sample) => Ok(Some(sample)),
         None => Err(Stop::TooManyKeys),
@@ -384,8 +386,8 @@ fn distinct<C: Files, E: Write>(
         // A pipe can be read only once, so that its total has to be given.
         return Err(Stop::NoDistinct);
     };
-    let file = fs::open(rt, path.as_str()).map_err(Stop::Io)?;
-    let sampled = distinct_of(alloc, options, Reader::new(alloc, options, file)?, errors)?;
+    let reader = open_trace(rt, alloc, options, path.as_str())?;
+    let sampled = distinct_of(alloc, options, reader, errors)?;
     Ok(options.setting.sample.whole(sampled))
 }
 

@@ -47,8 +47,8 @@ pub struct Columns {
     pub time: Option<usize>,
     /// The column of the key.
     pub key: usize,
-    /// The column of the size.
-    pub size: usize,
+    /// The column of the size, if there is one.
+    pub size: Option<usize>,
 }
 
 impl Columns {
@@ -56,20 +56,25 @@ impl Columns {
     pub const USUAL: Columns = Columns {
         time: Some(0),
         key: 1,
-        size: 2,
+        size: Some(2),
     };
 
-    /// Reads the names of columns: `key` and `size`, each once, `time` at most once, and any others.
+    /// Reads the names of columns: that of a key once, those of a time and of a size at most once, and any others. Each has
+    /// several names, in letters of any case.
     pub fn read(names: &str) -> Option<Columns> {
         let mut time = None;
         let mut key = None;
         let mut size = None;
         for (place, name) in names.split(',').enumerate() {
-            let named = match name.trim() {
-                "time" => &mut time,
-                "key" => &mut key,
-                "size" => &mut size,
-                _ => continue,
+            let name = name.trim();
+            let named = if is_one_of(name, &TIMES) {
+                &mut time
+            } else if is_one_of(name, &KEYS) {
+                &mut key
+            } else if is_one_of(name, &SIZES) {
+                &mut size
+            } else {
+                continue;
             };
             if named.is_some() {
                 return None;
@@ -79,9 +84,32 @@ impl Columns {
         Some(Columns {
             time,
             key: key?,
-            size: size?,
+            size,
         })
     }
+}
+
+/// The names of a column of seconds.
+pub const TIMES: [&str; 3] = ["time", "timestamp", "ts"];
+
+/// The names of a column of keys.
+pub const KEYS: [&str; 5] = ["key", "obj_id", "object_id", "obj", "object"];
+
+/// The names of a column of sizes.
+pub const SIZES: [&str; 3] = ["size", "obj_size", "object_size"];
+
+/// Whether a name is one of these, in letters of any case.
+pub(crate) fn is_one_of(name: &str, known: &[&str]) -> bool {
+    known.iter().any(|known| name.eq_ignore_ascii_case(known))
+}
+
+/// What each line has to have besides its key.
+#[derive(Clone, Copy, Debug, PartialEq, Eq)]
+pub struct Needs {
+    /// A size in bytes. If it is not needed, a line may lack it.
+    pub size: bool,
+    /// A time.
+    pub time: bool,
 }
 
 /// Why a line is no request.
@@ -99,6 +127,8 @@ pub enum BadLine {
     Size,
     /// Its time is missing, or no number of seconds.
     Time,
+    /// There is no place for a time in it, and one is needed.
+    NoTime,
     /// It has no commas, and more words than a key and a size.
     Words,
     /// It has not the seven fields of Twitter's traces.
@@ -117,6 +147,7 @@ impl BadLine {
             BadLine::NoSize => "it has no size",
             BadLine::Size => "its size is no number of bytes",
             BadLine::Time => "its time is no number of seconds",
+            BadLine::NoTime => "it has no time, which --ttl needs",
             BadLine::Words => "it has no commas, and more words than a key and a size",
             BadLine::Fields => "it has not the seven fields of Twitter's traces",
             BadLine::Cut => "it is shorter than a record of 24 bytes",
@@ -124,21 +155,25 @@ impl BadLine {
     }
 }
 
-/// Reads a line: one with commas by its columns, and another as a key, spaces and a size.
-pub fn read_line(line: &str, columns: Columns) -> Result<Asked<'_>, BadLine> {
+/// Reads a line: one with commas by its columns, and another as a key, spaces and a size. A line that lacks a size which is not
+/// needed is of one byte.
+pub fn read_line(line: &str, columns: Columns, needs: Needs) -> Result<Asked<'_>, BadLine> {
     if line.contains(',') {
-        read_columns(line, columns)
+        read_columns(line, columns, needs)
     } else {
-        read_words(line)
+        read_words(line, needs)
     }
 }
 
-fn read_words(line: &str) -> Result<Asked<'_>, BadLine> {
+fn read_words(line: &str, needs: Needs) -> Result<Asked<'_>, BadLine> {
     let mut words = line.split_ascii_whitespace();
     let key = words.next().ok_or(BadLine::NoKey)?;
-    let size = size_of(words.next())?;
+    let size = size_of(words.next(), needs)?;
     if words.next().is_some() {
         return Err(BadLine::Words);
+    }
+    if needs.time {
+        return Err(BadLine::NoTime);
     }
     Ok(Asked {
         key,
@@ -147,7 +182,7 @@ fn read_words(line: &str) -> Result<Asked<'_>, BadLine> {
     })
 }
 
-fn read_columns(line: &str, columns: Columns) -> Result<Asked<'_>, BadLine> {
+fn read_columns(line: &str, columns: Columns, needs: Needs) -> Result<Asked<'_>, BadLine> {
     let mut key = None;
     let mut size = None;
     let mut time = None;
@@ -158,7 +193,7 @@ fn read_columns(line: &str, columns: Columns) -> Result<Asked<'_>, BadLine> {
         if place == columns.key && !text.is_empty() {
             key = Some(text);
         }
-        if place == columns.size {
+        if columns.size == Some(place) {
             size = Some(text);
         }
         if columns.time == Some(place) {
@@ -167,19 +202,19 @@ fn read_columns(line: &str, columns: Columns) -> Result<Asked<'_>, BadLine> {
     }
     Ok(Asked {
         key: key.ok_or(BadLine::NoKey)?,
-        size: size_of(size)?,
-        second: second_of(columns, time)?,
+        size: size_of(size, needs)?,
+        second: second_of(columns, time, needs)?,
     })
 }
 
 /// Reads a line of a second, a key and a size, with spaces. What else it has is passed over.
-pub fn read_cdn(line: &str) -> Result<Asked<'_>, BadLine> {
+pub fn read_cdn(line: &str, needs: Needs) -> Result<Asked<'_>, BadLine> {
     let mut words = line.split_ascii_whitespace();
     let second = words.next().and_then(seconds).ok_or(BadLine::Time)?;
     let key = words.next().ok_or(BadLine::NoKey)?;
     Ok(Asked {
         key,
-        size: size_of(words.next())?,
+        size: size_of(words.next(), needs)?,
         second,
     })
 }
@@ -193,8 +228,8 @@ pub fn read_twitter(line: &str) -> Result<Option<Asked<'_>>, BadLine> {
     if key.is_empty() {
         return Err(BadLine::NoKey);
     }
-    let key_size = size_of(fields.next())?;
-    let size = size_of(fields.next())?
+    let key_size = size_of(fields.next(), ALL)?;
+    let size = size_of(fields.next(), ALL)?
         .checked_add(key_size)
         .ok_or(BadLine::Size)?;
     let _client = fields.next().ok_or(BadLine::Fields)?;
@@ -246,17 +281,25 @@ pub fn read_record(bytes: &[u8]) -> Result<Record, BadLine> {
     })
 }
 
-fn size_of(text: Option<&str>) -> Result<usize, BadLine> {
+// What the lines of Twitter's traces have.
+const ALL: Needs = Needs {
+    size: true,
+    time: true,
+};
+
+fn size_of(text: Option<&str>, needs: Needs) -> Result<usize, BadLine> {
     match text {
         Some(text) => text.parse::<usize>().map_err(|_| BadLine::Size),
-        None => Err(BadLine::NoSize),
+        None if needs.size => Err(BadLine::NoSize),
+        None => Ok(1),
     }
 }
 
-// The second that was read, and 0 if there is no column for it.
-fn second_of(columns: Columns, time: Option<u64>) -> Result<u64, BadLine> {
+// The second that was read, and 0 if there is no column for it and none is needed.
+fn second_of(columns: Columns, time: Option<u64>, needs: Needs) -> Result<u64, BadLine> {
     match columns.time {
         Some(_) => time.ok_or(BadLine::Time),
+        None if needs.time => Err(BadLine::NoTime),
         None => Ok(0),
     }
 }

@@ -164,8 +164,9 @@ const READ: &str = "
     trace-type cdn -> Some(Cdn)
     trace-type oracleGeneral -> Some(OracleGeneral)
     trace-type lcs -> --trace-type cannot be \"lcs\"; it is csv, cdn, twitter or oracleGeneral
-    columns key,node,size -> Some(Columns { time: None, key: 0, size: 2 })
-    columns time,key -> --columns cannot be \"time,key\"; it is names with commas, with key and size among them once and time at most once
+    columns key,node,size -> Some(Columns { time: None, key: 0, size: Some(2) })
+    columns time,key; ignore-size -> Some(Columns { time: Some(0), key: 1, size: None })
+    columns time,key -> --columns cannot be \"time,key\"; it is names with commas, with key and size among them once (size may be missing with --ignore-size) and time at most once
     sample 0.25 -> 250000
     sample 1e-3 -> 1000
     sample 1 -> 1000000

@@ -76,6 +76,10 @@ fn end_of(ended: Result<(), Stop>) -> &'static str {
         Err(Stop::NoneSampled) => "none sampled",
         Err(Stop::TooManyKeys) => "too many keys",
         Err(Stop::NoneCounted) => "none counted",
+        Err(Stop::NoFile) => "no file",
+        Err(Stop::NoRoom(_size)) => "no room",
+        Err(Stop::NoEntries(_entries)) => "no entries",
+        Err(Stop::Changed) => "changed",
         Err(Stop::Memory) | Err(Stop::Io(_)) => "failed",
     }
 }
@@ -261,7 +265,8 @@ const OF_TWEETS: &str = "policy,size,requests,hits,bytes,hit_bytes,evicted,track
 fn are_tweets_played<C: Clock + Files + Threads + Sync>(rt: &C, alloc: Global) -> bool {
     let mut words = WORDS;
     words.policy = "lru";
-    let said = "1 of 3 lines are other operations than get and gets\n";
+    let said = "1 of 3 lines are other operations than get and gets\n\
+        the times to live of the lines are not used: --ttl is one for all bodies\n";
     match read(alloc, &words) {
         Ok(mut options) => is_played(rt, alloc, &mut options, TWEETS, "done", OF_TWEETS, said),
         Err(_unusable) => false,
@@ -467,4 +472,152 @@ fn is_limited<C: Clock + Files + Threads + Sync>(
 fn the_largest_sample_of_so_many_keys_is_played(rt: HostRuntime) {
     assert!(rt; is_limited(&rt, rt.alloc(), OF_SIX_KEYS, "3", "done", OF_THREE_KEYS));
     assert!(rt; is_limited(&rt, rt.alloc(), AT_ONE_PLACE, "1", "too many keys", ""));
+}
+
+// How a simulation of these words ends, and what it says.
+fn ends_so<C: Clock + Files + Threads + Sync>(
+    rt: &C,
+    alloc: Global,
+    words: &Words<'static>,
+    trace: &str,
+    end: &str,
+    written: &str,
+    said: &str,
+) -> bool {
+    match read(alloc, words) {
+        Ok(mut options) => is_played(rt, alloc, &mut options, trace, end, written, said),
+        Err(_unusable) => false,
+    }
+}
+
+// Bodies are fresh for a second: `a` comes in again at second 2, and is a hit at second 3. After a byte-order mark.
+const MARKED: &str = "\u{feff}time,key,size\n0,a,2\n2,a,2\n3,a,2\n";
+
+const ONE_SECOND: &str = "policy,size,requests,hits,bytes,hit_bytes,evicted,tracked,\
+    expected_requests,corrected_hits,expected_bytes,corrected_hit_bytes,sample,part,ttl,large,expired,ignore_size,watermark,from,until\n\
+    lru,5,3,1,6,2,0,2,3,1,6,2,1.000000,0,1,pass,use,false,,0,3\n";
+
+#[test]
+fn a_time_to_live_wants_times(rt: HostRuntime) {
+    let mut words = WORDS;
+    words.policy = "lru";
+    words.ttl = Some("1");
+    assert!(rt; ends_so(&rt, rt.alloc(), &words, MARKED, "done", ONE_SECOND, ""));
+    assert!(rt;
+        ends_so(
+            &rt,
+            rt.alloc(),
+            &words,
+            "timestamp,key,size\n0,a,2\n2,a,2\n3,a,2\n",
+            "done",
+            ONE_SECOND,
+            ""
+        )
+    );
+    assert!(rt;
+        ends_so(
+            &rt,
+            rt.alloc(),
+            &words,
+            "key,size\na,2\n",
+            "first line",
+            "",
+            ""
+        )
+    );
+    assert!(rt; ends_so(&rt, rt.alloc(), &words, "a 2\na 2\n", "first line", "", ""));
+    assert!(rt;
+        ends_so(
+            &rt,
+            rt.alloc(),
+            &words,
+            "0,a,2\n2,a,2\na 2\n3,a,2\n",
+            "done",
+            ONE_SECOND,
+            "line 3: it has no time, which --ttl needs: \"a 2\"\n1 of 4 lines are no requests\n"
+        )
+    );
+}
+
+#[test]
+fn what_is_read_twice_is_a_file(rt: HostRuntime) {
+    let mut words = WORDS;
+    words.trace = Some("/dev/null");
+    words.ignores_size = true;
+    words.policy = "belady,lru";
+    assert!(rt; ends_so(&rt, rt.alloc(), &words, "", "no file", "", ""));
+    words.policy = "lru";
+    assert!(rt; ends_so(&rt, rt.alloc(), &words, "", "no requests", "", ""));
+    words.sample_keys = Some("3");
+    assert!(rt; ends_so(&rt, rt.alloc(), &words, "", "no file", "", ""));
+    words.sample_keys = None;
+    words.size = "50%";
+    assert!(rt; ends_so(&rt, rt.alloc(), &words, "", "no requests", "", ""));
+    words.distinct = None;
+    assert!(rt; ends_so(&rt, rt.alloc(), &words, "", "no file", "", ""));
+}
+
+// Of the half of the keys that has `a`, a cache of 9 bytes has 4, and the largest body 5. The half of 3 requests and of 9 bytes is 1
+// and 4.
+const HALVED: &str = "policy,size,requests,hits,bytes,hit_bytes,evicted,tracked,\
+    expected_requests,corrected_hits,expected_bytes,corrected_hit_bytes,sample,part,ttl,large,expired,ignore_size,watermark,from,until\n\
+    lru,9,3,1,9,2,0,2,1,0,4,0,0.500000,0,,pass,use,false,,0,3\n";
+
+const TOO_SMALL: &str =
+    "size 9: 4 bytes in the sample, whose largest body has 5: its hits do not stand for those of all keys\n";
+
+#[test]
+fn a_sample_has_room_for_bodies(rt: HostRuntime) {
+    let mut words = WORDS;
+    words.policy = "lru";
+    words.sample = "0.1";
+    assert!(rt; ends_so(&rt, rt.alloc(), &words, "0,a,2\n", "no room", "", ""));
+    words.size = "0";
+    words.sample = "0.001";
+    assert!(rt; ends_so(&rt, rt.alloc(), &words, "0,a,2\n", "none sampled", "", ""));
+    words.sample = "0.1";
+    words.size = "50";
+    words.watermark = Some("9");
+    assert!(rt; ends_so(&rt, rt.alloc(), &words, "0,a,2\n", "no entries", "", ""));
+    words.watermark = None;
+    words.nodes = Some("2");
+    words.shield = Some("9");
+    assert!(rt; ends_so(&rt, rt.alloc(), &words, "0,a,2\n", "no room", "", ""));
+    words.nodes = None;
+    words.shield = None;
+    words.size = "9";
+    words.sample = "0.5";
+    assert!(rt;
+        ends_so(
+            &rt,
+            rt.alloc(),
+            &words,
+            "0,a,2\n1,c,5\n2,a,2\n",
+            "done",
+            HALVED,
+            TOO_SMALL
+        )
+    );
+}
+
+// A trace of keys alone: two of three bodies have room.
+const COUNTED_KEYS: &str = "policy,size,requests,hits,bytes,hit_bytes,evicted,tracked,\
+    expected_requests,corrected_hits,expected_bytes,corrected_hit_bytes,sample,part,ttl,large,expired,ignore_size,watermark,from,until\n\
+    lru,2,5,2,5,2,1,2,5,2,5,2,1.000000,0,,pass,use,true,,0,5\n";
+
+#[test]
+fn a_trace_may_have_keys_alone(rt: HostRuntime) {
+    let mut words = WORDS;
+    words.policy = "lru";
+    words.size = "2";
+    words.ignores_size = true;
+    let lines = "a\nb\na\nc\na\n";
+    assert!(rt; ends_so(&rt, rt.alloc(), &words, lines, "done", COUNTED_KEYS, ""));
+    let lines = "key\na\nb\na\nc\na\n";
+    assert!(rt; ends_so(&rt, rt.alloc(), &words, lines, "done", COUNTED_KEYS, ""));
+    let lines = "time,obj_id\n0,a\n1,b\n2,a\n3,c\n4,a\n";
+    assert!(rt; ends_so(&rt, rt.alloc(), &words, lines, "done", COUNTED_KEYS, ""));
+    words.columns = Some("key");
+    let lines = "a,\nb,\na,\nc,\na,\n";
+    assert!(rt; ends_so(&rt, rt.alloc(), &words, lines, "done", COUNTED_KEYS, ""));
 }
