@@ -1,8 +1,11 @@
+pub mod Exact
 pub mod FreshMaps
 pub mod Marks
+pub mod Once
 pub mod Ranks
 pub mod ReadLines
 pub mod Replaying
+pub mod Shapes
 pub mod SideBySide
 pub mod Standing
 pub mod Tells

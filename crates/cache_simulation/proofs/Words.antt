@@ -1,4 +1,5 @@
 -- The names that several proofs of this crate cite, passed on from one place. Declares nothing.
+pub use Rattle.cache_simulation.specs.Asked.{shapes}
 pub use Rattle.cache_simulation.specs.Caches.{HasPlayed, IsRow, Stands, StandsAs, StandsIn, policy_of, rules_in, start_in}
 pub use Rattle.cache_simulation.specs.Events.{Came, Event, Hit, Passed, Renewed, comes, is_hit, size_in}
 pub use Rattle.cache_simulation.specs.Fresh.{Fresh}

@@ -1,9 +1,11 @@
+pub mod Asked
 pub mod Caches
 pub mod Events
 pub mod Fresh
 pub mod FreshCode
 pub mod KeyLimit
 pub mod Names
+pub mod Once
 pub mod Plays
 pub mod Reading
 pub mod Replays

@@ -1,6 +1,7 @@
 //! The words of the command line.
 ghost use Rattle.std.specs.Prelude.{◌≡◌, option_map};
 ghost use Rattle.std.specs.Duration.{as_nanos};
+ghost use Rattle.cache_simulation.specs.Asked.{in_bytes};
 ghost use Rattle.cache_simulation.specs.Caches.{start_in, most_in};
 ghost use Rattle.cache_simulation.specs.Fresh.{none_fresh};
 ghost use Rattle.cache_simulation.specs.Reading.{named_in};
@@ -85,12 +86,14 @@ pub enum Size {
 
 impl Size {
     /// The size in bytes, if all bodies together have `distinct` bytes.
-    pub fn in_bytes(self, distinct: u64) -> usize {
+    pub fn in_bytes(self, distinct: u64) -> usize
+        ensures { result ≡ in_bytes distinct self }
+    {
         match self {
             Size::Bytes(bytes) => bytes,
             Size::Share(part) => {
-                let bytes = (distinct as u128).saturating_mul(part as u128) / (100 * WHOLE as u128);
-                usize::try_from(bytes).unwrap_or(usize::MAX)
+                let bytes = distinct as u128 * part as u128 / 100_000_000;
+                bytes.min(usize::MAX as u128) as usize
             }
         }
     }

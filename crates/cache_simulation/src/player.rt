@@ -3,6 +3,7 @@ ghost use Rattle.std.specs.Prelude.{◌≡◌, ◌+◌, ◌++◌, ◌∷◌, [],
 ghost use Rattle.std.specs.List.{All, cons_option};
 ghost use Rattle.pcache_base.specs.declared.error.ErrorType.TheVariants.{OutOfMemory, NumbersExhausted};
 ghost use Rattle.cache_simulation.specs.declared.run.Request.{Request};
+ghost use Rattle.cache_simulation.specs.Asked.{asked_for, shapes, shapes_told};
 ghost use Rattle.cache_simulation.specs.Caches.{HasPlayed};
 ghost use Rattle.cache_simulation.specs.Reading.{Line, line, request_with, HasAsked, HasRead, IsRowOf, request_of};
 ghost use Rattle.pcache_base.specs.declared.key.CompactCacheKey.{CompactCacheKey};
@@ -49,6 +50,8 @@ impl Player {
         threads: usize,
     ) -> Result<Player, AllocError>
         ensures none { IfOk result (λ p. HasRead [] [] p) }
+        ensures shapes { IfOk result (λ p. shapes p.runs.caches.items
+            ≡ asked_for distinct options.now.policies.items options.now.sizes.items) }
         ensures setting { IfOk result (λ p. p.runs.setting ≡ options.now.setting) }
     {
         Ok(Player {
@@ -73,6 +76,8 @@ impl Player {
             → HasRead before (lines ++ line key.now size second ∷ []) self.new) }
         ensures sampled { IfOk result (λ is. is
             ≡ is_some (request_of self.old.runs.setting (line key.now size second))) }
+        ensures shapes { OnOk result (shapes self.new.runs.caches.items
+            ≡ shapes self.old.runs.caches.items) }
         ensures setting { self.new.runs.setting ≡ self.old.runs.setting }
         ensures kind { IfErr result (λ e. (e ≡ OutOfMemory) ⊎ (e ≡ NumbersExhausted)) }
     {
@@ -89,6 +94,8 @@ impl Player {
         ensures read { OnOk result ((before lines : List Line)
             → HasRead before lines self.old
             → HasRead (before ++ lines) [] self.new) }
+        ensures shapes { OnOk result (shapes self.new.runs.caches.items
+            ≡ shapes self.old.runs.caches.items) }
         ensures setting { self.new.runs.setting ≡ self.old.runs.setting }
         ensures kind { IfErr result (λ e. (e ≡ OutOfMemory) ⊎ (e ≡ NumbersExhausted)) }
     {
@@ -99,15 +106,19 @@ impl Player {
         Ok(())
     }
 
-    /// The results of each cache over the lines since the mark, by policy and size in the order in which they were
+    /// The results of each cache over the lines since the mark: one row for each policy and size, in the order in which they were
     /// given.
     pub fn rows<R: Threads + Sync>(&mut self, rt: &R) -> Result<Vec<Row>>
         ensures rows { IfOk result (λ rows. (before lines : List Line)
             → HasRead before lines self.old
             → All (IsRowOf self.old.runs.setting before lines) rows.items) }
+        ensures each { IfOk result (λ rows. shapes_told rows.items
+            ≡ shapes self.old.runs.caches.items) }
         ensures read { OnOk result ((before lines : List Line)
             → HasRead before lines self.old
             → HasRead before lines self.new) }
+        ensures shapes { OnOk result (shapes self.new.runs.caches.items
+            ≡ shapes self.old.runs.caches.items) }
         ensures setting { self.new.runs.setting ≡ self.old.runs.setting }
         ensures kind { IfErr result (λ e. (e ≡ OutOfMemory) ⊎ (e ≡ NumbersExhausted)) }
     {
@@ -152,6 +163,8 @@ impl Player {
             (request_of self.old.runs.setting (line key.now size second)) []) self.new) }
         ensures sampled { IfOk result (λ is. is
             ≡ is_some (request_of self.old.runs.setting (line key.now size second))) }
+        ensures shapes { OnOk result (shapes self.new.runs.caches.items
+            ≡ shapes self.old.runs.caches.items) }
         ensures setting { self.new.runs.setting ≡ self.old.runs.setting }
         ensures from { self.new.from ≡ self.old.from }
         ensures all { self.new.all ≡ self.old.all }
@@ -175,6 +188,8 @@ impl Player {
         ensures asked { OnOk result ((before asked : List Request)
             → HasAsked before asked self.old
             → HasAsked before (asked ++ request_with key size second ∷ []) self.new) }
+        ensures shapes { OnOk result (shapes self.new.runs.caches.items
+            ≡ shapes self.old.runs.caches.items) }
         ensures setting { self.new.runs.setting ≡ self.old.runs.setting }
         ensures from { self.new.from ≡ self.old.from }
         ensures all { self.new.all ≡ self.old.all }
@@ -194,6 +209,8 @@ impl Player {
             → HasAsked before asked self.old
             → HasPlayed before asked self.new.runs) }
         ensures none { OnOk result (self.new.batch.items ≡ []) }
+        ensures shapes { OnOk result (shapes self.new.runs.caches.items
+            ≡ shapes self.old.runs.caches.items) }
         ensures setting { self.new.runs.setting ≡ self.old.runs.setting }
         ensures from { self.new.from ≡ self.old.from }
         ensures all { self.new.all ≡ self.old.all }

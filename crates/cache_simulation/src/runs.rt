@@ -3,6 +3,7 @@ ghost use Rattle.std.specs.Prelude.{◌≡◌, ◌++◌, List, [], IfOk, IfErr, 
 ghost use Rattle.std.specs.List.{All};
 ghost use Rattle.pcache_base.specs.declared.error.ErrorType.TheVariants.{OutOfMemory, NumbersExhausted};
 ghost use Rattle.cache_simulation.specs.declared.run.Request.{Request};
+ghost use Rattle.cache_simulation.specs.Asked.{asked_for, of_sizes, shapes, shapes_told};
 ghost use Rattle.cache_simulation.specs.Caches.{HasPlayed, StandsIn, IsRow};
 
 use crate::cache::{Cache, Span};
@@ -35,6 +36,8 @@ impl Runs {
         threads: usize,
     ) -> Result<Runs, AllocError>
         ensures empty { IfOk result (λ r. HasPlayed [] [] r) }
+        ensures shapes { IfOk result (λ r. shapes r.caches.items
+            ≡ asked_for distinct options.now.policies.items options.now.sizes.items) }
         ensures setting { IfOk result (λ r. r.setting ≡ options.now.setting) }
     {
         let setting = options.setting;
@@ -63,6 +66,7 @@ impl Runs {
         ensures served { OnOk result ((before asked : List Request)
             → HasPlayed before asked self.old
             → HasPlayed before (asked ++ requests.now) self.new) }
+        ensures shapes { OnOk result (shapes self.new.caches.items ≡ shapes self.old.caches.items) }
         ensures setting { self.new.setting ≡ self.old.setting }
         ensures kind { IfErr result (λ e. (e ≡ OutOfMemory) ⊎ (e ≡ NumbersExhausted)) }
     {
@@ -75,6 +79,7 @@ impl Runs {
         ensures served { (before asked : List Request)
             → HasPlayed before asked self.old
             → HasPlayed (before ++ asked) [] self.new }
+        ensures shapes { shapes self.new.caches.items ≡ shapes self.old.caches.items }
         ensures setting { self.new.setting ≡ self.old.setting }
     {
         for cache in self.caches.iter_mut() {
@@ -82,12 +87,14 @@ impl Runs {
         }
     }
 
-    /// The results of each cache over the sample of a part of a trace, by policy and size in the order in which
+    /// The results of each cache over the sample of a part of a trace: one row for each policy and size, in the order in which
     /// they were given.
     pub fn rows(&self, span: Span) -> Result<Vec<Row>, AllocError>
         ensures rows { IfOk result (λ rows. (before asked : List Request)
             → HasPlayed before asked self.now
             → All (IsRow self.now.setting span before asked) rows.items) }
+        ensures shapes { IfOk result (λ rows. shapes_told rows.items
+            ≡ shapes self.now.caches.items) }
     {
         let mut rows = Vec::new(self.alloc);
         for cache in self.caches.as_slice() {
@@ -108,6 +115,8 @@ fn add(
 ) -> Result<(), AllocError>
     ensures ok { OnOk result (All (StandsIn setting [] []) caches.old.items
         → All (StandsIn setting [] []) caches.new.items) }
+    ensures shapes { OnOk result (shapes caches.new.items
+        ≡ shapes caches.old.items ++ of_sizes distinct sizes.now policy) }
 {
     for size in sizes {
         caches.push(Cache::new(alloc, setting, policy, size.in_bytes(distinct))?)?;

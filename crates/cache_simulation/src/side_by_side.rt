@@ -2,6 +2,7 @@
 ghost use Rattle.std.specs.Prelude.{◌≡◌, ◌<◌, List, OnOk, IfErr, ◌⊎◌};
 ghost use Rattle.pcache_base.specs.declared.error.ErrorType.TheVariants.{OutOfMemory, NumbersExhausted};
 ghost use Rattle.cache_simulation.specs.declared.run.Request.{Request};
+ghost use Rattle.cache_simulation.specs.Asked.{shapes};
 ghost use Rattle.cache_simulation.specs.Caches.{MakesEach};
 ghost use denote.Param.Send.{IsSync};
 
@@ -20,6 +21,7 @@ pub(crate) fn play_each<R: Threads + Sync>(
     caches: &mut [Cache],
 ) -> Result<()>
     ensures served { OnOk result (MakesEach requests.now caches.old caches.new) }
+    ensures shapes { OnOk result (shapes caches.new ≡ shapes caches.old) }
     ensures kind { IfErr result (λ e. (e ≡ OutOfMemory) ⊎ (e ≡ NumbersExhausted)) }
 {
     if threads < 2 || caches.len() < 2 {
@@ -50,16 +52,20 @@ fn play_both<R: Threads + Sync>(
     requires { (0 < here) × (0 < there) }
     ensures some { OnOk result (MakesEach requests.now some.old some.new) }
     ensures others { OnOk result (MakesEach requests.now others.old others.new) }
+    ensures some_shapes { OnOk result (shapes some.new ≡ shapes some.old) }
+    ensures other_shapes { OnOk result (shapes others.new ≡ shapes others.old) }
     ensures kind { IfErr result (λ e. (e ≡ OutOfMemory) ⊎ (e ≡ NumbersExhausted)) }
 {
     let mut first = || -> Result<()>
         requires { IsSync R.row }
         ensures made { OnOk result (MakesEach requests.entry.now some.entry.now some.exit.now) }
+        ensures shapes { OnOk result (shapes some.exit.now ≡ shapes some.entry.now) }
         ensures kind { IfErr result (λ e. (e ≡ OutOfMemory) ⊎ (e ≡ NumbersExhausted)) }
     { play_each(rt, here, requests, some) };
     let mut second = || -> Result<()>
         requires { IsSync R.row }
         ensures made { OnOk result (MakesEach requests.entry.now others.entry.now others.exit.now) }
+        ensures shapes { OnOk result (shapes others.exit.now ≡ shapes others.entry.now) }
         ensures kind { IfErr result (λ e. (e ≡ OutOfMemory) ⊎ (e ≡ NumbersExhausted)) }
     { play_each(rt, there, requests, others) };
     let (done, too) = join_mut(rt, &mut first, &mut second);
@@ -71,6 +77,7 @@ fn play_both<R: Threads + Sync>(
 // Makes these requests to one cache after the other.
 fn play_in_turn(requests: &[Request], caches: &mut [Cache]) -> Result<()>
     ensures served { OnOk result (MakesEach requests.now caches.old caches.new) }
+    ensures shapes { OnOk result (shapes caches.new ≡ shapes caches.old) }
     ensures kind { IfErr result (λ e. (e ≡ OutOfMemory) ⊎ (e ≡ NumbersExhausted)) }
 {
     for cache in caches.iter_mut() {

@@ -1,4 +1,5 @@
 use Rattle.std.specs.List.{All}
+use Rattle.cache_simulation.specs.Asked.{shapes}
 use Rattle.cache_simulation.proofs.Words.{◌≡◌, List, [], ◌++◌, length, AllWithin, Request, StandsIn}
 use Rattle.cache_simulation.proofs.runs.Runs.mark.Given as goal
 
@@ -7,6 +8,7 @@ abbrev pub invariant-loop-cache : goal.invariant-loop-cache
 invariant-loop-cache l =
     record {
       long : length l.cache-items ≡ length l.fn.self.caches.items;
+      same : shapes l.cache-items ≡ shapes l.fn.self.caches.items;
       each : (before asked : List Request) → All (StandsIn l.fn.self.setting before asked) l.fn.self.caches.items
           → AllWithin (StandsIn l.fn.self.setting (before ++ asked) []) l.cache-items 0 l.cache-index × AllWithin (StandsIn l.fn.self.setting before asked) l.cache-items l.cache-index (length l.fn.self.caches.items);
     }
