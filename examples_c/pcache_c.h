@@ -431,8 +431,8 @@ uint32_t pcache_request_renew(pcache_handle *cache, uint64_t request, pcache_han
  * the request holds is released as the reason says. */
 uint32_t pcache_request_serve_on(pcache_handle *cache, uint64_t request, pcache_handle *head, uint32_t reason);
 /* The request's fetch begins now, which a look-up notes too: a response whose fetch began before a purge of its key, or of its URL (the
- * key without a variance), is not stored, and its write finishes as PCACHE_REMOVED. Who fetches without a look-up, or once more, calls
- * this first: a fetch whose begin was not noted counts as one from before all purges. */
+ * key without a variance), and whose write begins after it, is not stored, and that write finishes as PCACHE_REMOVED. Who fetches
+ * without a look-up, or once more, calls this first: a fetch whose begin was not noted counts as one from before all purges. */
 uint32_t pcache_request_begin_fetch(pcache_handle *cache, uint64_t request);
 /* A stale body is served while another request renews it. PCACHE_WRONG_CALL in any phase but PCACHE_STALE. */
 uint32_t pcache_request_serve_updating(pcache_handle *cache, uint64_t request);

@@ -1,6 +1,6 @@
 -- When a response was fetched, and which purges came after that (own). A cache counts its purges, and a request notes, as its fetch
--- begins, how many there were. A response whose fetch began before a purge of its key, or of its URL (the key without its variance), is
--- not stored, and of a URL's variants none is found that was written before the URL was purged. A cache keeps of its purges the last one
+-- begins, how many there were. A response whose fetch began before a purge of its key, or of its URL (the key without its variance), and
+-- whose write begins after it, is not stored, and of a URL's variants none is found whose write began before the URL was purged. A cache keeps of its purges the last one
 -- of each of 1,024 places, and a slot's place is the slot modulo their number. So a purge counts for all slots of its place: more is
 -- refused for that, and never less.
 use Rattle.std.specs.Prelude.{ℕ, ◌≡◌, ◌≤◌, length, ◌+◌, ◌-◌, ◌^◌, ◌%◌, ◌==◌, ◌&&◌, ◌||◌, nat_lt, min, Bool, false, cond, List, replicate, slice_index, slice_set, Option, None, Some, is_some}

@@ -36,8 +36,8 @@ pub struct Totals {
 /// Its store prefers the newest response (RFC 9111, 4): a look-up finds what was fetched last, in flight or complete, and the end
 /// of a write fails (`Superseded`) if a newer body of its key stands.
 ///
-/// A response whose fetch began before a purge of its key, or of its URL, is not stored, and of a URL's variants none is found that was
-/// written before the URL was purged (own: RFC 9111 has no purge). A look-up notes that the fetch begins; see [`Cache::begin_fetch`].
+/// A response whose fetch began before a purge of its key, or of its URL, and whose write begins after it, is not stored, and of a URL's
+/// variants none is found whose write began before the URL was purged (own: RFC 9111 has no purge). A look-up notes that the fetch begins; see [`Cache::begin_fetch`].
 ///
 /// `K` is a mark, a type of the caller's that nothing else uses: a request of one cache cannot be used with the parts
 /// of another.
